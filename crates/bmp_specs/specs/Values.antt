@@ -1,0 +1,118 @@
+-- The values that the wire carries, without their place in memory.
+use Rattle.std.specs.Prelude.{ℕ, Bool, List, Option}
+use Rattle.bmp_specs.specs.declared.wire.Family.{Family}
+use Rattle.bmp_specs.specs.declared.wire.SegmentKind.{SegmentKind}
+use Rattle.bmp_specs.specs.declared.peers.View.{View}
+use Rattle.bmp_specs.specs.declared.peers.Detail.{Detail}
+use Rattle.bmp_specs.specs.declared.causes.Cause.{Cause}
+
+-- an address: 16 bytes, of which IPv4 uses the first four and the rest are zero
+pub record AddressValue : Type 0 where
+  pub family : Family
+  pub octets : List ℕ
+
+-- an address and how many of its bits count
+pub record PrefixValue : Type 0 where
+  pub address : AddressValue
+  pub bits : ℕ
+
+-- a prefix and its path identifier, where it has one (RFC 7911, section 3)
+pub record NlriValue : Type 0 where
+  pub prefix : PrefixValue
+  pub id : Option ℕ
+
+-- an AS path segment (RFC 4271, section 4.3)
+pub record SegmentValue : Type 0 where
+  pub kind : SegmentKind
+  pub numbers : List ℕ
+
+-- AGGREGATOR (RFC 4271, section 5.1.7): the AS, and four bytes of its speaker
+pub record AggregatorValue : Type 0 where
+  pub asn : ℕ
+  pub identifier : List ℕ
+
+-- an attribute that is kept as it came
+pub record OtherValue : Type 0 where
+  pub flags : ℕ
+  pub code : ℕ
+  pub value : List ℕ
+
+-- the path attributes of a route
+pub record AttrsValue : Type 0 where
+  pub origin : Option ℕ
+  pub path : Option (List SegmentValue)
+  pub hop : Option (List ℕ)
+  pub med : Option ℕ
+  pub pref : Option ℕ
+  pub atomic : Bool
+  pub aggregator : Option AggregatorValue
+  pub communities : List ℕ
+  pub others : List OtherValue
+
+-- one entry of a capability: a family, and what the OPEN says of it
+pub record CapValue : Type 0 where
+  pub afi : ℕ
+  pub safi : ℕ
+  pub value : ℕ
+
+-- an OPEN message (RFC 4271, section 4.2)
+pub record OpenValue : Type 0 where
+  pub version : ℕ
+  pub my_as : ℕ
+  pub hold : ℕ
+  pub identifier : List ℕ
+  pub four : Option ℕ
+  pub families : List CapValue
+  pub paths : List CapValue
+  pub extended : Bool
+
+-- a peer: its type, its distinguisher and its address (RFC 7854, section 4.2)
+pub record KeyValue : Type 0 where
+  pub kind : ℕ
+  pub distinguisher : ℕ
+  pub address : AddressValue
+
+-- what a Peer Up Notification tells of a peer (RFC 7854, section 4.10; RFC 9069, section 4.4)
+pub record PeerInfoValue : Type 0 where
+  pub asn : ℕ
+  pub identifier : List ℕ
+  pub local : AddressValue
+  pub local_port : ℕ
+  pub remote_port : ℕ
+  pub sent : OpenValue
+  pub received : OpenValue
+  pub filtered : Bool
+  pub table : Option (List ℕ)
+
+-- what a Peer Down Notification tells (RFC 7854, section 4.9)
+pub record DownInfoValue : Type 0 where
+  pub reason : ℕ
+  pub detail : Detail
+
+-- a statistic (RFC 7854, section 4.8); afi and safi are 0 where it has no family
+pub record StatValue : Type 0 where
+  pub code : ℕ
+  pub afi : ℕ
+  pub safi : ℕ
+  pub value : ℕ
+
+-- what a message does to the tables
+pub data EffectValue : Type 0 where
+  up : KeyValue → PeerInfoValue → EffectValue
+  down : KeyValue → DownInfoValue → EffectValue
+  announce : KeyValue → View → NlriValue → AttrsValue → EffectValue
+  withdraw : KeyValue → View → NlriValue → EffectValue
+  mark : KeyValue → View → Family → EffectValue
+  statistic : KeyValue → StatValue → EffectValue
+  named : List ℕ → EffectValue
+  described : List ℕ → EffectValue
+  orphan : EffectValue
+  mirrored : EffectValue
+  passed : EffectValue
+  unread : ℕ → EffectValue
+
+-- an entry of a lane: a connection opened, a message of this type and length with these effects, or a connection closed
+pub data EntryValue : Type 0 where
+  opened : EntryValue
+  message : ℕ → ℕ → List EffectValue → EntryValue
+  closed : Cause → EntryValue

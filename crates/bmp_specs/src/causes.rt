@@ -1,0 +1,18 @@
+/// Why a stream is broken: another version than 3, a length out of range, or a body outside the grammar.
+#[derive(Clone, Copy, Debug, PartialEq, Eq)]
+pub enum Why {
+    Version,
+    Length,
+    Body,
+}
+
+/// How a connection ended. An offset counts bytes from the connection's start.
+#[derive(Clone, Copy, Debug, PartialEq, Eq)]
+pub enum Cause {
+    Ended,
+    Terminated,
+    CutShort { offset: u64 },
+    Broken { offset: u64, why: Why },
+    ReadFault { offset: u64 },
+    Full,
+}

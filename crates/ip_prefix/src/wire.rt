@@ -1,0 +1,27 @@
+ghost use Rattle.std.specs.Prelude.{◌≡◌, ◌≤◌, ◌<◌, ℕ, IfSome, IfNone, take, length};
+ghost use Rattle.bmp_specs.specs.Prefix.{IsPrefix, StandsAtFront};
+ghost use Rattle.bmp_specs.specs.Values.{PrefixValue};
+
+use crate::address::width;
+use crate::{Addr, Prefix};
+use bmp_specs::Family;
+
+impl Prefix {
+    /// Reads one prefix from the front, and how many bytes it takes.
+    pub fn from_wire(family: Family, input: &[u8]) -> Option<(Prefix, usize)>
+        ensures found { IfSome result (λ found. StandsAtFront family input.now found.0 found.1) }
+        ensures some { IfSome result (λ found. 0 < found.1) }
+        ensures none { IfNone result ((size : ℕ) (p : PrefixValue) → StandsAtFront family input.now p size → ⊥) }
+    {
+        let (first, rest) = input.split_first()?;
+        let bits = *first;
+        let count = (bits as usize + 7) / 8;
+        if width(family) < bits || rest.len() < count {
+            return None;
+        }
+        let mut octets = [0u8; 16];
+        octets[..count].copy_from_slice(&rest[..count]);
+        let prefix = Prefix::new(Addr::new(family, octets), bits)?;
+        Some((prefix, count + 1))
+    }
+}
