@@ -4,3 +4,7 @@ pub mod Prefix
 pub mod Frame
 pub mod Walk
 pub mod Sequence
+pub mod Address
+pub mod NumberText
+pub mod AddressText
+pub mod PrefixText
