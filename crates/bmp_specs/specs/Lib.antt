@@ -8,3 +8,4 @@ pub mod Address
 pub mod NumberText
 pub mod AddressText
 pub mod PrefixText
+pub mod Orders
