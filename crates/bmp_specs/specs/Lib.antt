@@ -9,3 +9,5 @@ pub mod NumberText
 pub mod AddressText
 pub mod PrefixText
 pub mod Orders
+pub mod Number
+pub mod PeerHeader
