@@ -11,3 +11,6 @@ pub mod PrefixText
 pub mod Orders
 pub mod Number
 pub mod PeerHeader
+pub mod AsPath
+pub mod MergedPath
+pub mod Registries

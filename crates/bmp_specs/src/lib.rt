@@ -7,8 +7,10 @@
 
 mod causes;
 mod peers;
+mod registry;
 mod wire;
 
 pub use causes::{Cause, Why};
 pub use peers::{Detail, View};
+pub use registry::Shape;
 pub use wire::{Family, SegmentKind, Width};
