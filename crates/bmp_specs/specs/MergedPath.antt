@@ -1,6 +1,6 @@
 -- The AS path of a route that a speaker of two-byte AS numbers passed on, with the four-byte numbers of AS4_PATH put back
 -- (RFC 6793, section 4.2.3), and the AS that a path begins from.
-use Rattle.std.specs.Prelude.{◌≡◌, ℕ, ◌+◌, ◌-◌, Bool, true, false, not, ◌==◌, nat_lt, nat_le, if◌then◌else◌, List, [], ◌∷◌, ◌++◌, length, take, filter, sum_by, Option, Some, None, slice_get, option_and_then}
+use Rattle.std.specs.Prelude.{ℕ, ◌-◌, Bool, true, false, not, ◌==◌, nat_lt, nat_le, if◌then◌else◌, List, [], ◌∷◌, ◌++◌, length, take, filter, sum_by, Option, None, slice_get, option_and_then}
 use Rattle.bmp_specs.specs.declared.wire.SegmentKind.{SegmentKind}
 use Rattle.bmp_specs.specs.declared.wire.SegmentKind.TheVariants.{Set, Sequence, ConfedSequence, ConfedSet}
 use Rattle.bmp_specs.specs.Values.{SegmentValue}
