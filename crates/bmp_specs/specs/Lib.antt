@@ -14,3 +14,6 @@ pub mod PeerHeader
 pub mod AsPath
 pub mod MergedPath
 pub mod Registries
+pub mod Lines
+pub mod Check
+pub mod Reply
