@@ -1,0 +1,62 @@
+-- Histories: lists of entries, each of a lane, at whose end the mark may stand.
+use Rattle.std.specs.Prelude.{◌≡◌, ℕ, ◌+◌, eqb, cond, List, [], ◌∷◌, ◌++◌}
+use Rattle.logbook.specs.Pages.{Book}
+use Rattle.cut_publisher.specs.declared.history.Event.{Event}
+use Rattle.cut_publisher.specs.declared.history.Event.TheVariants.{Of, Finish}
+use Rattle.cut_publisher.specs.declared.history.Step.{Step}
+use Rattle.cut_publisher.specs.declared.history.Step.TheVariants.{Batch, End}
+
+-- ys begins with xs
+pub record Begins {A : Type 0} (xs ys : List A) : Type 0 where
+  pub rest : List A
+  pub is : xs ++ rest ≡ ys
+
+module _ {E : Type 0} where
+  -- the entries of a lane
+  abbrev pub part : ℕ → List (Event E) → List E
+  part lane [] = []
+  part lane (Of k e ∷ h) = cond (eqb k lane) (e ∷ part lane h) (part lane h)
+  part lane (Finish ∷ h) = part lane h
+
+  -- the number of entries
+  abbrev pub revision : List (Event E) → ℕ
+  revision [] = 0
+  revision (Of k e ∷ h) = 1 + revision h
+  revision (Finish ∷ h) = revision h
+
+  -- these entries, as the lane's
+  abbrev pub batch : ℕ → List E → List (Event E)
+  batch lane [] = []
+  batch lane (e ∷ es) = Of lane e ∷ batch lane es
+
+  -- the history that a log tells
+  abbrev pub told : List (Step E) → List (Event E)
+  told [] = []
+  told (Batch lane es ∷ log) = batch lane es ++ told log
+  told (End ∷ log) = Finish ∷ told log
+
+-- which station it is, and how many lanes it has
+pub record Site : Type 0 where
+  pub book : Book
+  pub lanes : ℕ
+
+abbrev pub site : Book → ℕ → Site
+site b n = record { book = b; lanes = n }
+
+-- what contracts see of an asker's pass
+pub record Saw (E : Type 0) : Type 0 where
+  pub station : Site
+  pub seen : List (Event E)
+
+abbrev pub saw : {E : Type 0} → Site → List (Step E) → Saw E
+saw b log = record { station = b; seen = told log }
+
+-- what contracts see of a lane's pass
+pub record Fed (E : Type 0) : Type 0 where
+  pub station : Site
+  pub lane : ℕ
+  pub entries : List E
+  pub seen : List (Event E)
+
+abbrev pub fed : {E : Type 0} → Site → ℕ → List (Step E) → Fed E
+fed b lane log = record { station = b; lane = lane; entries = part lane (told log); seen = told log }
