@@ -1,9 +1,16 @@
 pub mod Values
 pub mod Parts
+pub mod Sequence
+pub mod AddressFamily
 pub mod Prefix
+pub mod Nlri
+pub mod BgpMessage
+pub mod Coded
+pub mod Open
+pub mod PathIds
+pub mod Tlv
 pub mod Frame
 pub mod Walk
-pub mod Sequence
 pub mod Address
 pub mod NumberText
 pub mod AddressText

@@ -55,6 +55,21 @@ pub record CapValue : Type 0 where
   pub safi : ℕ
   pub value : ℕ
 
+-- a code and its value: an optional parameter of an OPEN message, or a capability
+pub record CodedValue : Type 0 where
+  pub code : ℕ
+  pub value : List ℕ
+
+-- a BGP message: its type and its body (RFC 4271, section 4.1)
+pub record BgpMessageValue : Type 0 where
+  pub kind : ℕ
+  pub body : List ℕ
+
+-- an information TLV (RFC 7854, section 4.4)
+pub record TlvValue : Type 0 where
+  pub kind : ℕ
+  pub value : List ℕ
+
 -- an OPEN message (RFC 4271, section 4.2)
 pub record OpenValue : Type 0 where
   pub version : ℕ

@@ -13,4 +13,4 @@ mod wire;
 pub use causes::{Cause, Why};
 pub use peers::{Detail, View};
 pub use registry::Shape;
-pub use wire::{Family, SegmentKind, Width};
+pub use wire::{Family, IdUse, SegmentKind, Side, Width};

@@ -20,3 +20,19 @@ pub enum SegmentKind {
     ConfedSequence,
     ConfedSet,
 }
+
+/// Which way a route went past the peer that is monitored, or that it is the router's own: a route of
+/// the Adj-RIB-In, of the Adj-RIB-Out (RFC 8671), or of the Loc-RIB (RFC 9069).
+#[derive(Clone, Copy, Debug, PartialEq, Eq)]
+pub enum Side {
+    Inward,
+    Outward,
+    Local,
+}
+
+/// Which families use path identifiers (RFC 7911, section 3).
+#[derive(Clone, Copy, Debug, PartialEq, Eq)]
+pub struct IdUse {
+    pub v4: bool,
+    pub v6: bool,
+}

@@ -1,0 +1,30 @@
+-- Information TLVs: two bytes of type, two of length, and the value (RFC 7854, section 4.4).
+use Rattle.std.specs.Prelude.{◌≡◌, ℕ, ◌+◌, ◌-◌, ◌≤◌, ◌==◌, List, length, drop, map, Option, slice_get, filter}
+use Rattle.byteorder.specs.Endian.{big_number}
+use Rattle.bmp_specs.specs.Values.{TlvValue}
+use Rattle.bmp_specs.specs.Parts.{AreParts}
+
+-- "Information Type", "Information Length", "Information"
+pub record IsTlv (bytes : List ℕ) (t : TlvValue) : Type 0 where
+  pub header : 4 ≤ length bytes
+  pub kind_is : big_number 2 bytes ≡ t.kind
+  pub length_is : big_number 2 (drop 2 bytes) + 4 ≡ length bytes
+  pub value_is : drop 4 bytes ≡ t.value
+
+-- the bytes are these TLVs, one after another
+abbrev pub AreTlvs : List ℕ → List TlvValue → Type 0
+AreTlvs bytes ts = AreParts IsTlv bytes ts
+
+-- a TLV of so many bytes stands at the front
+pub record BeginsWithTlv (bytes : List ℕ) (size : ℕ) : Type 0 where
+  pub within : size ≤ length bytes
+  pub header : 4 ≤ size
+  pub length_is : big_number 2 (drop 2 bytes) + 4 ≡ size
+
+-- the values of one type, in order
+abbrev pub values_of : ℕ → List TlvValue → List (List ℕ)
+values_of kind ts = map (λ t. t.value) (filter (λ t. t.kind == kind) ts)
+
+-- the last of them, where there is one
+abbrev pub last_of : ℕ → List TlvValue → Option (List ℕ)
+last_of kind ts = slice_get (values_of kind ts) (length (values_of kind ts) - 1)
