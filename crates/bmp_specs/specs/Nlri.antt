@@ -1,6 +1,6 @@
 -- Network Layer Reachability Information: prefixes, without path identifiers (RFC 4271, section 4.3) or
 -- with them (RFC 7911, section 3).
-use Rattle.std.specs.Prelude.{◌≡◌, ℕ, ◌≤◌, Bool, true, false, List, length, drop, Option, Some, None}
+use Rattle.std.specs.Prelude.{◌≡◌, ℕ, ◌≤◌, Bool, true, false, List, length, drop, Some, None}
 use Rattle.byteorder.specs.Endian.{big_number}
 use Rattle.bmp_specs.specs.declared.wire.Family.{Family}
 use Rattle.bmp_specs.specs.Values.{NlriValue}

@@ -1,6 +1,6 @@
 -- Where path identifiers are used (RFC 7911, section 4). That a Loc-RIB uses them where the sent OPEN has
 -- an entry of the family is a choice of this project: neither RFC 9069 nor RFC 7911 says it.
-use Rattle.std.specs.Prelude.{ℕ, Bool, ◌==◌, ◌&&◌, ◌||◌}
+use Rattle.std.specs.Prelude.{Bool, ◌==◌, ◌&&◌, ◌||◌}
 use Rattle.std.specs.List.{list_any}
 use Rattle.bmp_specs.specs.declared.wire.Family.{Family}
 use Rattle.bmp_specs.specs.declared.wire.Side.{Side}
