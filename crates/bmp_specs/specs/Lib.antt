@@ -24,3 +24,4 @@ pub mod Registries
 pub mod Lines
 pub mod Check
 pub mod Reply
+pub mod PeerText
