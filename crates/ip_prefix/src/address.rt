@@ -1,10 +1,17 @@
-ghost use Rattle.std.specs.Prelude.{◌≡◌, ◌↔◌, ◌≤◌, ◌<◌, ◌-◌, ◌*◌, ◌%◌, ◌^◌, IsSome, IfSome, length};
-ghost use Rattle.bmp_specs.specs.Prefix.{width_of, high_bits, first_bits};
+ghost use Rattle.std.specs.Prelude.{◌≡◌, ◌↔◌, ◌≤◌, ◌<◌, ◌-◌, ◌*◌, ◌%◌, ◌^◌, ◌++◌, IsSome, IfSome, length, replicate};
+ghost use Rattle.std.proofs.Common.{rules};
+ghost use Rattle.std.specs.Cmp.{partial_order_from_own_ties};
+ghost use Rattle.std.specs.Cmp.Rules.{comparing};
+ghost use Rattle.std.specs.Ordering.{as_partial_cmp};
+ghost use Rattle.bmp_specs.specs.Address.{IsAddress, FitsFamily};
+ghost use Rattle.bmp_specs.specs.Orders.{address_cmp};
+ghost use Rattle.bmp_specs.specs.Prefix.{width_of, padded};
 
 use bmp_specs::Family;
+use std::cmp::Ordering;
 use std::marker::Model;
 
-/// An address: a family and 16 bytes, of which IPv4 uses the first four.
+/// An address: a family and 16 bytes, of which IPv4 uses the first four and the rest are zero.
 #[derive(Clone, Copy, Debug, PartialEq, Eq)]
 pub struct Addr {
     family: Family,
@@ -13,29 +20,60 @@ pub struct Addr {
 
 impl Model for Addr {
     ghost use Rattle.bmp_specs.specs.Values.{AddressValue};
+    ghost use Rattle.bmp_specs.specs.Address.{IsAddress};
 
     ghost Value = { AddressValue };
 
     ghost view = { λ a. record { family = a.family; octets = a.octets } };
 
+    ghost invariant = { λ a. IsAddress (record { family = a.family; octets = a.octets }) };
+
     ghost inverse = { λ v. record { family = v.family; octets = v.octets } };
 }
 
 impl Addr {
-    pub fn new(family: Family, octets: [u8; 16]) -> Addr
+    /// The IPv4 address of these four bytes.
+    pub fn v4(bytes: [u8; 4]) -> Addr
+        ensures family { result.family ≡ Family.V4 }
+        ensures octets { result.octets ≡ padded bytes }
+    {
+        let [a, b, c, d] = bytes;
+        Addr {
+            family: Family::V4,
+            octets: [a, b, c, d, 0, 0, 0, 0, 0, 0, 0, 0, 0, 0, 0, 0],
+        }
+    }
+
+    /// The IPv6 address of these sixteen bytes.
+    pub fn v6(bytes: [u8; 16]) -> Addr
+        ensures family { result.family ≡ Family.V6 }
+        ensures octets { result.octets ≡ bytes }
+    {
+        Addr {
+            family: Family::V6,
+            octets: bytes,
+        }
+    }
+
+    // The address of these bytes, which fit the family.
+    pub(crate) fn with_octets(family: Family, octets: [u8; 16]) -> Addr
+        requires { FitsFamily family octets }
         ensures { result ≡ record { family = family; octets = octets } }
     {
         Addr { family, octets }
     }
 
+    /// The family.
     pub fn family(&self) -> Family
         ensures { result ≡ self.now.family }
     {
         self.family
     }
 
+    /// The sixteen bytes; of IPv4 the first four are used.
     pub fn octets(&self) -> [u8; 16]
-        ensures { result ≡ self.now.octets }
+        ensures same { result ≡ self.now.octets }
+        ensures valid { IsAddress self.now }
     {
         self.octets
     }
@@ -48,62 +86,5 @@ pub fn width(family: Family) -> u8
     match family {
         Family::V4 => 32,
         Family::V6 => 128,
-    }
-}
-
-// The first bits of a byte, the others zero.
-fn high(byte: u8, bits: u8) -> u8
-    ensures { result ≡ high_bits bits byte }
-{
-    if bits < 8 {
-        byte - (byte as u16 % (1u16 << (8 - bits))) as u8
-    } else {
-        byte
-    }
-}
-
-// Clears all bits past the first ones.
-fn clear(octets: &mut [u8; 16], bits: u8)
-    ensures { octets.new ≡ first_bits bits octets.old }
-{
-    let mut left = bits;
-    for octet in octets.iter_mut() {
-        *octet = high(*octet, left);
-        left = left.saturating_sub(8);
-    }
-}
-
-/// An address and how many of its bits count. All bits past that number are zero.
-#[derive(Clone, Copy, Debug, PartialEq, Eq)]
-pub struct Prefix {
-    addr: Addr,
-    bits: u8,
-}
-
-impl Model for Prefix {
-    ghost use Rattle.bmp_specs.specs.Values.{PrefixValue};
-
-    ghost Value = { PrefixValue };
-
-    ghost view = { λ p. record { address = p.addr; bits = p.bits } };
-
-    ghost inverse = { λ v. record { addr = v.address; bits = v.bits } };
-}
-
-impl Prefix {
-    /// Clears the trailing bits.
-    pub fn new(addr: Addr, bits: u8) -> Option<Prefix>
-        ensures some { IsSome result ↔ (bits ≤ width_of addr.family) }
-        ensures value { IfSome result (λ p. p ≡ record { address = record { family = addr.family; octets = first_bits bits addr.octets }; bits = bits }) }
-    {
-        if width(addr.family()) < bits {
-            return None;
-        }
-        let mut octets = addr.octets();
-        clear(&mut octets, bits);
-        Some(Prefix {
-            addr: Addr::new(addr.family(), octets),
-            bits,
-        })
     }
 }

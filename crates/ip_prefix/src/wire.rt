@@ -2,8 +2,8 @@ ghost use Rattle.std.specs.Prelude.{◌≡◌, ◌≤◌, ◌<◌, ℕ, IfSome, 
 ghost use Rattle.bmp_specs.specs.Prefix.{IsPrefix, StandsAtFront};
 ghost use Rattle.bmp_specs.specs.Values.{PrefixValue};
 
-use crate::address::width;
-use crate::{Addr, Prefix};
+use crate::address::{Addr, width};
+use crate::prefixes::Prefix;
 use bmp_specs::Family;
 
 impl Prefix {
@@ -21,7 +21,7 @@ impl Prefix {
         }
         let mut octets = [0u8; 16];
         octets[..count].copy_from_slice(&rest[..count]);
-        let prefix = Prefix::new(Addr::new(family, octets), bits)?;
+        let prefix = Prefix::new(Addr::with_octets(family, octets), bits)?;
         Some((prefix, count + 1))
     }
 }

@@ -1,0 +1,98 @@
+ghost use Rattle.std.specs.Prelude.{◌≡◌, ◌↔◌, ◌≤◌, ◌<◌, ◌-◌, ◌*◌, ◌%◌, ◌^◌, IsSome, IfSome, length};
+ghost use Rattle.bmp_specs.specs.Address.{IsAddressPrefix, prefix_at};
+ghost use Rattle.bmp_specs.specs.Prefix.{width_of, high_bits, first_bits};
+
+use crate::address::{Addr, width};
+use std::marker::Model;
+
+// The first bits of a byte, the others zero.
+fn high(byte: u8, bits: u8) -> u8
+    ensures { result ≡ high_bits bits byte }
+{
+    if bits < 8 {
+        byte - (byte as u16 % (1u16 << (8 - bits))) as u8
+    } else {
+        byte
+    }
+}
+
+// Clears all bits past the first ones.
+fn clear(octets: &mut [u8; 16], bits: u8)
+    ensures { octets.new ≡ first_bits bits octets.old }
+{
+    let mut left = bits;
+    for octet in octets.iter_mut() {
+        *octet = high(*octet, left);
+        left = left.saturating_sub(8);
+    }
+}
+
+/// A prefix: an address and how many of its bits count. All bits past that number are zero.
+#[derive(Clone, Copy, Debug, PartialEq, Eq)]
+pub struct Prefix {
+    addr: Addr,
+    bits: u8,
+}
+
+impl Model for Prefix {
+    ghost use Rattle.bmp_specs.specs.Values.{PrefixValue};
+    ghost use Rattle.bmp_specs.specs.Address.{IsAddressPrefix};
+
+    ghost Value = { PrefixValue };
+
+    ghost view = { λ p. record { address = p.addr; bits = p.bits } };
+
+    ghost invariant = { λ p. IsAddressPrefix (record { address = p.addr; bits = p.bits }) };
+
+    ghost inverse = { λ v. record { addr = v.address; bits = v.bits } };
+}
+
+impl Prefix {
+    /// The first `bits` bits of the address; the others are cleared. None where the family has fewer bits.
+    pub fn new(addr: Addr, bits: u8) -> Option<Prefix>
+        ensures some { IsSome result ↔ (bits ≤ width_of addr.family) }
+        ensures value { IfSome result (λ p. p ≡ prefix_at addr bits) }
+    {
+        if width(addr.family()) < bits {
+            return None;
+        }
+        let mut octets = addr.octets();
+        clear(&mut octets, bits);
+        Some(Prefix {
+            addr: Addr::with_octets(addr.family(), octets),
+            bits,
+        })
+    }
+
+    /// The address, with no bit set past the number of bits.
+    pub fn addr(&self) -> Addr
+        ensures { result ≡ self.now.address }
+    {
+        self.addr
+    }
+
+    /// The number of bits.
+    pub fn bits(&self) -> u8
+        ensures same { result ≡ self.now.bits }
+        ensures valid { IsAddressPrefix self.now }
+    {
+        self.bits
+    }
+}
+
+/// A prefix of a route, and its path identifier where it has one (RFC 7911, section 3).
+#[derive(Clone, Copy, Debug, PartialEq, Eq)]
+pub struct Nlri {
+    pub prefix: Prefix,
+    pub id: Option<u32>,
+}
+
+impl Model for Nlri {
+    ghost use Rattle.bmp_specs.specs.Values.{NlriValue};
+
+    ghost Value = { NlriValue };
+
+    ghost view = { λ n. record { prefix = n.prefix; id = n.id } };
+
+    ghost inverse = { λ v. record { prefix = v.prefix; id = v.id } };
+}
