@@ -79,6 +79,33 @@ impl Addr {
     }
 }
 
+impl Ord for Addr {
+    ghost cmp = { address_cmp };
+
+    ghost total = { Prim.search (comparing, rules) depth 9 };
+
+    ghost matches_partial_cmp = { Prim.search (comparing, rules) depth 9 };
+
+    ghost matches_eq = { Prim.search (comparing, rules) depth 9 };
+
+    // IPv4 comes before IPv6; then the bytes decide.
+    fn cmp(&self, other: &Addr) -> Ordering {
+        self.family
+            .cmp(&other.family)
+            .then(self.octets.cmp(&other.octets))
+    }
+}
+
+impl PartialOrd for Addr {
+    ghost partial_cmp = { as_partial_cmp address_cmp };
+
+    ghost laws = { partial_order_from_own_ties (Prim.search (comparing, rules) depth 9) (Prim.search (comparing, rules) depth 9) };
+
+    fn partial_cmp(&self, other: &Addr) -> Option<Ordering> {
+        Some(self.cmp(other))
+    }
+}
+
 /// How many bits an address of the family has.
 pub fn width(family: Family) -> u8
     ensures { result ≡ width_of family }

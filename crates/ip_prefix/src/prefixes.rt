@@ -1,8 +1,14 @@
 ghost use Rattle.std.specs.Prelude.{◌≡◌, ◌↔◌, ◌≤◌, ◌<◌, ◌-◌, ◌*◌, ◌%◌, ◌^◌, IsSome, IfSome, length};
+ghost use Rattle.std.proofs.Common.{rules};
+ghost use Rattle.std.specs.Cmp.{partial_order_from_own_ties};
+ghost use Rattle.std.specs.Cmp.Rules.{comparing};
+ghost use Rattle.std.specs.Ordering.{as_partial_cmp};
 ghost use Rattle.bmp_specs.specs.Address.{IsAddressPrefix, prefix_at};
+ghost use Rattle.bmp_specs.specs.Orders.{prefix_cmp, nlri_cmp};
 ghost use Rattle.bmp_specs.specs.Prefix.{width_of, high_bits, first_bits};
 
 use crate::address::{Addr, width};
+use std::cmp::Ordering;
 use std::marker::Model;
 
 // The first bits of a byte, the others zero.
@@ -80,6 +86,31 @@ impl Prefix {
     }
 }
 
+impl Ord for Prefix {
+    ghost cmp = { prefix_cmp };
+
+    ghost total = { Prim.search (comparing, rules) depth 9 };
+
+    ghost matches_partial_cmp = { Prim.search (comparing, rules) depth 9 };
+
+    ghost matches_eq = { Prim.search (comparing, rules) depth 9 };
+
+    // The address decides; then a shorter prefix comes before a longer one.
+    fn cmp(&self, other: &Prefix) -> Ordering {
+        self.addr.cmp(&other.addr).then(self.bits.cmp(&other.bits))
+    }
+}
+
+impl PartialOrd for Prefix {
+    ghost partial_cmp = { as_partial_cmp prefix_cmp };
+
+    ghost laws = { partial_order_from_own_ties (Prim.search (comparing, rules) depth 9) (Prim.search (comparing, rules) depth 9) };
+
+    fn partial_cmp(&self, other: &Prefix) -> Option<Ordering> {
+        Some(self.cmp(other))
+    }
+}
+
 /// A prefix of a route, and its path identifier where it has one (RFC 7911, section 3).
 #[derive(Clone, Copy, Debug, PartialEq, Eq)]
 pub struct Nlri {
@@ -95,4 +126,29 @@ impl Model for Nlri {
     ghost view = { λ n. record { prefix = n.prefix; id = n.id } };
 
     ghost inverse = { λ v. record { prefix = v.prefix; id = v.id } };
+}
+
+impl Ord for Nlri {
+    ghost cmp = { nlri_cmp };
+
+    ghost total = { Prim.search (comparing, rules) depth 9 };
+
+    ghost matches_partial_cmp = { Prim.search (comparing, rules) depth 9 };
+
+    ghost matches_eq = { Prim.search (comparing, rules) depth 9 };
+
+    // The prefix decides; then an identifier that isn't there comes before every one that is.
+    fn cmp(&self, other: &Nlri) -> Ordering {
+        self.prefix.cmp(&other.prefix).then(self.id.cmp(&other.id))
+    }
+}
+
+impl PartialOrd for Nlri {
+    ghost partial_cmp = { as_partial_cmp nlri_cmp };
+
+    ghost laws = { partial_order_from_own_ties (Prim.search (comparing, rules) depth 9) (Prim.search (comparing, rules) depth 9) };
+
+    fn partial_cmp(&self, other: &Nlri) -> Option<Ordering> {
+        Some(self.cmp(other))
+    }
 }
