@@ -25,3 +25,11 @@ pub mod Lines
 pub mod Check
 pub mod Reply
 pub mod PeerText
+pub mod Latest
+pub mod Session
+pub mod Counts
+pub mod PeerUp
+pub mod Rows
+pub mod Complete
+pub mod TableRows
+pub mod TableReply
