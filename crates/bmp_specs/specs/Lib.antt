@@ -33,3 +33,4 @@ pub mod Rows
 pub mod Complete
 pub mod TableRows
 pub mod TableReply
+pub mod Life

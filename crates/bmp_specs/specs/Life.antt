@@ -1,0 +1,80 @@
+-- The life of a connection: its opening, the messages of the bytes that were taken of it, and its closing.
+use Rattle.std.specs.Prelude.{◌≡◌, ℕ, ◌-◌, ◌^◌, ◌<◌, ◌≤◌, List, [], ◌∷◌, ◌++◌, length, take}
+use Rattle.bmp_specs.specs.declared.causes.Cause.{Cause}
+use Rattle.bmp_specs.specs.declared.causes.Cause.TheVariants.{Ended, Terminated, CutShort, Broken, ReadFault, Full}
+use Rattle.bmp_specs.specs.Values.{EntryValue, opened, closed}
+use Rattle.bmp_specs.specs.Walk.{Verdict, whole, more, terminated, broken, Walks}
+
+-- how the last read of a connection went: it gave bytes, or none was made; it gave no bytes; it failed
+pub data LastRead : Type 0 where
+  gave : LastRead
+  gave_none : LastRead
+  failed : LastRead
+
+-- the most bytes that are taken of one connection
+abbrev pub most_taken : ℕ
+most_taken = 2 ^ 46
+
+-- the most bytes that one read gives
+abbrev pub most_read : ℕ
+most_read = 65536
+
+-- the cause fits a connection: so many bytes were taken of it, its last read went so, and its walk has this verdict at
+-- this offset
+abbrev pub Fits : ℕ → LastRead → Verdict → ℕ → Cause → Type 0
+Fits taken last verdict offset Terminated = verdict ≡ terminated
+Fits taken last verdict offset (Broken at why) = (verdict ≡ broken why) × (at ≡ offset)
+Fits taken last verdict offset Full = taken ≡ most_taken
+Fits taken last verdict offset Ended = (last ≡ gave_none) × (verdict ≡ whole)
+Fits taken last verdict offset (CutShort at) = (last ≡ gave_none) × (verdict ≡ more) × (at ≡ offset)
+Fits taken last verdict offset (ReadFault at) = (last ≡ failed) × (at ≡ taken)
+
+-- which cause is given where several fit: the one with the least rank
+abbrev pub cause_rank : Cause → ℕ
+cause_rank Terminated = 0
+cause_rank (Broken at why) = 1
+cause_rank Full = 2
+cause_rank Ended = 3
+cause_rank (CutShort at) = 4
+cause_rank (ReadFault at) = 5
+
+-- the first cause that fits
+pub record IsCause (taken : ℕ) (last : LastRead) (verdict : Verdict) (offset : ℕ) (cause : Cause) : Type 0 where
+  pub fits : Fits taken last verdict offset cause
+  pub first : (other : Cause) → cause_rank other < cause_rank cause → Fits taken last verdict offset other → ⊥
+
+-- The entries are the life of a connection of which these bytes were taken. Is says what a body means under a state,
+-- and s is the state as the connection begins.
+pub record IsLife {S : Type 0} (Is : S → ℕ → List ℕ → EntryValue → S → Type 0) (s : S) (bytes : List ℕ) (last : LastRead) (life : List EntryValue) : Type 0 where
+  pub messages : List EntryValue
+  pub offset : ℕ
+  pub verdict : Verdict
+  pub cause : Cause
+  pub within : length bytes ≤ most_taken
+  pub walk : Walks Is s bytes messages offset verdict
+  pub because : IsCause (length bytes) last verdict offset cause
+  pub is : life ≡ opened ∷ (messages ++ closed cause ∷ [])
+
+-- the same of a connection that wasn't closed
+pub record IsOpenLife {S : Type 0} (Is : S → ℕ → List ℕ → EntryValue → S → Type 0) (s : S) (bytes : List ℕ) (life : List EntryValue) : Type 0 where
+  pub messages : List EntryValue
+  pub offset : ℕ
+  pub verdict : Verdict
+  pub within : length bytes ≤ most_taken
+  pub walk : Walks Is s bytes messages offset verdict
+  pub is : life ≡ opened ∷ messages
+
+-- the walk goes on where more bytes come
+abbrev pub IsUndecided : Verdict → Type 0
+IsUndecided whole = Unit {0}
+IsUndecided more = Unit {0}
+IsUndecided terminated = ⊥
+IsUndecided (broken why) = ⊥
+
+-- what was taken before the last read, or more of it, doesn't decide the walk: nothing is read once it is decided
+pub record IsReadNoFurther {S M : Type 0} (Is : S → ℕ → List ℕ → M → S → Type 0) (s : S) (bytes : List ℕ) : Type 0 where
+  pub messages : List M
+  pub offset : ℕ
+  pub verdict : Verdict
+  pub walk : Walks Is s (take (length bytes - most_read) bytes) messages offset verdict
+  pub undecided : IsUndecided verdict
