@@ -18,8 +18,8 @@ abbrev pub is_unicast_of : Family → ℕ → ℕ → Bool
 is_unicast_of family afi safi = afi == afi_of family && safi == unicast
 
 -- the family whose unicast the pair is, where there is one
-abbrev pub family_of : ℕ → ℕ → Option Family
-family_of afi safi = if is_unicast_of V4 afi safi then Some V4 else (if is_unicast_of V6 afi safi then Some V6 else None)
+abbrev pub unicast_family : ℕ → ℕ → Option Family
+unicast_family afi safi = if is_unicast_of V4 afi safi then Some V4 else (if is_unicast_of V6 afi safi then Some V6 else None)
 
 -- whether prefixes of the family have path identifiers
 abbrev pub uses_ids : IdUse → Family → Bool

@@ -1,5 +1,6 @@
 -- Information TLVs: two bytes of type, two of length, and the value (RFC 7854, section 4.4).
-use Rattle.std.specs.Prelude.{◌≡◌, ℕ, ◌+◌, ◌-◌, ◌≤◌, ◌==◌, List, length, drop, map, Option, slice_get, filter}
+use Rattle.std.specs.Prelude.{◌≡◌, ℕ, ◌+◌, ◌≤◌, ◌==◌, List, length, drop, map, Option, None, filter}
+use Rattle.std.specs.List.{last_or}
 use Rattle.byteorder.specs.Endian.{big_number}
 use Rattle.bmp_specs.specs.Values.{TlvValue}
 use Rattle.bmp_specs.specs.Parts.{AreParts}
@@ -26,5 +27,5 @@ abbrev pub values_of : ℕ → List TlvValue → List (List ℕ)
 values_of kind ts = map (λ t. t.value) (filter (λ t. t.kind == kind) ts)
 
 -- the last of them, where there is one
-abbrev pub last_of : ℕ → List TlvValue → Option (List ℕ)
-last_of kind ts = slice_get (values_of kind ts) (length (values_of kind ts) - 1)
+abbrev pub last_value : ℕ → List TlvValue → Option (List ℕ)
+last_value kind ts = last_or None (values_of kind ts)

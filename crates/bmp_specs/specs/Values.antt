@@ -104,12 +104,52 @@ pub record DownInfoValue : Type 0 where
   pub reason : ℕ
   pub detail : Detail
 
+-- an Initiation: the last sysName and the last sysDescr, and how many TLVs were passed over (RFC 7854, section 4.3)
+pub record InitiationValue : Type 0 where
+  pub name : Option (List ℕ)
+  pub descr : Option (List ℕ)
+  pub unread : ℕ
+
+-- a Peer Up Notification, and how many TLVs were passed over (RFC 7854, section 4.10)
+pub record PeerUpValue : Type 0 where
+  pub info : PeerInfoValue
+  pub unread : ℕ
+
 -- a statistic (RFC 7854, section 4.8); afi and safi are 0 where it has no family
 pub record StatValue : Type 0 where
   pub code : ℕ
   pub afi : ℕ
   pub safi : ℕ
   pub value : ℕ
+
+-- a Statistics Report, and how many TLVs were passed over (RFC 7854, section 4.8)
+pub record StatisticsValue : Type 0 where
+  pub stats : List StatValue
+  pub unread : ℕ
+
+-- MP_REACH_NLRI or MP_UNREACH_NLRI (RFC 4760, sections 3 and 4), its prefixes as bytes; a withdrawal has no hop
+pub record MpValue : Type 0 where
+  pub afi : ℕ
+  pub safi : ℕ
+  pub hop : List ℕ
+  pub prefixes : List ℕ
+
+-- a field of path attributes: those of the route, the multiprotocol ones, and how many attributes stood there
+pub record AttrsReadValue : Type 0 where
+  pub attrs : AttrsValue
+  pub reach : Option MpValue
+  pub unreach : Option MpValue
+  pub count : ℕ
+
+-- an UPDATE message (RFC 4271, section 4.3), and how many multiprotocol attributes of other families it has
+pub record UpdateValue : Type 0 where
+  pub withdrawn : List NlriValue
+  pub plain : List NlriValue
+  pub plain_attrs : AttrsValue
+  pub multi : List NlriValue
+  pub multi_attrs : AttrsValue
+  pub mark : Option Family
+  pub unread : ℕ
 
 -- what a message does to the tables
 pub data EffectValue : Type 0 where
