@@ -46,3 +46,5 @@ pub mod Complete
 pub mod TableRows
 pub mod TableReply
 pub mod Life
+pub mod MessageBody
+pub mod MessageEffects

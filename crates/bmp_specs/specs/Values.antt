@@ -151,6 +151,23 @@ pub record UpdateValue : Type 0 where
   pub mark : Option Family
   pub unread : ℕ
 
+-- the two OPEN messages of a session: the one that the router sent, and the one that it received
+pub record OpensValue : Type 0 where
+  pub sent : OpenValue
+  pub received : OpenValue
+
+-- what a message means
+pub data MessageValue : Type 0 where
+  initiation : InitiationValue → MessageValue
+  termination : MessageValue
+  peer_up : KeyValue → PeerUpValue → MessageValue
+  peer_down : KeyValue → DownInfoValue → MessageValue
+  routes : KeyValue → View → UpdateValue → MessageValue
+  statistics : KeyValue → StatisticsValue → MessageValue
+  mirrored_routes : ℕ → MessageValue
+  of_unknown_peer : MessageValue
+  of_unknown_type : MessageValue
+
 -- what a message does to the tables
 pub data EffectValue : Type 0 where
   up : KeyValue → PeerInfoValue → EffectValue
