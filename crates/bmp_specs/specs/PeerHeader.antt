@@ -3,12 +3,13 @@
 --
 -- The RFCs leave open, and this station chooses: flags that they don't name are ignored, the first twelve bytes of an IPv4
 -- address aren't looked at, the flags are no part of the key, and the addresses of a Loc-RIB Instance Peer are IPv4.
-use Rattle.std.specs.Prelude.{ℕ, ◌==◌, Bool, false, leb, if◌then◌else◌, List, [], ◌∷◌, ◌++◌, drop, replicate, Option, Some, None, bit_and, Contains}
+use Rattle.std.specs.Prelude.{ℕ, ◌==◌, Bool, false, leb, if◌then◌else◌, List, [], ◌∷◌, drop, Option, Some, None, bit_and, Contains}
 use Rattle.bmp_specs.specs.declared.wire.Family.{Family}
 use Rattle.bmp_specs.specs.declared.wire.Family.TheVariants.{V4, V6}
 use Rattle.bmp_specs.specs.declared.peers.View.{View}
 use Rattle.bmp_specs.specs.declared.peers.View.TheVariants.{InPre, InPost, OutPre, OutPost, Loc}
 use Rattle.bmp_specs.specs.Number.{IsNumber}
+use Rattle.bmp_specs.specs.Prefix.{padded}
 use Rattle.bmp_specs.specs.Sequence.{Then, IsField}
 use Rattle.bmp_specs.specs.Values.{AddressValue, KeyValue}
 
@@ -67,7 +68,7 @@ is_set flag flags = bit_and flags flag == flag
 
 -- the address of a family that stands in 16 bytes: IPv4 in the last four of them
 abbrev pub address_in : Family → List ℕ → AddressValue
-address_in V4 raw = record { family = V4; octets = drop 12 raw ++ replicate 12 0 }
+address_in V4 raw = record { family = V4; octets = padded (drop 12 raw) }
 address_in V6 raw = record { family = V6; octets = raw }
 
 -- the family of the peer's address, and of the local one
