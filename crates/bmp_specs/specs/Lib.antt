@@ -48,3 +48,4 @@ pub mod TableReply
 pub mod Life
 pub mod MessageBody
 pub mod MessageEffects
+pub mod Containment

@@ -14,7 +14,7 @@ pub length-first_bits : (n : ℕ) (xs : List ℕ) → length (first_bits n xs) �
 length-first_bits n [] = refl
 length-first_bits n (x ∷ xs) = ap suc (length-first_bits (n - 8) xs)
 
-first_bits_below : (n : ℕ) (xs : List ℕ) → ((k : ℕ) → get_or xs k 0 < 256) → (k : ℕ) → get_or (first_bits n xs) k 0 < 256
+pub first_bits_below : (n : ℕ) (xs : List ℕ) → ((k : ℕ) → get_or xs k 0 < 256) → (k : ℕ) → get_or (first_bits n xs) k 0 < 256
 first_bits_below n [] below k = below k
 first_bits_below n (x ∷ xs) below zero = omega (arith, below 0)
 first_bits_below n (x ∷ xs) below (suc k) = first_bits_below (n - 8) xs (λ j. below (suc j)) k
