@@ -1,6 +1,5 @@
 -- src/containment.rt
 use Rattle.std.proofs.Common.{◌≡◌, ℕ, ◌+◌, ◌-◌, ◌*◌, ◌/◌, ◌^◌, List, length, refl, sym, ap, ◌∙◌, arith, replicate, slice_index_or, ◌<◌, eq-eqb, eqb-true}
-use Rattle.byteorder.specs.Endian.{big_number}
 use Rattle.bmp_specs.specs.Prefix.{first_bits}
 use Rattle.ip_prefix.proofs.Words.{worth, big_number-worth, agree_to, agree_from, first_none}
 use Rattle.ip_prefix.proofs.containment.agree.Goals as goal

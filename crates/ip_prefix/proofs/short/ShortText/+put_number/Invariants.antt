@@ -1,0 +1,4 @@
+use Rattle.ip_prefix.proofs.short.ShortText.+put_number.Given as goal
+
+abbrev pub decreases-put_number : goal.decreases-put_number
+decreases-put_number l = l.number
