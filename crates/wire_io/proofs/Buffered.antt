@@ -1,0 +1,99 @@
+-- What a buffer and the sink below it have together.
+use Rattle.std.proofs.Common.{◌≡◌, ℕ, ◌+◌, ◌≤◌, length, take, drop, List, [], ◌∷◌, ◌++◌, Option, None, Some, Result, Ok, Err, refl, ap, sym, ◌∙◌, subst, append_assoc, append-nil, length-take, arith}
+use Rattle.std.specs.Prelude.{OnOk}
+use Rattle.std.proofs.lemmas.List.{take-append-drop, drop-drop, append_cancel_left, drop-append-le}
+use Rattle.std.specs.Io.KnownBytes.{Appends, Keeps, append_known}
+use Rattle.wire_io.specs.declared.sink.Failed.{Failed}
+use Rattle.wire_io.specs.Aside.{Aside, laid_over}
+use Rattle.wire_io.specs.Faults.{HasCause}
+use Rattle.wire_io.specs.Writes.{AppendsFront, Writes}
+use Rattle.wire_io.specs.Buffer.{BufferValue, Extends, Pours}
+use Rattle.wire_io.proofs.Joins.{appends_then, appends_none, keeps_appends}
+
+pub pours_none : (a : Option (List ℕ)) (bytes : List ℕ) (start : ℕ) → Pours a a bytes start start
+pours_none a bytes start = record { written = []; split = refl; grown = appends_none a }
+
+after : (n at : ℕ) (bytes : List ℕ) → drop n (drop at bytes) ≡ drop (at + n) bytes
+after n at bytes = drop-drop n at bytes
+
+pub pours_more : (a b c : Option (List ℕ)) (bytes : List ℕ) (start at n : ℕ) → Pours a b bytes start at → Appends b c (take n (drop at bytes)) → Pours a c bytes start (at + n)
+pours_more a b c bytes start at n p q = record {
+  written = p.written ++ take n (drop at bytes);
+  split = p.split ∙ ap (λ (l : List ℕ). p.written ++ l) (sym (take-append-drop n (drop at bytes)) ∙ ap (λ (l : List ℕ). take n (drop at bytes) ++ l) (after n at bytes)) ∙ sym (append_assoc p.written (take n (drop at bytes)) (drop (at + n) bytes));
+  grown = appends_then a b c p.written (take n (drop at bytes)) p.grown q;
+}
+
+-- a failed write wrote nothing more
+pub pours_still : (a b c : Option (List ℕ)) (bytes : List ℕ) (start at : ℕ) → Pours a b bytes start at → Keeps b c → Pours a c bytes start at
+pours_still a b c bytes start at p k = record { written = p.written; split = p.split; grown = subst (λ (l : List ℕ). Appends a c l) (append-nil p.written) (appends_then a b c p.written [] p.grown (keeps_appends b c k)) }
+
+-- what the two have together stays
+pub poured_same : (a b : Option (List ℕ)) (bytes : List ℕ) (start at : ℕ) → Pours a b bytes start at → Keeps (append_known a (drop start bytes)) (append_known b (drop at bytes))
+poured_same None b bytes start at p = tt
+poured_same (Some xs) None bytes start at p = absurd p.grown
+poured_same (Some xs) (Some ys) bytes start at p = ap (λ (l : List ℕ). l ++ drop at bytes) p.grown ∙ append_assoc xs p.written (drop at bytes) ∙ ap (λ (l : List ℕ). xs ++ l) (sym p.split)
+
+pub extends_then : (base a b : Option (List ℕ)) (bytes : List ℕ) (start at : ℕ) → Extends base a → Pours a b bytes start at → Extends base b
+extends_then base a b bytes start at e p = record { written = e.written ++ p.written; grown = appends_then base a b e.written p.written e.grown p.grown }
+
+-- bytes that are held are told
+pub held_more : (a b : Option (List ℕ)) (old held piece : List ℕ) → Keeps (append_known a old) (append_known b held) → Appends (append_known a old) (append_known b (held ++ piece)) piece
+held_more None b old held piece k = tt
+held_more (Some xs) None old held piece k = absurd k
+held_more (Some xs) (Some ys) old held piece k = sym (append_assoc ys held piece) ∙ ap (λ (l : List ℕ). l ++ piece) k
+
+-- what is written below is a front of what the two have together
+front_below : (a b : Option (List ℕ)) (held text : List ℕ) → Extends a b → AppendsFront (append_known a []) text (append_known b held) → AppendsFront a text b
+front_below None b held text e f = record { front = []; back = text; parts = refl; grown = tt }
+front_below (Some xs) None held text e f = absurd e.grown
+front_below (Some xs) (Some ys) held text e f = record {
+  front = e.written;
+  back = held ++ f.back;
+  parts = f.parts ∙ ap (λ (l : List ℕ). l ++ f.back) whole ∙ append_assoc e.written held f.back;
+  grown = e.grown;
+}
+  where
+    whole : f.front ≡ e.written ++ held
+    whole = append_cancel_left xs f.front (e.written ++ held) (ap (λ (l : List ℕ). l ++ f.front) (sym (append-nil xs)) ∙ sym f.grown ∙ ap (λ (l : List ℕ). l ++ held) e.grown ∙ append_assoc xs e.written held)
+
+all_below : (a b : Option (List ℕ)) (held text : List ℕ) → Appends (append_known a []) (append_known b held) text → held ≡ [] → Appends a b text
+all_below None b held text p e = tt
+all_below (Some xs) None held text p e = absurd p
+all_below (Some xs) (Some ys) held text p e = sym (append-nil ys) ∙ ap (λ (l : List ℕ). ys ++ l) (sym e) ∙ p ∙ ap (λ (l : List ℕ). l ++ text) (append-nil xs)
+
+module _ {O : Type 0} (faults : O → ℕ) (told : O → Option (List ℕ)) (aside : O → Aside) where
+  pub written_below : (old new : O) (held text : List ℕ) (r : Result (Unit {0}) Failed) → Extends (told old) (told new) → OnOk r (held ≡ [])
+      → OnOk r (Appends (append_known (told old) []) (append_known (told new) held) text) → AppendsFront (append_known (told old) []) text (append_known (told new) held) → aside new ≡ aside old → HasCause (faults old) (faults new) r
+      → Writes faults told aside old text r new
+  written_below old new held text r e empty whole front kept cause = record { whole = both r empty whole; front = front_below (told old) (told new) held text e front; kept = kept; cause = cause }
+    where
+      both : (r : Result (Unit {0}) Failed) → OnOk r (held ≡ []) → OnOk r (Appends (append_known (told old) []) (append_known (told new) held) text) → OnOk r (Appends (told old) (told new) text)
+      both (Ok u) p q = all_below (told old) (told new) held text q p
+      both (Err d) p q = tt
+
+pub keeps_held : (bytes new piece : List ℕ) (start len n : ℕ) → start ≤ len → len ≤ length bytes → take (len + n) new ≡ take len bytes ++ piece → drop start (take (len + n) new) ≡ drop start (take len bytes) ++ piece
+keeps_held bytes new piece start len n h k e = ap (λ (l : List ℕ). drop start l) e ∙ drop-append-le start (take len bytes) piece (omega (arith, length-take len bytes))
+
+-- what the sink told as the buffer was laid over it, and what it holds beside
+abbrev over_of : List (Option (List ℕ)) → Option (List ℕ)
+over_of [] = None
+over_of (x ∷ xs) = x
+
+abbrev under_of : List (Option (List ℕ)) → List (Option (List ℕ))
+under_of [] = []
+under_of (x ∷ xs) = xs
+
+same_first : (x y : Option (List ℕ)) (a b : Aside) → laid_over x a ≡ laid_over y b → x ≡ y
+same_first x y a b e = ap (λ (c : Aside). over_of c.laid) e
+
+same_aside : (x y : Option (List ℕ)) (a b : Aside) → laid_over x a ≡ laid_over y b → a ≡ b
+same_aside x y a b e = ap (λ (c : Aside). record c { laid = under_of c.laid }) e
+
+module _ {O : Type 0} (faults : O → ℕ) (told : O → Option (List ℕ)) (aside : O → Aside) where
+  -- a call that wrote through a buffer that was empty before and after it
+  pub through : (out new : O) (p0 p1 : BufferValue O) (text : List ℕ) (r : Result (Unit {0}) Failed) → p0 ≡ record { first = out; below = out; held = []; used = 0 } → new ≡ p1.below → Extends (told p1.first) (told new) → OnOk r (p1.held ≡ [])
+      → Writes (λ (p : BufferValue O). faults p.below) (λ (p : BufferValue O). append_known (told p.below) p.held) (λ (p : BufferValue O). laid_over (told p.first) (aside p.below)) p0 text r p1 → Writes faults told aside out text r new
+  through out new p0 p1 text r e n x empty w =
+      let w1 = subst (λ (p : BufferValue O). Writes (λ (p : BufferValue O). faults p.below) (λ (p : BufferValue O). append_known (told p.below) p.held) (λ (p : BufferValue O). laid_over (told p.first) (aside p.below)) p text r p1) e w in
+      let x1 = subst (λ (q : Option (List ℕ)). Extends q (told new)) (same_first _ _ _ _ w1.kept) x in
+      rw n (written_below faults told aside out p1.below p1.held text r (rw n at x1) empty w1.whole w1.front (same_aside _ _ _ _ w1.kept) w1.cause)
