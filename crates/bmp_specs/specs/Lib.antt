@@ -49,3 +49,5 @@ pub mod Life
 pub mod MessageBody
 pub mod MessageEffects
 pub mod Containment
+pub mod EscapedText
+pub mod RouteLine
