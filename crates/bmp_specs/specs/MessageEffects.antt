@@ -1,8 +1,9 @@
 -- What a message does to the tables, in order, and its entry in the history of a lane.
-use Rattle.std.specs.Prelude.{◌≡◌, ℕ, ◌+◌, ◌==◌, if◌then◌else◌, List, [], ◌∷◌, ◌++◌, length, map, Option, Some, None}
+use Rattle.std.specs.Prelude.{◌≡◌, ℕ, ◌+◌, ◌==◌, if◌then◌else◌, List, [], ◌∷◌, ◌++◌, length, map, Option, Some, None, ⊤}
 use Rattle.bmp_specs.specs.declared.peers.View.{View}
 use Rattle.bmp_specs.specs.Frame.{least}
 use Rattle.bmp_specs.specs.MessageBody.{IsMessage, ReadingState}
+use Rattle.bmp_specs.specs.PeerHeader.{IsViewOf}
 use Rattle.bmp_specs.specs.Values.{EffectValue, EntryValue, KeyValue, MessageValue, UpdateValue, initiation, termination, peer_up, peer_down, routes, statistics, mirrored_routes, of_unknown_peer, of_unknown_type, up, down, announce, withdraw, mark, statistic, named, described, orphan, mirrored, passed, unread, message}
 
 -- one effect of a value that is there
@@ -32,6 +33,13 @@ effects_of (statistics key s) = map (λ stat. statistic key stat) s.stats ++ unr
 effects_of (mirrored_routes n) = mirrored ∷ unread_parts n
 effects_of of_unknown_peer = orphan ∷ []
 effects_of of_unknown_type = passed ∷ []
+
+-- an effect speaks of no RIB that its peer doesn't have
+abbrev pub HasViewOfKey : EffectValue → Type 0
+HasViewOfKey (announce key view n attrs) = IsViewOf key view
+HasViewOfKey (withdraw key view n) = IsViewOf key view
+HasViewOfKey (mark key view family) = IsViewOf key view
+HasViewOfKey _ = ⊤
 
 -- the entry of a message: its type, its whole length and its effects
 pub record IsMessageEntry (state : ReadingState) (kind : ℕ) (body : List ℕ) (entry : EntryValue) (next : ReadingState) : Type 0 where
