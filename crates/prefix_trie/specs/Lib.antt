@@ -1,0 +1,3 @@
+pub mod Table
+pub mod Cursor
+pub mod Sharing
