@@ -1,5 +1,5 @@
 -- What a cutter of messages answers, and what any run of its calls gives (RFC 7854, section 4.1).
-use Rattle.std.specs.Prelude.{◌≡◌, ℕ, ◌+◌, ◌-◌, ◌^◌, ◌≤◌, ◌⊎◌, List, [], ◌∷◌, ◌++◌, length, take, drop}
+use Rattle.std.specs.Prelude.{◌≡◌, ℕ, ◌+◌, ◌-◌, ◌^◌, ◌<◌, ◌≤◌, ◌⊎◌, List, [], ◌∷◌, ◌++◌, length, take, drop}
 use Rattle.bmp_specs.specs.declared.causes.Why.TheVariants.{Version, Length, Body}
 use Rattle.bmp_specs.specs.Frame.{IsFrame, NeedsMore, BreaksVersion, BreaksLength}
 use Rattle.bmp_specs.specs.Parts.{AreParts}
@@ -26,6 +26,7 @@ pub record Gives (old new : CutterValue) (size : ℕ) : Type 0 where
   pub split : old.pending ≡ take size old.pending ++ new.pending
   pub body : new.body ≡ drop 6 (take size old.pending)
   pub offset : new.offset ≡ old.offset + size
+  pub shorter : length new.pending < length old.pending
 
 -- how a cutter moves
 abbrev pub Moves : CutterValue → CutterValue → Next → Type 0
