@@ -1,0 +1,19 @@
+//! Work to be measured: the calls that take most of the station's time, on loads from standard input
+//! or of its own. The first word says which; each prints what was done, and never a time. The scripts
+//! under `bench/` run it beside a program to compare with.
+#![tactic(auto)]
+
+mod frames;
+
+use std::{env, io};
+
+fn main(rt: HostRuntime) -> io::Result<()> {
+    let mut words = env::args(&rt)?;
+    let _program = words.next();
+    let word = words.next();
+    let number = words.next().and_then(|word| word.parse::<usize>().ok());
+    match word.as_ref().map(|word| word.as_str()) {
+        Some("frames") => frames::run(&rt, number),
+        _ => println!(rt; "usage: bench frames [PIECE]"),
+    }
+}
