@@ -1,11 +1,10 @@
 -- Texts joined by a byte, as a recursion writes them.
-use Rattle.std.proofs.Common.{◌≡◌, ℕ, zero, suc, ◌+◌, ◌<◌, ◌≤◌, ◌-◌, ◌*◌, ◌^◌, List, [], ◌∷◌, ◌++◌, length, take, drop, get_or, refl, sym, ap, ◌∙◌, arith, append_assoc, append-nil, length-append, map}
+use Rattle.std.proofs.Common.{◌≡◌, ℕ, ◌+◌, ◌<◌, ◌≤◌, ◌-◌, ◌^◌, List, [], ◌∷◌, ◌++◌, length, take, drop, get_or, refl, sym, ap, ◌∙◌, arith, append_assoc, length-append, map}
 use Rattle.std.proofs.lemmas.List.{take_rest, nil_from_length}
 use Rattle.std.proofs.lemmas.Fmt.{length-decimal-le}
 use Rattle.std.specs.List.{join_with_byte}
 use Rattle.bmp_specs.specs.AddressText.{dotted, joined_groups, group_text}
 use Rattle.bmp_specs.specs.NumberText.{number_text}
-use Rattle.ip_prefix.proofs.Digits.{group_within}
 
 join_one : (sep : ℕ) (part : ℕ → List ℕ) (ns : List ℕ) → 1 ≤ length ns → length ns < 2 → join_with_byte sep (map part ns) ≡ part (get_or ns 0 0)
 join_one sep part [] some few = absurd (omega arith)

@@ -1,4 +1,5 @@
-ghost use Rattle.std.specs.Prelude.{◌≡◌, ◌+◌, ◌*◌, ◌<◌, ◌≤◌, [], ◌∷◌, ◌++◌, length};
+ghost use Rattle.std.specs.Prelude.{◌≡◌, ◌+◌, ◌*◌, ◌<◌, ◌≤◌, [], ◌∷◌, ◌++◌, IfSome, length};
+ghost use Rattle.std.specs.Net.Addr.{segments_of};
 ghost use Rattle.bmp_specs.specs.AddressText.{dotted, group_text, joined_groups, shortened_run, groups_text, address_text};
 ghost use Rattle.bmp_specs.specs.PrefixText.{prefix_text};
 
@@ -64,5 +65,72 @@ fn put_groups(text: &mut ShortText, groups: &[u16])
             text.push(b':');
             put_groups(text, rest);
         }
+    }
+}
+
+// Where the zero groups are that the text shortens: the first of them, and how many they are.
+fn shortened_run(groups: &[u16; 8]) -> Option<(usize, usize)>
+    ensures run { result ≡ shortened_run groups.now }
+    ensures within { IfSome result (λ run. run.0 + run.1 ≤ 8) }
+{
+    let mut start = 8;
+    let mut longest = 0;
+    let mut run = 0;
+    for i in (0..8).rev() {
+        run = if groups[i] == 0 { run + 1 } else { 0 };
+        if run >= longest {
+            start = i;
+            longest = run;
+        }
+    }
+    if longest < 2 {
+        None
+    } else {
+        Some((start, longest))
+    }
+}
+
+// Appends eight groups.
+fn put_shortened(text: &mut ShortText, groups: &[u16; 8])
+    requires { length text.old ≤ 22 }
+    ensures whole { text.new ≡ text.old ++ groups_text groups.now }
+    ensures short { length text.new ≤ length text.old + 42 }
+{
+    match shortened_run(groups) {
+        None => put_groups(text, groups),
+        Some((start, count)) => {
+            put_groups(text, &groups[..start]);
+            text.extend(b"::");
+            put_groups(text, &groups[start + count..]);
+        }
+    }
+}
+
+impl Addr {
+    /// The text of the address: four numbers joined by dots for IPv4, and the text of RFC 5952,
+    /// section 4, for IPv6. It has at most 42 bytes.
+    pub fn text(&self) -> ShortText
+        ensures whole { result ≡ address_text self.now }
+        ensures short { length result ≤ 42 }
+    {
+        let octets = self.octets();
+        let mut text = ShortText::new();
+        match self.family() {
+            Family::V4 => put_dotted(&mut text, &octets[..4]),
+            Family::V6 => put_shortened(&mut text, &Ipv6Addr::from_octets(octets).segments()),
+        }
+        text
+    }
+}
+
+impl Prefix {
+    /// The text of the prefix: its address, `/` and its number of bits.
+    pub fn text(&self) -> ShortText
+        ensures { result ≡ prefix_text self.now }
+    {
+        let mut text = self.addr().text();
+        text.push(b'/');
+        text.put_number(self.bits() as u64);
+        text
     }
 }

@@ -1,5 +1,4 @@
-use Rattle.std.proofs.Common.{◌≡◌, ◌+◌, ◌<◌, ◌≤◌, ◌-◌, ◌*◌, ◌++◌, [], List, length, ℕ, arith, sym, ap, ◌∙◌, append-nil, get_or, length-drop, length-take, drop, take}
-use Rattle.bmp_specs.specs.AddressText.{dotted}
+use Rattle.std.proofs.Common.{◌≡◌, ◌<◌, ◌-◌, ◌++◌, List, length, ℕ, arith, sym, ap, ◌∙◌, append-nil, get_or, length-drop, length-take, drop, take}
 use Rattle.ip_prefix.proofs.Joined.{dotted_none, dotted_one, dotted_more, put_more, longer, octet_within}
 use Rattle.ip_prefix.proofs.texts.+put_dotted.Goals as goal
 

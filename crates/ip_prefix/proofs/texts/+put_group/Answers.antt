@@ -1,5 +1,4 @@
 use Rattle.std.proofs.Common.{◌≡◌, ◌+◌, ◌<◌, ◌≤◌, ◌/◌, ◌%◌, ◌^◌, ◌++◌, List, length, ℕ, arith, sym, ap, ◌∙◌, append_assoc, length-append}
-use Rattle.std.proofs.lemmas.Fmt.{hex_one_digit}
 use Rattle.bmp_specs.specs.AddressText.{group_text}
 use Rattle.ip_prefix.proofs.Digits.{group_step, group_digit}
 use Rattle.ip_prefix.proofs.texts.+put_group.Goals as goal

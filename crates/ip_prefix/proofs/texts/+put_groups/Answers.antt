@@ -1,5 +1,4 @@
-use Rattle.std.proofs.Common.{◌≡◌, ◌+◌, ◌<◌, ◌≤◌, ◌-◌, ◌*◌, ◌++◌, [], List, length, ℕ, arith, sym, ap, ◌∙◌, append-nil, get_or, length-drop, length-take, drop, take}
-use Rattle.bmp_specs.specs.AddressText.{joined_groups}
+use Rattle.std.proofs.Common.{◌≡◌, ◌<◌, ◌-◌, ◌++◌, List, length, ℕ, arith, sym, ap, ◌∙◌, append-nil, get_or, length-drop, length-take, drop, take}
 use Rattle.ip_prefix.proofs.Joined.{groups_none, groups_one, groups_more, put_more, longer}
 use Rattle.ip_prefix.proofs.Digits.{group_within}
 use Rattle.ip_prefix.proofs.texts.+put_groups.Goals as goal
