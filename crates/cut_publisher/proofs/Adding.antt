@@ -7,8 +7,8 @@ use prog.Atomic.{either}
 use Rattle.logbook.specs.Pages.{Cell, cell, keeps, no_nib, step, Moves, Goes}
 use Rattle.cut_publisher.specs.declared.history.Step.{Step}
 use Rattle.cut_publisher.specs.declared.history.Step.TheVariants.{Batch, End}
-use Rattle.cut_publisher.specs.Logs.{IsOpen, IsLog, IsKept, Adds}
 use Rattle.cut_publisher.proofs.Prefixes.{prefix_whole}
+use Rattle.cut_publisher.specs.Logs.{Adds, IsKept, IsLog, IsOpen}
 
 module _ {E : Type 0} where
   abbrev pub shown : List (Step E) → List (Step E)

@@ -7,14 +7,14 @@ use Rattle.cut_publisher.specs.declared.history.Step.TheVariants.{Batch, End}
 use Rattle.std.specs.Arc.{arc_value}
 use Rattle.cut_publisher.specs.declared.history.Event.{Event}
 use Rattle.cut_publisher.specs.declared.history.Event.TheVariants.{Finish}
-use Rattle.cut_publisher.specs.declared.cut.Cut.{Cut}
 use Rattle.cut_publisher.specs.declared.cell.Shown.{Shown}
-use Rattle.cut_publisher.specs.Rule.{Good, Stands, IsLane}
 use Rattle.cut_publisher.proofs.Adding.{open_then}
 use Rattle.cut_publisher.proofs.Lanes.{part-append, revision-append}
-use Rattle.cut_publisher.specs.History.{Begins, told, part}
-use Rattle.cut_publisher.specs.Logs.{IsLog, IsOpen, IsEnded}
 use Rattle.cut_publisher.proofs.Prefixes.{begins_told, told-append}
+use Rattle.cut_publisher.specs.History.{Begins, part, told}
+use Rattle.cut_publisher.specs.Cuts.{IsLane, Stands}
+use Rattle.cut_publisher.specs.Logs.{IsEnded, IsLog, IsOpen}
+use Rattle.cut_publisher.specs.Rule.{Good}
 
 module _ {E : Type 0} where
   nothing_follows : (before rest : List (Step E)) → IsLog ((before ++ End ∷ []) ++ rest) → rest ≡ []
@@ -41,19 +41,19 @@ module _ {E : Type 0} where
   part-end lane h = part-append lane h (Finish ∷ []) ∙ append-nil (part lane h)
 
 module _ {S E : Type 0} (stands : S → List E → Type 0) where
-  pub stands_end : (c : Cut S) (h : List (Event E)) → Stands stands c h → Stands stands c (h ++ Finish ∷ [])
+  pub stands_end : (c : List (S × ℕ)) (h : List (Event E)) → Stands stands c h → Stands stands c (h ++ Finish ∷ [])
   stands_end c h s = record {
-    lanes = λ k d lt. subst (λ (es : List E). IsLane stands es (get_or c.lanes.items k d)) (sym (part-end k h)) (s.lanes k d lt);
+    lanes = λ k d lt. subst (λ (es : List E). IsLane stands es (get_or c k d)) (sym (part-end k h)) (s.lanes k d lt);
     rev = omega (arith, s.rev, revision-append h (Finish ∷ []));
     few = s.few;
-    total = s.total;
+    room = s.room;
   }
 
   pub good_end : (x y : Shown S E) → Good stands x → IsOpen x.seen.log → arc_value y.cut ≡ arc_value x.cut → y.seen.log ≡ x.seen.log ++ End ∷ [] → y.steps ≡ x.steps + 1 → Good stands y
   good_end x y good o cut log steps =
       let all : told y.seen.log ≡ told x.seen.log ++ Finish ∷ [] = ap told log ∙ told_end x.seen.log in
       record {
-        cut = subst (λ (z : Cut S × List (Event E)). Stands stands z.0 z.1) (λ i. (sym cut i, sym all i)) (stands_end (arc_value x.cut) (told x.seen.log) good.cut);
+        cut = subst (λ (z : List (S × ℕ) × List (Event E)). Stands stands z.0 z.1) (λ i. (sym cut i, sym all i)) (stands_end (arc_value x.cut) (told x.seen.log) good.cut);
         long = omega (arith, steps, good.long, ap length log, length-append x.seen.log (End ∷ []));
         marked = subst IsLog (sym log) (open_then x.seen.log End o);
       }

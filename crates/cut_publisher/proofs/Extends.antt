@@ -5,14 +5,15 @@ use Rattle.std.proofs.lemmas.List.{append-nil}
 use mathlib.Core.List.{IsPrefix}
 use Rattle.cut_publisher.specs.declared.history.Step.{Step}
 use Rattle.cut_publisher.specs.declared.history.Step.TheVariants.{Batch, End}
-use Rattle.cut_publisher.specs.declared.cut.Cut.{Cut}
 use Rattle.cut_publisher.specs.declared.cell.Shown.{Shown}
-use Rattle.cut_publisher.specs.History.{Site, Begins, Fed, fed, part, told, batch}
-use Rattle.cut_publisher.specs.Logs.{IsOpen, IsLog}
-use Rattle.cut_publisher.specs.Rule.{Good, Stands, IsFollowed}
 use Rattle.cut_publisher.proofs.Prefixes.{begins_trans, told-append, told_shorter}
 use Rattle.cut_publisher.proofs.Adding.{open_then}
 use Rattle.cut_publisher.proofs.Lanes.{part-append, part-batch_same, begins_part, begins_whole, stands_more}
+use Rattle.cut_publisher.specs.History.{Begins, Fed, Site, batch, fed, part, told}
+use Rattle.cut_publisher.specs.Cuts.{Stands}
+use Rattle.cut_publisher.specs.Logs.{IsLog, IsOpen}
+use Rattle.cut_publisher.specs.Rule.{Good}
+use Rattle.cut_publisher.specs.Publication.{IsFollowed}
 
 module _ {E : Type 0} where
   pub told_more : (log : List (Step E)) (lane : ℕ) (es : List E) → told (log ++ Batch lane es ∷ []) ≡ told log ++ batch lane es
@@ -25,27 +26,27 @@ module _ {E : Type 0} where
 
 module _ {S E : Type 0} (stands : S → List E → Type 0) where
   -- the pass's numbers are those of the lane, so its entries are the lane's part
-  pub followed : (c : Cut S) (h p both : List (Step E)) (b : Site) (lane : ℕ) (x : S × ℕ) → Stands stands c (told h) → lane < length c.lanes.items
-      → x ≡ get_or c.lanes.items lane x → x.1 ≡ length (part lane (told p)) → IsPrefix p both → IsPrefix h both → length p ≤ length h
+  pub followed : (c : List (S × ℕ)) (h p both : List (Step E)) (b : Site) (lane : ℕ) (d : S × ℕ) → Stands stands c (told h) → lane < length c
+      → (get_or c lane d).1 ≡ length (part lane (told p)) → IsPrefix p both → IsPrefix h both → length p ≤ length h
       → IsFollowed (fed b lane p) c (told h)
-  followed c h p both b lane x s lt at count pre whole le =
+  followed c h p both b lane d s lt count pre whole le =
       let earlier = told_shorter p h both pre whole le in
-      let len : length (part lane (told h)) ≡ length (part lane (told p)) = sym (s.lanes lane x lt).count ∙ ap (λ (z : S × ℕ). z.1) (sym at) ∙ count in
+      let len : length (part lane (told h)) ≡ length (part lane (told p)) = sym (s.lanes lane d lt).count ∙ count in
       record {
         within = lt;
         earlier = earlier;
         same = begins_whole (part lane (told p)) (part lane (told h)) (begins_part lane (told p) (told h) earlier) len;
       }
 
-  pub good_more : (x y : Shown S E) (lane : ℕ) (v : S) (es : List E) → Good stands x → IsOpen x.seen.log → lane < length (arc_value x.cut).lanes.items
+  pub good_more : (x y : Shown S E) (lane : ℕ) (v : S) (es : List E) → Good stands x → IsOpen x.seen.log → lane < length (arc_value x.cut)
       → stands v (part lane (told x.seen.log) ++ es) → length (part lane (told x.seen.log) ++ es) ≤ 2 ^ 57
-      → (arc_value y.cut).lanes.items ≡ set (arc_value x.cut).lanes.items lane (v, (get_or (arc_value x.cut).lanes.items lane (v, 0)).1 + length es)
-      → (arc_value y.cut).rev ≡ (arc_value x.cut).rev + length es → y.seen.log ≡ x.seen.log ++ Batch lane es ∷ [] → y.steps ≡ x.steps + 1
+      → arc_value y.cut ≡ set (arc_value x.cut) lane (v, (get_or (arc_value x.cut) lane (v, 0)).1 + length es)
+      → y.seen.log ≡ x.seen.log ++ Batch lane es ∷ [] → y.steps ≡ x.steps + 1
       → Good stands y
-  good_more x y lane v es good o lt st room items rev log steps =
-      let n : ℕ = (get_or (arc_value x.cut).lanes.items lane (v, 0)).1 + length es in
+  good_more x y lane v es good o lt st room items log steps =
+      let n : ℕ = (get_or (arc_value x.cut) lane (v, 0)).1 + length es in
       let count : n ≡ length (part lane (told x.seen.log) ++ es) = omega (arith, (good.cut.lanes lane (v, 0) lt).count, length-append (part lane (told x.seen.log)) es) in
-      let cut = stands_more stands (arc_value x.cut) (arc_value y.cut) (told x.seen.log) lane v n es good.cut lt items rev st count (omega (arith, count, room)) in
+      let cut = stands_more stands (arc_value x.cut) (arc_value y.cut) (told x.seen.log) lane v n es good.cut lt items st count (omega (arith, count, room)) in
       let all : told y.seen.log ≡ told x.seen.log ++ batch lane es = ap told log ∙ told_more x.seen.log lane es in
       record {
         cut = subst (Stands stands (arc_value y.cut)) (sym all) cut;

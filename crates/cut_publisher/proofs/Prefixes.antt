@@ -4,9 +4,9 @@ use mathlib.Core.List.{IsPrefix}
 use Rattle.cut_publisher.specs.declared.history.Step.{Step}
 use Rattle.cut_publisher.specs.declared.history.Step.TheVariants.{Batch, End}
 use Rattle.cut_publisher.specs.declared.history.Event.TheVariants.{Finish}
-use Rattle.cut_publisher.specs.History.{Begins, batch, told}
 use Rattle.std.proofs.lemmas.List.{append-nil, take-append-drop, take-append-le}
 use Rattle.std.proofs.Math.Seq.{take-append_seam}
+use Rattle.cut_publisher.specs.History.{Begins, batch, told}
 
 pub begins_self : {A : Type 0} (xs : List A) → Begins xs xs
 begins_self xs = record { rest = []; is = append-nil xs }

@@ -1,5 +1,5 @@
--- Histories: lists of entries, each of a lane, at whose end the mark may stand.
-use Rattle.std.specs.Prelude.{◌≡◌, ℕ, ◌+◌, eqb, cond, List, [], ◌∷◌, ◌++◌}
+-- Histories: entries, each of a lane, in one list. The mark may stand at its end.
+use Rattle.std.specs.Prelude.{◌≡◌, ℕ, ◌+◌, ◌<◌, eqb, cond, List, [], ◌∷◌, ◌++◌}
 use Rattle.logbook.specs.Pages.{Book}
 use Rattle.cut_publisher.specs.declared.history.Event.{Event}
 use Rattle.cut_publisher.specs.declared.history.Event.TheVariants.{Of, Finish}
@@ -12,24 +12,30 @@ pub record Begins {A : Type 0} (xs ys : List A) : Type 0 where
   pub is : xs ++ rest ≡ ys
 
 module _ {E : Type 0} where
-  -- the entries of a lane
+  -- the entries of a lane, in the history's order
   abbrev pub part : ℕ → List (Event E) → List E
   part lane [] = []
   part lane (Of k e ∷ h) = cond (eqb k lane) (e ∷ part lane h) (part lane h)
   part lane (Finish ∷ h) = part lane h
 
-  -- the number of entries
+  -- the number of entries; the mark is not counted
   abbrev pub revision : List (Event E) → ℕ
   revision [] = 0
   revision (Of k e ∷ h) = 1 + revision h
   revision (Finish ∷ h) = revision h
+
+  -- each entry is of a lane below n
+  abbrev pub IsWithin : ℕ → List (Event E) → Type 0
+  IsWithin n [] = Unit {0}
+  IsWithin n (Of k e ∷ h) = (k < n) × IsWithin n h
+  IsWithin n (Finish ∷ h) = IsWithin n h
 
   -- these entries, as the lane's
   abbrev pub batch : ℕ → List E → List (Event E)
   batch lane [] = []
   batch lane (e ∷ es) = Of lane e ∷ batch lane es
 
-  -- the history that a log tells
+  -- the history that a log of publications tells
   abbrev pub told : List (Step E) → List (Event E)
   told [] = []
   told (Batch lane es ∷ log) = batch lane es ++ told log
@@ -43,7 +49,7 @@ pub record Site : Type 0 where
 abbrev pub site : Book → ℕ → Site
 site b n = record { book = b; lanes = n }
 
--- what contracts see of an asker's pass
+-- what contracts see of an asker's pass, of a note and of a publisher without a name: the station, and the history that it has seen
 pub record Saw (E : Type 0) : Type 0 where
   pub station : Site
   pub seen : List (Event E)
@@ -51,7 +57,7 @@ pub record Saw (E : Type 0) : Type 0 where
 abbrev pub saw : {E : Type 0} → Site → List (Step E) → Saw E
 saw b log = record { station = b; seen = told log }
 
--- what contracts see of a lane's pass
+-- what contracts see of a lane's pass: the station, the lane, the entries that it made, and the history that it has seen
 pub record Fed (E : Type 0) : Type 0 where
   pub station : Site
   pub lane : ℕ

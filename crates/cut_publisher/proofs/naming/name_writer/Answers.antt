@@ -1,8 +1,8 @@
 use Rattle.std.proofs.Common.{sym, ◌∙◌, subst}
 use Rattle.cut_publisher.specs.declared.cell.Shown.{Shown}
-use Rattle.cut_publisher.specs.Rule.{Good}
 use Rattle.cut_publisher.proofs.Moves.{names}
 use Rattle.cut_publisher.proofs.naming.name_writer.Goals as goal
+use Rattle.cut_publisher.specs.Rule.{Good}
 
 pub publish_as-back-requires : goal.publish_as-back-requires
 publish_as-back-requires g c next is =

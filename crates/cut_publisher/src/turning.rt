@@ -1,0 +1,82 @@
+//! How the cell's writer shows a cut: in both copies, one after the other.
+ghost use Rattle.std.specs.Prelude.{◌≡◌, ◌∷◌, ◌++◌, [], drop};
+ghost use Rattle.cut_publisher.specs.Rule.{Good, Ends, IsIdle, site_of};
+
+use crate::cell::{CellWriter, Passes, Shown};
+use crate::subject::Subject;
+use std::sync::Wait;
+
+// Takes the room for one more place in the writer's queue, and says whether there was memory. It
+// queues what is shown already, which what is queued later hides. The queue is empty before, and
+// grows by four places at least, so what is queued next has its place too.
+pub(crate) fn make_room<S: Subject + Drop>(writer: &mut CellWriter<S>, shown: &Shown<S>) -> bool
+    ensures { writer.new.desk ≡ writer.old.desk }
+{
+    match shown.copy() {
+        Some(copy) => writer.append(copy).is_ok(),
+        None => false,
+    }
+}
+
+// Queues what is to be shown.
+fn queue<S: Subject + Drop, R: Wait>(rt: &R, writer: &mut CellWriter<S>, shown: Shown<S>)
+    ensures desk { writer.new.desk ≡ writer.old.desk }
+    ensures pending { drop writer.new.behind writer.new.log.items ≡ drop writer.old.behind writer.old.log.items ++ shown ∷ [] }
+{
+    let mut shown = shown;
+    for _ in rt.forever() {
+        match writer.append(shown) {
+            Ok(()) => return,
+            Err(back) => shown = back,
+        }
+    }
+    unreachable!()
+}
+
+// Shows what was queued last. It waits for the askers that are inside the other copy.
+fn turn<S: Subject + Drop, R: Wait>(rt: &R, writer: CellWriter<S>) -> CellWriter<S>
+    requires { Ends S.stands (site_of writer.desk.shown.value) (drop writer.behind writer.log.items) }
+    ensures station { site_of result.desk.shown.value ≡ site_of writer.desk.shown.value }
+    ensures idle { IsIdle S.stands result.desk.shown.value (drop result.behind result.log.items) }
+{
+    let mut writer = writer;
+    for _ in rt.forever() {
+        let (back, done) = writer.publish_as::<Passes, R>(rt);
+        writer = back;
+        if done.is_ok() {
+            return writer;
+        }
+    }
+    unreachable!()
+}
+
+// Lets the other copy show the same, so that neither holds what was shown before.
+fn settle<S: Subject + Drop, R: Wait>(rt: &R, writer: CellWriter<S>) -> CellWriter<S>
+    requires { IsIdle S.stands writer.desk.shown.value (drop writer.behind writer.log.items) }
+    ensures { site_of result.desk.shown.value ≡ site_of writer.desk.shown.value }
+{
+    let mut writer = writer;
+    for _ in rt.forever() {
+        let (back, done) = writer.publish_as::<Passes, R>(rt);
+        writer = back;
+        if done.is_ok() {
+            return writer;
+        }
+    }
+    unreachable!()
+}
+
+// Shows it in both copies.
+pub(crate) fn show<S: Subject + Drop, R: Wait>(
+    rt: &R,
+    mut writer: CellWriter<S>,
+    shown: Shown<S>,
+) -> CellWriter<S>
+    requires good { Good S.stands shown }
+    requires book { site_of shown ≡ site_of writer.desk.shown.value }
+    ensures { site_of result.desk.shown.value ≡ site_of writer.desk.shown.value }
+{
+    queue(rt, &mut writer, shown);
+    let writer = turn(rt, writer);
+    settle(rt, writer)
+}
