@@ -1,5 +1,5 @@
 -- Replies of `table`: the entries of a lane have one, and a lane that was only opened has this one.
-use Rattle.std.proofs.Common.{◌≡◌, ℕ, List, [], ◌∷◌, ◌++◌, length, map, codes, sym, ◌∙◌, ap, arith}
+use Rattle.std.proofs.Common.{◌≡◌, ℕ, List, [], ◌∷◌, length, map, codes, sym, ◌∙◌, ap, arith}
 use Rattle.std.specs.List.Sorted.{IsStrictlySortedBy}
 use Rattle.bmp_specs.specs.Values.{EntryValue, opened, announce}
 use Rattle.bmp_specs.specs.Session.{session_effects}
@@ -7,14 +7,11 @@ use Rattle.bmp_specs.specs.Rows.{RowValue, HasRow}
 use Rattle.bmp_specs.specs.TableRows.{AreTableRows}
 use Rattle.bmp_specs.specs.Reply.{reply}
 use Rattle.bmp_specs.specs.TableReply.{IsTableReply}
+use Rattle.bmp_specs.proofs.LatestLaws.{no_middle}
 use Rattle.bmp_specs.proofs.ReplyTexts.{reply_of_an_opening}
 use Rattle.bmp_specs.proofs.TableRowsOne.{table_rows_one}
 
 -- no effects leave no row
-no_middle : {X : Type 0} (before after : List X) (x : X) → [] ≡ before ++ x ∷ after → ⊥
-no_middle [] after x e = cc
-no_middle (b ∷ before) after x e = cc
-
 no_row : (row : RowValue) → HasRow [] row → ⊥
 no_row row h = no_middle h.announced.before h.announced.after (announce row.place.key row.place.view row.place.nlri row.route) h.announced.place
 

@@ -1,0 +1,54 @@
+-- What one more effect does to a peer and to a row, and that a place has one route and a peer one info.
+use Rattle.std.proofs.Common.{◌≡◌, ◌⊎◌, inl, inr, List, [], ◌∷◌, ◌++◌, refl, sym, subst}
+use Rattle.bmp_specs.specs.Latest.{Latest}
+use Rattle.bmp_specs.specs.Values.{KeyValue, PeerInfoValue, DownInfoValue, AttrsValue, EffectValue, up, down, announce}
+use Rattle.bmp_specs.specs.PeerUp.{Names, IsUpWith, IsDownWith, IsUp}
+use Rattle.bmp_specs.specs.Rows.{PlaceValue, RowValue, ReplacesRow, HasRow}
+use Rattle.bmp_specs.proofs.LatestLaws.{latest_now, latest_still, latest_from, latest_one}
+
+pub up_now : (es : List EffectValue) (key : KeyValue) (info : PeerInfoValue) → IsUp (es ++ up key info ∷ []) key
+up_now es key info = (info, latest_now (Names key) es (up key info))
+
+pub up_still : (es : List EffectValue) (e : EffectValue) (key : KeyValue) → ¬ (Names key e) → IsUp es key → IsUp (es ++ e ∷ []) key
+up_still es e key other (info, l) = let m = latest_still (Names key) es e (up key info) l other in (info, m.0)
+
+-- a peer that is up was, or comes up by this effect
+pub up_from : (es : List EffectValue) (e : EffectValue) (key : KeyValue) → IsUp (es ++ e ∷ []) key → ((info : PeerInfoValue) × (e ≡ up key info)) ⊎ (IsUp es key × ¬ (Names key e))
+up_from es e key (info, m) = go (latest_from (Names key) es e (up key info) m)
+  where
+    go : ((e ≡ up key info) × (es ≡ m.before)) ⊎ ((l : Latest (Names key) es (up key info)) × (l.before ≡ m.before) × ¬ (Names key e)) → ((i : PeerInfoValue) × (e ≡ up key i)) ⊎ (IsUp es key × ¬ (Names key e))
+    go (inl (s, _)) = inl (info, s)
+    go (inr (l, _, other)) = inr ((info, l), other)
+
+-- a peer that is up has one info, and isn't down
+pub up_one : (es : List EffectValue) (key : KeyValue) (a b : PeerInfoValue) → IsUpWith es key a → IsUpWith es key b → a ≡ b
+up_one es key a b p q = let e : up key a ≡ up key b = (latest_one (Names key) es (up key a) (up key b) p q refl refl).0 in cc
+
+pub up_or_down : (es : List EffectValue) (key : KeyValue) (info : DownInfoValue) → IsUp es key → IsDownWith es key info → ⊥
+up_or_down es key info (other, p) q = let e : up key other ≡ down key info = (latest_one (Names key) es (up key other) (down key info) p q refl refl).0 in cc
+
+-- a place has one route
+pub route_one : (es : List EffectValue) (place : PlaceValue) (a b : AttrsValue) → HasRow es (record { place = place; route = a }) → HasRow es (record { place = place; route = b }) → a ≡ b
+route_one es place a b p q =
+    let e : announce place.key place.view place.nlri a ≡ announce place.key place.view place.nlri b =
+    (latest_one (ReplacesRow place) es (announce place.key place.view place.nlri a) (announce place.key place.view place.nlri b) p.announced q.announced (refl, refl, refl) (refl, refl, refl)).0 in
+    cc
+
+pub row_now : (es : List EffectValue) (row : RowValue) → IsUp es row.place.key → HasRow (es ++ announce row.place.key row.place.view row.place.nlri row.route ∷ []) row
+row_now es row is_up = record { announced = record { before = es; after = []; place = refl; last = tt }; while_up = is_up }
+
+pub row_still : (es : List EffectValue) (e : EffectValue) (row : RowValue) → ¬ (ReplacesRow row.place e) → HasRow es row → HasRow (es ++ e ∷ []) row
+row_still es e row other h =
+    let m = latest_still (ReplacesRow row.place) es e (announce row.place.key row.place.view row.place.nlri row.route) h.announced other in
+    record { announced = m.0; while_up = subst (λ (before : List EffectValue). IsUp before row.place.key) (sym m.1) h.while_up }
+
+-- a row was there and this effect doesn't replace it, or this effect announces it while its peer is up
+pub row_from : (es : List EffectValue) (e : EffectValue) (row : RowValue) → HasRow (es ++ e ∷ []) row
+    → ((e ≡ announce row.place.key row.place.view row.place.nlri row.route) × IsUp es row.place.key) ⊎ (HasRow es row × ¬ (ReplacesRow row.place e))
+row_from es e row h = go (latest_from (ReplacesRow row.place) es e (announce row.place.key row.place.view row.place.nlri row.route) h.announced)
+  where
+    go : ((e ≡ announce row.place.key row.place.view row.place.nlri row.route) × (es ≡ h.announced.before))
+        ⊎ ((l : Latest (ReplacesRow row.place) es (announce row.place.key row.place.view row.place.nlri row.route)) × (l.before ≡ h.announced.before) × ¬ (ReplacesRow row.place e))
+        → ((e ≡ announce row.place.key row.place.view row.place.nlri row.route) × IsUp es row.place.key) ⊎ (HasRow es row × ¬ (ReplacesRow row.place e))
+    go (inl (s, t)) = inl (s, subst (λ (before : List EffectValue). IsUp before row.place.key) (sym t) h.while_up)
+    go (inr (l, t, other)) = inr (record { announced = l; while_up = subst (λ (before : List EffectValue). IsUp before row.place.key) (sym t) h.while_up }, other)
