@@ -1,29 +1,14 @@
 -- An OPEN message has one value at most, and none begins another.
-use Rattle.std.proofs.Common.{◌≡◌, ℕ, ◌+◌, Bool, true, false, List, [], ◌++◌, length, drop, get_or, refl, sym, ap, subst, ◌∙◌, arith}
+use Rattle.std.proofs.Common.{◌≡◌, ℕ, Bool, true, false, List, [], ◌++◌, length, drop, get_or, refl, sym, ap, subst, ◌∙◌, arith}
 use Rattle.std.specs.Prelude.{◌==◌, MatchBool}
-use Rattle.std.proofs.lemmas.List.{get_or_append_left}
 use Rattle.std.specs.List.{flat_map}
 use Rattle.bmp_specs.specs.Parts.{IsCode, AreParts}
 use Rattle.bmp_specs.specs.Coded.{IsCoded}
 use Rattle.bmp_specs.specs.Open.{IsParameter, HasParameters, Announces, IsOpen, IsOpenMessage, capabilities_type, has_extended_length}
 use Rattle.bmp_specs.specs.Values.{CodedValue, OpenValue}
 use Rattle.bmp_specs.proofs.PartsRead.{AreParts-one}
-use Rattle.bmp_specs.proofs.PrefixCode.{same_front}
+use Rattle.bmp_specs.proofs.CodedCode.{coded_code}
 use Rattle.bmp_specs.proofs.BgpMessageCode.{message_code}
-
-same_coded : (v w : CodedValue) → v.code ≡ w.code → v.value ≡ w.value → v ≡ w
-same_coded v w code value = λ i. record { code = code i; value = value i }
-
-coded_one : (a b x y : List ℕ) (v w : CodedValue) → IsCoded a v → IsCoded b w → a ++ x ≡ b ++ y → (a ≡ b) × (v ≡ w)
-coded_one a b x y v w p q e =
-    let says : get_or a 1 0 ≡ get_or b 1 0 =
-    sym (get_or_append_left a x 0 1 (omega (arith, p.header))) ∙ ap (λ (l : List ℕ). get_or l 1 0) e ∙ get_or_append_left b y 0 1 (omega (arith, q.header)) in
-    let lengths : length a ≡ length b = sym p.length_is ∙ ap (λ (n : ℕ). n + 2) says ∙ q.length_is in
-    let same : a ≡ b = same_front a b x y lengths e in
-    (same, same_coded v w (sym p.code_is ∙ ap (λ (l : List ℕ). get_or l 0 0) same ∙ q.code_is) (sym p.value_is ∙ ap (λ (l : List ℕ). drop 2 l) same ∙ q.value_is))
-
-pub coded_code : IsCode IsCoded
-coded_code = record { some = λ v p. omega (arith, p.header); one = coded_one }
 
 -- the capabilities of one value are one list
 capabilities_one : (capable : Bool) (value : List ℕ) (cs ds : List CodedValue) → MatchBool capable (AreParts IsCoded value cs) (cs ≡ []) → MatchBool capable (AreParts IsCoded value ds) (ds ≡ []) → cs ≡ ds
@@ -32,7 +17,7 @@ capabilities_one false value cs ds p q = p ∙ sym q
 
 parameter_one : (a b x y : List ℕ) (cs ds : List CodedValue) → IsParameter a cs → IsParameter b ds → a ++ x ≡ b ++ y → (a ≡ b) × (cs ≡ ds)
 parameter_one a b x y cs ds p q e =
-    let same = coded_one a b x y p.parameter q.parameter p.is q.is e in (
+    let same = coded_code.one a b x y p.parameter q.parameter p.is q.is e in (
       same.0,
       capabilities_one (p.parameter.code == capabilities_type) p.parameter.value cs ds p.capabilities
           (subst (λ (v : CodedValue). MatchBool (v.code == capabilities_type) (AreParts IsCoded v.value ds) (ds ≡ [])) (sym same.1) q.capabilities),

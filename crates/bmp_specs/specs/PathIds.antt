@@ -18,8 +18,11 @@ can_receive o family = list_any (λ entry. is_entry_of family entry && (entry.va
 abbrev pub can_send : OpenValue → Family → Bool
 can_send o family = list_any (λ entry. is_entry_of family entry && (entry.value == 2 || entry.value == 3)) o.paths
 
+abbrev pub has_entry : OpenValue → Family → Bool
+has_entry o family = list_any (λ entry. is_entry_of family entry) o.paths
+
 -- whether the family uses identifiers, by the OPEN that the router sent and the one that it received
 abbrev pub uses_path_ids : OpenValue → OpenValue → Family → Side → Bool
 uses_path_ids sent received family Inward = can_receive sent family && can_send received family
 uses_path_ids sent received family Outward = can_send sent family && can_receive received family
-uses_path_ids sent received family Local = list_any (λ entry. is_entry_of family entry) sent.paths
+uses_path_ids sent received family Local = has_entry sent family
