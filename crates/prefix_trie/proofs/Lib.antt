@@ -1,2 +1,7 @@
 pub mod Firsts
 pub mod Alike
+pub mod FirstBits
+pub mod SharedBits
+pub mod Nearest
+pub mod Looks
+pub mod Search

@@ -5,13 +5,16 @@
 //! that list in full. The pairs stand in an ordered map of std, so each call but `longest` and `share`
 //! is one search.
 //!
-//! Proved: `insert`, `remove`, `get`, `after`, `at_or_after` and `len` are those of the list; `share`
-//! gives the same prefixes, each with a value that is alike by the trait `Share`.
-//! Begin with `src/trie.rt`, then `src/cursor.rt`.
+//! Proved: `insert`, `remove`, `get`, `after`, `at_or_after` and `len` are those of the list; `longest`
+//! gives the longest listed prefix that holds the address, in at most 130 looks, which `Steps` counts;
+//! `share` gives the same prefixes, each with a value that is alike by the trait `Share`.
+//! Begin with `src/trie.rt`, then `src/cursor.rt` and `src/longest.rt`.
 #![tactic(auto)]
 
+mod bits;
 mod cursor;
 mod held;
+mod longest;
 mod share;
 mod steps;
 mod trie;
