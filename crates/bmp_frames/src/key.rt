@@ -1,10 +1,14 @@
+ghost use Rattle.std.specs.Prelude.{◌≡◌, ◌≤◌, length};
 ghost use Rattle.std.proofs.Common.{rules};
 ghost use Rattle.std.specs.Cmp.{partial_order_from_own_ties};
 ghost use Rattle.std.specs.Cmp.Rules.{comparing};
 ghost use Rattle.std.specs.Ordering.{as_partial_cmp};
 ghost use Rattle.bmp_specs.specs.Orders.{key_cmp};
+ghost use Rattle.bmp_specs.specs.NumberText.{number_text};
+ghost use Rattle.bmp_specs.specs.PeerText.{key_text};
 
-use ip_prefix::Addr;
+use crate::distinguisher::digits_of;
+use ip_prefix::{Addr, ShortText};
 use std::cmp::Ordering;
 use std::marker::Model;
 
@@ -28,6 +32,31 @@ impl Model for PeerKey {
     ghost view = { λ k. record { kind = k.kind; distinguisher = k.distinguisher; address = k.address } };
 
     ghost inverse = { λ v. record { kind = v.kind; distinguisher = v.distinguisher; address = v.address } };
+}
+
+// The text of a peer type.
+fn kind_text(kind: u8) -> ShortText
+    ensures whole { result ≡ number_text kind }
+    ensures short { length result ≤ 3 }
+{
+    let mut text = ShortText::new();
+    text.put_number(kind as u64);
+    text
+}
+
+impl PeerKey {
+    /// Gives the text: the peer type, the distinguisher as 16 hexadecimal digits and the address, joined
+    /// by `-`.
+    pub fn text(&self) -> ShortText
+        ensures { result ≡ key_text self.now }
+    {
+        let mut text = kind_text(self.kind);
+        text.push(b'-');
+        text.extend(&digits_of(self.distinguisher));
+        text.push(b'-');
+        text.extend(self.address.text().as_slice());
+        text
+    }
 }
 
 impl Ord for PeerKey {

@@ -5,6 +5,7 @@ use Rattle.bmp_specs.specs.declared.wire.Family.TheVariants.{V4, V6}
 use Rattle.bmp_specs.specs.declared.wire.SegmentKind.TheVariants.{Set, Sequence, ConfedSequence, ConfedSet}
 use Rattle.bmp_specs.specs.declared.peers.View.TheVariants.{InPre, Loc}
 use Rattle.bmp_specs.specs.AddressText.{dotted, joined_groups, runs, shortened_run}
+use Rattle.bmp_specs.specs.PeerText.{distinguisher_text, hex_text}
 use Rattle.bmp_specs.specs.RouteLine.{route_line}
 use Rattle.bmp_specs.specs.Rows.{RowValue}
 use Rattle.bmp_specs.specs.Values.{AddressValue}
@@ -33,7 +34,7 @@ usual_row = record {
 }
 
 pub usual_route_line : route_line 0 usual_row ≡ codes "route 0 0-0000000000000000-192.0.2.1 adj-in-pre 10.0.0.0/8 next=192.0.2.1 origin=igp path=64500 med=- pref=- atomic=no agg=- comm=- other=-\n"
-unfolding digits dotted
+unfolding digits dotted distinguisher_text hex_text
 usual_route_line = refl
 
 abbrev full_row : RowValue
@@ -57,5 +58,5 @@ full_row = record {
 }
 
 pub full_route_line : route_line 12 full_row ≡ codes "route 12 3-0000000000000001-0.0.0.0 loc 2001:db8::/32 next=2001:db8::1,fe80::1 origin=3 path=64500_64501_{1,2}_(3)_[] med=10 pref=100 atomic=yes agg=64500:192.0.2.1 comm=64500:100,0:65535 other=16,32 id=7\n"
-unfolding digits dotted joined_groups runs shortened_run
+unfolding digits dotted joined_groups runs shortened_run distinguisher_text hex_text
 full_route_line = refl

@@ -21,12 +21,12 @@ abbrev pub hex_digits : List ℕ
 hex_digits = codes "0123456789abcdef"
 
 -- each byte as two digits, the high four bits first
-abbrev pub hex_text : List ℕ → List ℕ
+unfoldable pub hex_text : List ℕ → List ℕ
 hex_text [] = []
 hex_text (b ∷ bs) = slice_index hex_digits (b / 16) ∷ slice_index hex_digits (b % 16) ∷ hex_text bs
 
 -- the eight bytes of a distinguisher
-abbrev pub distinguisher_text : ℕ → List ℕ
+unfoldable pub distinguisher_text : ℕ → List ℕ
 distinguisher_text d = hex_text (big_bytes 8 d)
 
 -- the text of a peer
