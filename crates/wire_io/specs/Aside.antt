@@ -1,16 +1,20 @@
 -- What an object holds beside the side that is written to: the connections that a link gives, and what lies over it.
 use Rattle.std.specs.Prelude.{ℕ, Bool, false, List, [], ◌∷◌, Option, None}
-use Rattle.wire_io.specs.declared.reads.LastRead.{LastRead}
+use Rattle.bmp_specs.specs.Life.{LastRead, gave}
 
 -- the connections that an object was made with, and the numbers of its calls that fail
 pub record Plan : Type 0 where
   pub connections : List (List ℕ)
   pub fails : List ℕ
 
--- a connection that was given: its bytes that were given, and what its last read did
+-- a connection that was given: its bytes that were given, and how its last read went
 pub record Given : Type 0 where
   pub bytes : List ℕ
   pub last : LastRead
+
+-- a connection of which no byte was given yet
+abbrev pub fresh : Given
+fresh = record { bytes = []; last = gave }
 
 pub record Aside : Type 0 where
   -- the plan, where it is shown; it stays through the object's life

@@ -1,0 +1,145 @@
+-- What ports and yards tell, and what their calls do to it.
+use Rattle.std.specs.Prelude.{◌≡◌, ℕ, ◌+◌, ◌-◌, ◌^◌, ◌<◌, min, Bool, true, false, List, [], ◌∷◌, ◌++◌, length, take, Option, Some, None, Result, Ok, Err, IfOk, OnErr, IfSome, Contains, ◌⊎◌, nat_eq, if◌then◌else◌}
+use Rattle.std.specs.Io.KnownBytes.{ReadConsumes}
+use Rattle.bmp_specs.specs.Life.{LastRead, gave, gave_none, failed, most_taken, most_read}
+use Rattle.wire_io.specs.declared.sink.Failed.{Failed}
+use Rattle.wire_io.specs.Aside.{Aside, Given, Plan, fresh}
+use Rattle.wire_io.specs.Faults.{HasCause}
+
+-- one more, at most what 64 bits hold
+abbrev pub one_more : ℕ → ℕ
+one_more n = min (n + 1) (2 ^ 64 - 1)
+
+-- what a port with this plan shows that has answered no call yet
+abbrev pub untouched : Plan → Aside
+untouched plan = record { plan = Some plan; coming = Some plan.connections; rest = Some []; given = Some []; opened = 0; taken = 0; refused = false; open_faults = 0; read_faults = 0; laid = [] }
+
+-- The connections to come, and what the present one has left, where they are told: the next connection was opened, where
+-- true, and there was none, where false. A failed call leaves what is to come.
+abbrev pub OpensNext : Option (List (List ℕ)) → Option (List (List ℕ)) → Option (List ℕ) → Result Bool Failed → Type 0
+OpensNext None after rest result = after ≡ None
+OpensNext (Some before) None rest result = ⊥
+OpensNext (Some before) (Some after) None (Ok true) = ⊥
+OpensNext (Some before) (Some after) (Some rest) (Ok true) = before ≡ rest ∷ after
+OpensNext (Some before) (Some after) rest (Ok false) = (before ≡ []) × (after ≡ [])
+OpensNext (Some before) (Some after) rest (Err e) = after ≡ before
+
+-- the connections given, where a further one is opened
+abbrev pub GivesNext : Option (List Given) → Option (List Given) → Result Bool Failed → Type 0
+GivesNext None after result = after ≡ None
+GivesNext (Some before) after (Ok true) = after ≡ Some (before ++ fresh ∷ [])
+GivesNext (Some before) after (Ok false) = after ≡ Some before
+GivesNext (Some before) after (Err e) = after ≡ Some before
+
+abbrev pub opened_after : ℕ → Result Bool Failed → ℕ
+opened_after n (Ok true) = one_more n
+opened_after n (Ok false) = n
+opened_after n (Err e) = n
+
+abbrev pub taken_after : ℕ → Result Bool Failed → ℕ
+taken_after n (Ok true) = 0
+taken_after n (Ok false) = n
+taken_after n (Err e) = n
+
+abbrev pub is_refusal : Result Bool Failed → Bool
+is_refusal (Ok true) = false
+is_refusal (Ok false) = true
+is_refusal (Err e) = false
+
+-- what a call does that opens the next connection
+pub record Opens (old new : Aside) (result : Result Bool Failed) : Type 0 where
+  pub plan : new.plan ≡ old.plan
+  pub coming : OpensNext old.coming new.coming new.rest result
+  pub given : GivesNext old.given new.given result
+  pub opened : new.opened ≡ opened_after old.opened result
+  pub taken : new.taken ≡ taken_after old.taken result
+  pub refused : new.refused ≡ is_refusal result
+  pub cause : HasCause old.open_faults new.open_faults result
+  pub calm : new.read_faults ≡ old.read_faults
+  pub laid : new.laid ≡ old.laid
+
+-- the connections given, after the present one gave these bytes
+abbrev pub given_more : List Given → List ℕ → LastRead → List Given
+given_more [] bytes last = []
+given_more (g ∷ []) bytes last = record { bytes = g.bytes ++ bytes; last = last } ∷ []
+given_more (g ∷ h ∷ gs) bytes last = g ∷ given_more (h ∷ gs) bytes last
+
+-- how a read went that gave so many bytes
+abbrev pub read_of : ℕ → LastRead
+read_of n = if nat_eq n 0 then gave_none else gave
+
+-- the connections given, after a read
+abbrev pub GivesBytes : Option (List Given) → Option (List Given) → Result ℕ Failed → List ℕ → Type 0
+GivesBytes None after result buf = after ≡ None
+GivesBytes (Some before) after (Ok n) buf = after ≡ Some (given_more before (take n buf) (read_of n))
+GivesBytes (Some before) after (Err e) buf = after ≡ Some (given_more before [] failed)
+
+abbrev pub taken_by : ℕ → Result ℕ Failed → ℕ
+taken_by taken (Ok n) = taken + n
+taken_by taken (Err e) = taken
+
+-- what a read does
+pub record Reads (old new : Aside) (result : Result ℕ Failed) (buf : List ℕ) : Type 0 where
+  pub plan : new.plan ≡ old.plan
+  pub coming : new.coming ≡ old.coming
+  pub rest : ReadConsumes old.rest new.rest result buf
+  pub given : GivesBytes old.given new.given result buf
+  pub opened : new.opened ≡ old.opened
+  pub taken : new.taken ≡ taken_by old.taken result
+  pub refused : new.refused ≡ old.refused
+  pub cause : HasCause old.read_faults new.read_faults result
+  pub calm : new.open_faults ≡ old.open_faults
+  pub laid : new.laid ≡ old.laid
+
+-- what closing the present connection does: what it has left is no more of interest, the rest stays
+pub record Closes (old new : Aside) : Type 0 where
+  pub same : new ≡ record old { rest = new.rest }
+
+-- how many bytes are asked for, where so many were taken of the connection
+abbrev pub read_size : ℕ → ℕ
+read_size taken = min most_read (most_taken - taken)
+
+-- a call of a planned port fails exactly where its number is among those that do
+abbrev pub AsPlanned : Option Plan → ℕ → ℕ → Result ℕ Failed → Type 0
+AsPlanned None before after result = Unit {0}
+AsPlanned (Some plan) before after (Ok n) = (after ≡ one_more before) × (Contains plan.fails before → ⊥)
+AsPlanned (Some plan) before after (Err e) = (after ≡ one_more before) × Contains plan.fails before
+
+-- a port that was given back: its number, and what it showed
+pub record Returned : Type 0 where
+  pub lane : ℕ
+  pub shows : Aside
+
+-- what a yard tells
+pub record YardValue : Type 0 where
+  -- the plans of the ports that it will hand out, in order, of which none has answered a call yet
+  pub ports : List Plan
+  -- the numbers of its calls that fail
+  pub fails : List ℕ
+  -- under which numbers a port was handed out and not given back since, the last first
+  pub out : List ℕ
+  -- the ports that were given back
+  pub back : List Returned
+
+-- A call of this number hands out the next port under this number, or fails: exactly where the plan says so, or nothing is
+-- left to hand out. The port has answered no call yet.
+abbrev pub HandsOut : {P : Type 0} → (P → Aside) → (P → ℕ) → ℕ → ℕ → Option YardValue → Option YardValue → Result P Failed → Type 0
+HandsOut shows calls lane number None new result = new ≡ None
+HandsOut shows calls lane number (Some old) new (Ok port) = (Contains old.fails number → ⊥) × (plan : Plan) × (rest : List Plan) × (old.ports ≡ plan ∷ rest)
+    × (new ≡ Some (record old { ports = rest; out = lane ∷ old.out })) × (shows port ≡ untouched plan) × (calls port ≡ 0)
+HandsOut shows calls lane number (Some old) new (Err e) = (Contains old.fails number ⊎ (old.ports ≡ [])) × (new ≡ Some old)
+
+-- the list without the first place of this number
+abbrev pub without : ℕ → List ℕ → List ℕ
+without n [] = []
+without n (x ∷ xs) = if nat_eq x n then xs else x ∷ without n xs
+
+-- A port is given back under this number: it is shown where one was handed out under it and not given back since, else it
+-- is dropped.
+pub record TakesBackTold (lane : ℕ) (shows : Aside) (old : YardValue) (new : Option YardValue) : Type 0 where
+  pub lent : Contains old.out lane → new ≡ Some (record old { out = without lane old.out; back = old.back ++ record { lane = lane; shows = shows } ∷ [] })
+  pub dropped : (Contains old.out lane → ⊥) → new ≡ Some old
+
+abbrev pub TakesBack : ℕ → Aside → Option YardValue → Option YardValue → Type 0
+TakesBack lane shows None new = new ≡ None
+TakesBack lane shows (Some old) new = TakesBackTold lane shows old new

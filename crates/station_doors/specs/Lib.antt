@@ -1,0 +1,5 @@
+pub mod Doors
+pub mod LastRead
+pub mod MemPort
+pub mod MemYard
+pub mod Unplaced

@@ -1,0 +1,62 @@
+ghost use Rattle.std.specs.Prelude.{◌≡◌, ℕ, ◌<◌, Option, None, length};
+ghost use Rattle.std.specs.Io.{ReadsAtMost};
+ghost use Rattle.wire_io.specs.Aside.{Aside};
+ghost use Rattle.wire_io.specs.Faults.{HasCause};
+ghost use Rattle.station_doors.specs.Doors.{Opens, Reads, Closes, AsPlanned, read_size, YardValue, HandsOut, TakesBack, one_more};
+
+use wire_io::Failed;
+
+/// The place of one router, which gives one connection after another.
+pub trait Port {
+    /// What it tells: its plan, the connections that it gave, and its counts.
+    ghost aside: { Self → Aside };
+
+    /// How many of its calls were made that its plan numbers.
+    ghost calls: { Self → ℕ } = { λ _. 0 };
+
+    /// Opens the next connection, of which no byte was given. False where there is none.
+    fn next_connection(&mut self) -> Result<bool, Failed>
+        ensures opens { Opens (aside self.old) (aside self.new) result }
+        ensures calls { calls self.new ≡ calls self.old };
+
+    /// Gives the next bytes of the present connection, at least one, or none at its end. It is asked for
+    /// 65,536 bytes, or for what is left up to 2^46 bytes of one connection.
+    fn read(&mut self, buf: &mut [u8]) -> Result<usize, Failed>
+        requires some { 0 < length buf.old }
+        requires size { length buf.old ≡ read_size (aside self.old).taken }
+        ensures bound { ReadsAtMost result buf.new }
+        ensures reads { Reads (aside self.old) (aside self.new) result buf.new }
+        ensures planned { AsPlanned (aside self.old).plan (calls self.old) (calls self.new) result };
+
+    /// Closes the present connection.
+    fn close(&mut self)
+        ensures closes { Closes (aside self.old) (aside self.new) }
+        ensures calls { calls self.new ≡ calls self.old };
+}
+
+/// Hands out the ports, and takes them back.
+pub trait Yard {
+    type Port: Port + Drop;
+
+    /// What it tells, where it tells anything.
+    ghost told: { Self → Option YardValue } = { λ _. None };
+
+    /// The count of faults. It never falls.
+    ghost faults: { Self → ℕ };
+
+    /// How many of its calls that answer a `Result` were made.
+    ghost calls: { Self → ℕ };
+
+    /// Hands out a port under this number. Port 0 is the program's one input connection.
+    fn port(&mut self, lane: u32) -> Result<Self::Port, Failed>
+        requires { lane ≡ 0 }
+        ensures told { HandsOut Self.Port.aside Self.Port.calls lane (calls self.old) (told self.old) (told self.new) result }
+        ensures calls { calls self.new ≡ one_more (calls self.old) }
+        ensures cause { HasCause (faults self.old) (faults self.new) result };
+
+    /// Takes back what was handed out under this number. It raises no count.
+    fn take_port(&mut self, lane: u32, port: Self::Port)
+        ensures told { TakesBack lane (Self.Port.aside port) (told self.old) (told self.new) }
+        ensures calls { calls self.new ≡ calls self.old }
+        ensures calm { faults self.new ≡ faults self.old };
+}

@@ -1,0 +1,19 @@
+//! Where connections come from: ports, and the yards that hand them out.
+//!
+//! A port is the place of one router and gives one connection after another; a yard hands ports out and
+//! takes them back. Each counts its faults, and answers `Failed` only where its count rose in that call.
+//! `MemPort` and `MemYard` hold everything in memory and tell it to contracts: the plan, each byte that
+//! was given, how the last read went. `HostYard` is standard input, and tells nothing of content.
+//!
+//! Begin with `specs/Doors.antt`, which says what each call does to what is told, then `src/doors.rt`.
+#![tactic(auto)]
+
+mod doors;
+mod host;
+mod mem_port;
+mod mem_yard;
+
+pub use doors::{Port, Yard};
+pub use host::{HostPort, HostYard};
+pub use mem_port::MemPort;
+pub use mem_yard::{MemYard, PortList, Unplaced};
