@@ -1,2 +1,4 @@
 pub mod Front
 pub mod End
+pub mod Values
+pub mod Rows
