@@ -28,3 +28,6 @@ pub use message::{BgpFrame, bgp_frame};
 pub use open::Open;
 pub use peer::{DownInfo, PeerInfo};
 pub use read::read_open;
+
+#[cfg(test)]
+mod tests;
