@@ -62,3 +62,11 @@ front-kind bytes kind size s = get_or-take size bytes 18 0 (omega (arith, s.head
 -- one message begins the bytes at most
 pub BeginsWithMessage-one : (bytes : List ℕ) (k l m n : ℕ) → BeginsWithMessage bytes k m → BeginsWithMessage bytes l n → (k ≡ l) × (m ≡ n)
 BeginsWithMessage-one bytes k l m n p q = (sym p.kind_is ∙ q.kind_is, sym p.length_is ∙ q.length_is)
+
+-- a message that begins the bytes and ends with them is all of them
+pub BeginsWithMessage-whole : (bytes : List ℕ) (kind size : ℕ) → BeginsWithMessage bytes kind size → size ≡ length bytes → IsBgpMessage bytes (record { kind = kind; body = drop header_length bytes })
+BeginsWithMessage-whole bytes kind size s e = record { header = omega (arith, s.header, e); marker_is = s.marker_is; length_is = s.length_is ∙ e; kind_is = s.kind_is; body_is = refl }
+
+-- all of the bytes begin them
+pub whole-BeginsWithMessage : (bytes : List ℕ) (m : BgpMessageValue) → IsBgpMessage bytes m → BeginsWithMessage bytes m.kind (length bytes)
+whole-BeginsWithMessage bytes m is = record { within = omega arith; header = is.header; marker_is = is.marker_is; length_is = is.length_is; kind_is = is.kind_is }
