@@ -1,16 +1,15 @@
 -- What a port in memory shows, as its connections are opened and given.
-use Rattle.std.proofs.Common.{◌≡◌, ℕ, zero, suc, ◌+◌, ◌-◌, ◌^◌, ◌<◌, ◌≤◌, min, length, get_or, take, drop, map, List, [], ◌∷◌, ◌++◌, Option, Some, None, Bool, true, false, Ok, Err, refl, ap, sym, ◌∙◌, subst, append-nil, take-append-drop, length-drop, arith}
+use Rattle.std.proofs.Common.{◌≡◌, ℕ, ◌+◌, ◌-◌, ◌^◌, ◌<◌, ◌≤◌, min, length, get_or, take, drop, map, List, [], ◌∷◌, ◌++◌, Some, Bool, true, false, Ok, Err, refl, ap, sym, ◌∙◌, append-nil, take-append-drop, length-drop, arith}
 use Rattle.std.proofs.lemmas.List.{take_more, take_more_set, drop_more, drop-set-lt, drop-drop, map-append, nil_from_length}
 use Rattle.std.proofs.Math.Seq.{take-add, map-set_same}
 use Rattle.std.proofs.Math.ListN.{set}
-use Rattle.bmp_specs.specs.Life.{LastRead, gave, failed}
+use Rattle.bmp_specs.specs.Life.{LastRead, failed}
 use Rattle.wire_io.specs.declared.sink.Failed.{Failed}
-use Rattle.wire_io.specs.Aside.{Given, fresh}
-use Rattle.wire_io.specs.Faults.{HasCause}
+use Rattle.wire_io.specs.Aside.{Given}
 use Rattle.station_doors.specs.declared.mem_port.Last.{Last}
 use Rattle.station_doors.specs.declared.mem_port.Last.TheVariants.{Gave, Fault}
 use Rattle.station_doors.specs.declared.mem_port.Session.{Session}
-use Rattle.station_doors.specs.Doors.{Opens, Reads, given_more, read_of, one_more}
+use Rattle.station_doors.specs.Doors.{Opens, Reads, given_more, read_of}
 use Rattle.station_doors.specs.LastRead.{last_of}
 use Rattle.station_doors.specs.MemPort.{bytes_of, given_of, rest_of, shows_of, IsGiven}
 
@@ -19,7 +18,8 @@ rest_last [] s = refl
 rest_last (x ∷ []) s = refl
 rest_last (x ∷ y ∷ xs) s = rest_last (y ∷ xs) s
 
-given_more_last : (gs : List Given) (g : Given) (bytes : List ℕ) (last : LastRead) → given_more (gs ++ g ∷ []) bytes last ≡ gs ++ record { bytes = g.bytes ++ bytes; last = last } ∷ []
+-- the last connection gave more
+pub given_more_last : (gs : List Given) (g : Given) (bytes : List ℕ) (last : LastRead) → given_more (gs ++ g ∷ []) bytes last ≡ gs ++ record { bytes = g.bytes ++ bytes; last = last } ∷ []
 given_more_last [] g bytes last = refl
 given_more_last (x ∷ []) g bytes last = refl
 given_more_last (x ∷ y ∷ gs) g bytes last = ap (λ (l : List Given). x ∷ l) (given_more_last (y ∷ gs) g bytes last)

@@ -1,5 +1,5 @@
 -- What ports and yards tell, and what their calls do to it.
-use Rattle.std.specs.Prelude.{◌≡◌, ℕ, ◌+◌, ◌-◌, ◌^◌, ◌<◌, min, Bool, true, false, List, [], ◌∷◌, ◌++◌, length, take, Option, Some, None, Result, Ok, Err, IfOk, OnErr, IfSome, Contains, ◌⊎◌, nat_eq, if◌then◌else◌}
+use Rattle.std.specs.Prelude.{◌≡◌, ℕ, ◌+◌, ◌-◌, ◌^◌, min, Bool, true, false, List, [], ◌∷◌, ◌++◌, take, Option, Some, None, Result, Ok, Err, Contains, ◌⊎◌, nat_eq, if◌then◌else◌}
 use Rattle.std.specs.Io.KnownBytes.{ReadConsumes}
 use Rattle.bmp_specs.specs.Life.{LastRead, gave, gave_none, failed, most_taken, most_read}
 use Rattle.wire_io.specs.declared.sink.Failed.{Failed}

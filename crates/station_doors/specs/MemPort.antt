@@ -1,7 +1,7 @@
 -- A port in memory.
-use Rattle.std.specs.Prelude.{◌≡◌, ℕ, List, [], ◌∷◌, ◌++◌, Option, Some, None, Bool, map, take, drop, slice_get, unwrap_or, min, length, Result, IfOk}
+use Rattle.std.specs.Prelude.{◌≡◌, ℕ, List, [], ◌∷◌, ◌++◌, Some, Bool, map, take, drop, slice_get, unwrap_or, min, length, Result, IfOk}
 use Rattle.wire_io.specs.declared.sink.Failed.{Failed}
-use Rattle.wire_io.specs.Aside.{Aside, Given, Plan}
+use Rattle.wire_io.specs.Aside.{Aside, Given}
 use Rattle.station_doors.specs.LastRead.{last_of}
 use Rattle.station_doors.specs.Doors.{read_of}
 use Rattle.station_doors.specs.declared.mem_port.Session.{Session}

@@ -1,6 +1,6 @@
 -- A yard in memory.
 use Rattle.std.specs.Prelude.{◌≡◌, ℕ, List, [], map, unwrap_or}
-use Rattle.wire_io.specs.Aside.{Aside, Plan}
+use Rattle.wire_io.specs.Aside.{Plan}
 use Rattle.station_doors.specs.MemPort.{MemPortValue}
 use Rattle.station_doors.specs.Doors.{YardValue, Returned, untouched}
 use Rattle.station_doors.specs.declared.mem_yard.Back.{Back}

@@ -1,4 +1,4 @@
-ghost use Rattle.std.specs.Prelude.{◌≡◌, ℕ, ◌<◌, Option, None, length};
+ghost use Rattle.std.specs.Prelude.{◌≡◌, ℕ, ◌<◌, Option, None, IfSome, IsOk, length};
 ghost use Rattle.std.specs.Io.{ReadsAtMost};
 ghost use Rattle.wire_io.specs.Aside.{Aside};
 ghost use Rattle.wire_io.specs.Faults.{HasCause};
@@ -17,6 +17,7 @@ pub trait Port {
     /// Opens the next connection, of which no byte was given. False where there is none.
     fn next_connection(&mut self) -> Result<bool, Failed>
         ensures opens { Opens (aside self.old) (aside self.new) result }
+        ensures planned { IfSome (aside self.old).plan (λ _. IsOk result) }
         ensures calls { calls self.new ≡ calls self.old };
 
     /// Gives the next bytes of the present connection, at least one, or none at its end. It is asked for

@@ -1,5 +1,4 @@
-use Rattle.std.proofs.Common.{◌≡◌, ◌∙◌, sym}
-use Rattle.std.specs.List.{remove}
+use Rattle.std.proofs.Common.{◌∙◌}
 use Rattle.station_doors.proofs.Lent.{removed}
 use Rattle.station_doors.proofs.mem_yard.take_out.Goals as goal
 

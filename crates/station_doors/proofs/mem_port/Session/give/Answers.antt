@@ -1,4 +1,4 @@
-use Rattle.std.proofs.Common.{◌≡◌, ◌≤◌, arith, ap, length}
+use Rattle.std.proofs.Common.{◌≡◌, arith, ap, length}
 use Rattle.station_doors.proofs.Sessions.{gives}
 use Rattle.station_doors.proofs.mem_port.Session.give.Goals as goal
 

@@ -1,8 +1,7 @@
-use Rattle.std.proofs.Common.{◌≡◌, ◌<◌, ◌∷◌, ◌∙◌, arith, rules, length, sym, ap, map, Some, List, ℕ, subst}
+use Rattle.std.proofs.Common.{◌≡◌, ◌<◌, ◌∷◌, ◌∙◌, rules, length, sym, ap, map, Some, List, ℕ}
 use Rattle.std.specs.List.{Contains}
-use Rattle.station_doors.specs.Doors.{YardValue}
 use Rattle.station_doors.specs.MemPort.{MemPortValue}
-use Rattle.station_doors.specs.MemYard.{plan_of, returned_of, IsUntouched}
+use Rattle.station_doors.specs.MemYard.{plan_of, returned_of}
 use Rattle.station_doors.proofs.Lent.{handed}
 use Rattle.station_doors.proofs.mem_yard.MemYardYard.port.Goals as goal
 
