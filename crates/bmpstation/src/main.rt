@@ -1,0 +1,39 @@
+//! The program: its words, standard input and standard output, handed to the station.
+//!
+//! It ends with the status that `station` answers. All that it does is proved and said there
+//! (`station_top`); what standard input holds and where standard output goes is not.
+#![tactic(auto)]
+
+use station_doors::HostYard;
+use station_top::{Status, station};
+use std::io::ErrorKind;
+use std::process::ExitCode;
+use wire_io::{NoMemory, StdSink};
+
+// The words after the program's name. Where one of them is no text there is none, which is no command.
+fn words(rt: &HostRuntime) -> Result<Vec<String>, NoMemory> {
+    let mut words = Vec::new(rt.alloc());
+    match std::env::args(rt) {
+        Ok(all) => {
+            for word in all.skip(1) {
+                words.push(word)?;
+            }
+        }
+        Err(error) => {
+            if error.kind() == ErrorKind::OutOfMemory {
+                return Err(NoMemory);
+            }
+        }
+    }
+    Ok(words)
+}
+
+fn main(rt: HostRuntime) -> ExitCode {
+    let mut yard = HostYard::new(rt.stdin());
+    let mut out = StdSink::new(rt.stdout());
+    let status = match words(&rt) {
+        Ok(words) => station(rt.alloc(), words.as_slice(), &mut yard, &mut out),
+        Err(NoMemory) => Status::NoMemory,
+    };
+    ExitCode::from(status.code())
+}

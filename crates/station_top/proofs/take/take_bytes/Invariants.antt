@@ -1,0 +1,13 @@
+use Rattle.std.proofs.Common.{◌≡◌, ◌-◌, ◌≤◌, length}
+use Rattle.station_top.proofs.Taking.{Goes}
+use Rattle.station_top.proofs.take.take_bytes.Given as goal
+
+abbrev pub invariant-loop-taken : goal.invariant-loop-taken
+invariant-loop-taken g l = record {
+  goes : Goes (g.P.Port.aside l.initial.port) (g.P.Port.aside l.port) (g.P.Port.calls l.initial.port) (g.P.Port.calls l.port) l.taken;
+  within : l.taken ≤ 70368744177664;
+  room : length l.buf ≡ 65536;
+}
+
+abbrev pub decreases-loop-taken : goal.decreases-loop-taken
+decreases-loop-taken g l = 70368744177664 - l.taken

@@ -1,0 +1,4 @@
+pub mod Input
+pub mod Take
+pub mod Status
+pub mod Station

@@ -1,0 +1,21 @@
+//! The station itself: words and connections in, a reply and a status out.
+//!
+//! `station` is the top call: the program hands it its words, the yard and standard output, and ends with
+//! the status that it answers. Proved: which status comes, by the words and by what a yard in memory
+//! tells; which bytes were written; that a write fault and a yard's fault are answered exactly where one
+//! was counted; how many calls of the yard were made; and that the port is given back as it is.
+//!
+//! It answers `replay table` on the empty stream; every other stream is taken to its end and answered by
+//! the line `unbuilt`. Begin with `specs/Station.antt`, then `src/top.rt`.
+#![tactic(auto)]
+
+mod status;
+mod take;
+mod top;
+
+pub use status::Status;
+pub use take::{MOST_READ, MOST_TAKEN};
+pub use top::station;
+
+#[cfg(test)]
+mod tests;

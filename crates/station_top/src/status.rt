@@ -1,0 +1,42 @@
+ghost use Rattle.std.specs.Prelude.{◌≡◌};
+
+/// How a call of the station ended.
+#[derive(Clone, Copy, Debug, PartialEq, Eq)]
+pub enum Status {
+    /// Done.
+    Done,
+    /// The stream is broken, cut short, or too long for one connection.
+    Stopped,
+    /// The words are no command.
+    Usage,
+    /// A read failed, or no connection could be opened.
+    ReadFault,
+    /// A write failed. It takes the place of every other status.
+    WriteFault,
+    /// Want of memory ended the call.
+    NoMemory,
+    /// The yard failed.
+    YardFault,
+    /// The stream isn't empty, and the station reads no messages yet.
+    Unbuilt,
+}
+
+impl Status {
+    ghost use Rattle.station_top.specs.Status.{code_of};
+
+    /// The exit status of the program.
+    pub fn code(&self) -> u8
+        ensures { result ≡ code_of self.now }
+    {
+        match self {
+            Status::Done => 0,
+            Status::Stopped => 1,
+            Status::Usage => 2,
+            Status::ReadFault => 3,
+            Status::WriteFault => 4,
+            Status::NoMemory => 5,
+            Status::YardFault => 6,
+            Status::Unbuilt => 7,
+        }
+    }
+}
