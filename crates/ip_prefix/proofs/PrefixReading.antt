@@ -50,13 +50,13 @@ cut_at text slash p is found =
       back = take_rest text (slash + 1) ∙ ap (λ (n : ℕ). drop n text) past ∙ ap (λ (l : List ℕ). drop (length (is.front ++ (47 ∷ []))) l) longer ∙ drop-append_seam (is.front ++ (47 ∷ [])) is.back;
     }
 
-same_family_in : (f g : Family) (text os ps : List ℕ) → IsTextIn f text os → IsTextIn g text ps → f ≡ g
+pub same_family_in : (f g : Family) (text os ps : List ℕ) → IsTextIn f text os → IsTextIn g text ps → f ≡ g
 same_family_in V4 V4 text os ps a b = refl
 same_family_in V6 V6 text os ps a b = refl
 same_family_in V4 V6 text os ps (numbers, a, _) (groups, b, _) = absurd (no_dot text groups (v4_has_dot text numbers (v4_to text numbers a)) (v6_lacks 46 (omega arith) (λ e. omega (arith, e)) text groups b))
 same_family_in V6 V4 text os ps (groups, a, _) (numbers, b, _) = absurd (no_dot text groups (v4_has_dot text numbers (v4_to text numbers b)) (v6_lacks 46 (omega arith) (λ e. omega (arith, e)) text groups a))
 
-same_number : (text : List ℕ) (m n : ℕ) → IsNumberText text m → IsNumberText text n → m ≡ n
+pub same_number : (text : List ℕ) (m n : ℕ) → IsNumberText text m → IsNumberText text n → m ≡ n
 same_number text m n a b = decimal_injective m n (omega (arith, a.within)) (omega (arith, b.within)) (sym a.spelled ∙ b.spelled)
 
 -- the text after the slash
@@ -95,7 +95,7 @@ no_number text slash found none p is = none is.bits (subst (λ (l : List ℕ). I
 same_bits : (text : List ℕ) (slash bits : ℕ) → Some slash ≡ position (λ b. b == 47) text → IsNumberText (after text slash) bits → (p : PrefixValue) (is : IsPrefixText text p) → bits ≡ is.bits
 same_bits text slash bits found number p is = same_number is.back bits is.bits (subst (λ (l : List ℕ). IsNumberText l bits) (cut_at text slash p is found).back number) is.is_number
 
-width_within : (family : Family) → width_of family ≤ 128
+pub width_within : (family : Family) → width_of family ≤ 128
 width_within V4 = omega arith
 width_within V6 = omega arith
 
@@ -109,3 +109,11 @@ not_within text slash bits a None found is_a number within = λ p is.
     let family : is.address.family ≡ a.family = same_family_in is.address.family a.family is.front is.address.octets a.octets is.is_address (subst (λ (l : List ℕ). IsAddressText l a) (cut_at text slash p is found).front is_a) in
     let some : false ≡ true = within.1 (omega (arith, same_bits text slash bits found number p is, is.within, ap width_of family)) in
     cc
+
+-- two readings of one text have one front and one back
+pub same_cut : (text : List ℕ) (p q : PrefixValue) (is_p : IsPrefixText text p) (is_q : IsPrefixText text q) → (is_p.front ≡ is_q.front) × (is_p.back ≡ is_q.back)
+same_cut text p q is_p is_q =
+    let found = sym (found_at text is_p.front is_p.back is_p.spelled (slash_lacks is_p.front is_p.address is_p.is_address)) in
+    let one = cut_at text (length is_p.front) p is_p found in
+    let two = cut_at text (length is_p.front) q is_q found in
+    (sym one.front ∙ two.front, sym one.back ∙ two.back)

@@ -32,7 +32,7 @@ same None (Some q) = false
 same (Some p) None = false
 same (Some p) (Some q) = (p.0 == q.0) && (p.1 == q.1)
 
-and-true : (a b : Bool) → (a && b) ≡ true → (a ≡ true) × (b ≡ true)
+pub and-true : (a b : Bool) → (a && b) ≡ true → (a ≡ true) × (b ≡ true)
 and-true true b e = (refl, e)
 and-true false b e = absurd cc
 

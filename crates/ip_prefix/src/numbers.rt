@@ -1,4 +1,4 @@
-ghost use Rattle.std.specs.Prelude.{◌≡◌, ℕ, ◌≤◌, ◌-◌, IfSome, IfNone};
+ghost use Rattle.std.specs.Prelude.{◌≡◌, ℕ, ◌≤◌, ◌-◌, ◌<◌, ◌↔◌, length, slice_index, IsTrue, IfSome, IfNone};
 ghost use Rattle.bmp_specs.specs.NumberText.{IsNumberText, IsNumberUpTo};
 
 // The value of a decimal digit.
@@ -12,6 +12,13 @@ fn decimal_digit(byte: u8) -> Option<u64>
     }
 }
 
+// Whether a zero stands before other bytes.
+fn has_leading_zero(text: &[u8]) -> bool
+    ensures { IsTrue result ↔ (1 < length text.now) × (slice_index text.now 0 ≡ 48) }
+{
+    text.len() > 1 && text[0] == b'0'
+}
+
 /// Reads a number of at most `most`: `0`, or decimal digits without a leading zero. None exactly where
 /// the text is no such number.
 pub fn parse_number_up_to(text: &[u8], most: u64) -> Option<u64>
@@ -21,7 +28,7 @@ pub fn parse_number_up_to(text: &[u8], most: u64) -> Option<u64>
     if text.is_empty() {
         return None;
     }
-    if text.len() > 1 && text[0] == b'0' {
+    if has_leading_zero(text) {
         return None;
     }
     let mut number: u64 = 0;

@@ -43,6 +43,7 @@ fn parse_v6(text: &[u8]) -> Option<Addr>
 /// 4291, section 2.2. None exactly where the text is neither.
 pub fn parse_addr(text: &[u8]) -> Option<Addr>
     ensures some { IfSome result (λ a. IsAddressText text.now a) }
+    ensures only { IfSome result (λ a. (b : AddressValue) → IsAddressText text.now b → b ≡ a) }
     ensures none { IfNone result ((a : AddressValue) → IsAddressText text.now a → ⊥) }
 {
     if has_dot(text) {
@@ -63,6 +64,7 @@ fn first_slash(text: &[u8]) -> Option<usize>
 /// are set past that number are cleared. None exactly where the text is no prefix.
 pub fn parse_prefix(text: &[u8]) -> Option<Prefix>
     ensures some { IfSome result (λ p. IsPrefixText text.now p) }
+    ensures only { IfSome result (λ p. (q : PrefixValue) → IsPrefixText text.now q → q ≡ p) }
     ensures none { IfNone result ((p : PrefixValue) → IsPrefixText text.now p → ⊥) }
 {
     let Some(slash) = first_slash(text) else {

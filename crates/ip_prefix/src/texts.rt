@@ -1,7 +1,7 @@
 ghost use Rattle.std.specs.Prelude.{◌≡◌, ◌+◌, ◌*◌, ◌<◌, ◌≤◌, [], ◌∷◌, ◌++◌, IfSome, length};
 ghost use Rattle.std.specs.Net.Addr.{segments_of};
-ghost use Rattle.bmp_specs.specs.AddressText.{dotted, group_text, joined_groups, shortened_run, groups_text, address_text};
-ghost use Rattle.bmp_specs.specs.PrefixText.{prefix_text};
+ghost use Rattle.bmp_specs.specs.AddressText.{dotted, group_text, joined_groups, shortened_run, groups_text, address_text, IsAddressText};
+ghost use Rattle.bmp_specs.specs.PrefixText.{prefix_text, IsPrefixText};
 
 use crate::address::Addr;
 use crate::prefixes::Prefix;
@@ -111,6 +111,7 @@ impl Addr {
     /// section 4, for IPv6. It has at most 42 bytes.
     pub fn text(&self) -> ShortText
         ensures whole { result ≡ address_text self.now }
+        ensures read_back { IsAddressText result self.now }
         ensures short { length result ≤ 42 }
     {
         let octets = self.octets();
@@ -126,7 +127,8 @@ impl Addr {
 impl Prefix {
     /// The text of the prefix: its address, `/` and its number of bits.
     pub fn text(&self) -> ShortText
-        ensures { result ≡ prefix_text self.now }
+        ensures whole { result ≡ prefix_text self.now }
+        ensures read_back { IsPrefixText result self.now }
     {
         let mut text = self.addr().text();
         text.push(b'/');

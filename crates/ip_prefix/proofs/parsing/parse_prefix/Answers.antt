@@ -1,3 +1,4 @@
+use Rattle.ip_prefix.proofs.OneValue.{prefix_only}
 use Rattle.ip_prefix.proofs.PrefixReading.{reads, no_slash, no_address, no_number, too_many, not_within}
 use Rattle.ip_prefix.proofs.parsing.parse_prefix.Goals as goal
 
@@ -20,3 +21,6 @@ returns-clause-some c =
 pub returns-clause-none : goal.returns-clause-none
 returns-clause-none c =
     not_within c.args.text.now c.in-Some.slash c.in-Some-parse_number.bits c.in-Some-parse_addr.addr c.new.result c.in-Some.ensures c.in-Some-parse_addr.ensures.some c.in-Some-parse_number.ensures.some c.new.ensures.some
+
+pub returns-clause-only : goal.returns-clause-only
+returns-clause-only c = prefix_only c.args.text.now c.new.result (returns-clause-some c)
