@@ -3,7 +3,7 @@
 use std::alloc::AllocError;
 
 /// Want of memory.
-#[derive(Drop)]
+#[derive(Debug, Drop)]
 pub struct NoMemory;
 
 impl From<AllocError> for NoMemory {
