@@ -97,3 +97,14 @@ module _ {X : Type 0} where
         go (inl (a, s, t)) = (s, a, t)
         go (inr (inl (between, s))) = absurd (all_middle (λ z. ¬ (Replaces z)) between m.after y (subst (AllByRecursion (λ z. ¬ (Replaces z))) s l.last) q)
         go (inr (inr (between, s))) = absurd (all_middle (λ z. ¬ (Replaces z)) between l.after x (subst (AllByRecursion (λ z. ¬ (Replaces z))) s m.last) p)
+
+  -- where something replaces, the last that does is the latest
+  pub latest_stands : (Replaces : X → Type 0) (decides : (x : X) → Replaces x ⊎ ¬ (Replaces x)) (xs : List X) → ((x : X) × Replaces x × Latest Replaces xs x) ⊎ AllByRecursion (λ x. ¬ (Replaces x)) xs
+  latest_stands Replaces decides [] = inr tt
+  latest_stands Replaces decides (y ∷ xs) = elim (latest_stands Replaces decides xs) [
+    | inl h ↦ inl (h.0, h.1, record { before = y ∷ h.2.before; after = h.2.after; place = ap (λ (l : List X). y ∷ l) h.2.place; last = h.2.last })
+    | inr others ↦ elim (decides y) [
+      | inl r ↦ inl (y, r, record { before = []; after = xs; place = refl; last = others })
+      | inr other ↦ inr (other, others)
+    ]
+  ]

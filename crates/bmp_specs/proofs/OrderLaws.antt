@@ -1,12 +1,12 @@
 -- The orders of replies are strict and total: of two values that differ exactly one comes first.
-use Rattle.std.proofs.Common.{◌≡◌, ℕ, cond, eqb, Option, Some, None, refl, sym, ◌∙◌, ap, arith}
+use Rattle.std.proofs.Common.{◌≡◌, ℕ, cond, eqb, Option, Some, None, ◌⊎◌, inl, inr, refl, sym, ◌∙◌, ap, subst, arith}
 use Rattle.std.specs.Option.{option_cmp}
 use Rattle.std.specs.declared.cmp.Ordering.{Ordering}
 use Rattle.std.specs.declared.cmp.Ordering.TheVariants.{Less, Equal, Greater}
 use Rattle.std.specs.Ordering.{nat_cmp, ordering_then}
 use Rattle.std.specs.Cmp.{IsTotalOrder}
 use Rattle.std.specs.Cmp.Lexicographic.{slice_cmp, options_total}
-use Rattle.std.proofs.lemmas.Cmp.{nat_cmp_total, nat_list_cmp_total, on_total, then_total}
+use Rattle.std.proofs.lemmas.Cmp.{tied_itself, nat_cmp_total, nat_list_cmp_total, on_total, then_total}
 use Rattle.std.proofs.lemmas.Map.Lookups.{CmpEqualImpliesEq, exact_unsigned, exact_bytes}
 use Rattle.bmp_specs.specs.declared.wire.Family.{Family}
 use Rattle.bmp_specs.specs.declared.wire.Family.TheVariants.{V4, V6}
@@ -113,3 +113,15 @@ place_exact a b e =
     let view = view_exact a.view b.view rest.0 in
     let nlri = nlri_exact a.nlri b.nlri rest.1 in
     λ i. record { key = key i; view = view i; nlri = nlri i }
+
+-- two values are one or not, where an order tells
+pub same_or_other : {K : Type 0} (cmp : K → K → Ordering) → IsTotalOrder cmp → CmpEqualImpliesEq cmp → (a b : K) → (a ≡ b) ⊎ ¬ (a ≡ b)
+same_or_other {K} cmp total exact a b = go (cmp a b) refl
+  where
+    apart : (o : Ordering) → cmp a b ≡ o → ¬ (o ≡ Equal) → ¬ (a ≡ b)
+    apart o is other same = let e : cmp a b ≡ Equal = subst (λ (k : K). cmp a k ≡ Equal) same (tied_itself total a) in other cc
+
+    go : (o : Ordering) → cmp a b ≡ o → (a ≡ b) ⊎ ¬ (a ≡ b)
+    go Less is = inr (apart Less is (λ e. cc))
+    go Equal is = inl (exact a b is)
+    go Greater is = inr (apart Greater is (λ e. cc))

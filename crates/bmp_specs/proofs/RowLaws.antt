@@ -1,10 +1,13 @@
 -- What one more effect does to a peer and to a row, and that a place has one route and a peer one info.
 use Rattle.std.proofs.Common.{◌≡◌, ◌⊎◌, inl, inr, List, [], ◌∷◌, ◌++◌, refl, sym, subst}
 use Rattle.bmp_specs.specs.Latest.{Latest}
-use Rattle.bmp_specs.specs.Values.{KeyValue, PeerInfoValue, DownInfoValue, AttrsValue, EffectValue, up, down, announce}
+use Rattle.bmp_specs.specs.Values.{KeyValue, PeerInfoValue, DownInfoValue, AttrsValue, EffectValue, up, down, announce, withdraw, mark, statistic, named, described, orphan, mirrored, passed, unread}
+use Rattle.std.specs.List.{AllByRecursion}
+use Rattle.bmp_specs.specs.Orders.{key_cmp}
 use Rattle.bmp_specs.specs.PeerUp.{Names, IsUpWith, IsDownWith, IsUp}
 use Rattle.bmp_specs.specs.Rows.{PlaceValue, RowValue, ReplacesRow, HasRow}
-use Rattle.bmp_specs.proofs.LatestLaws.{latest_now, latest_still, latest_from, latest_one}
+use Rattle.bmp_specs.proofs.LatestLaws.{latest_now, latest_still, latest_from, latest_one, latest_stands}
+use Rattle.bmp_specs.proofs.OrderLaws.{key_total, key_exact, same_or_other}
 
 pub up_now : (es : List EffectValue) (key : KeyValue) (info : PeerInfoValue) → IsUp (es ++ up key info ∷ []) key
 up_now es key info = (info, latest_now (Names key) es (up key info))
@@ -52,3 +55,39 @@ row_from es e row h = go (latest_from (ReplacesRow row.place) es e (announce row
         → ((e ≡ announce row.place.key row.place.view row.place.nlri row.route) × IsUp es row.place.key) ⊎ (HasRow es row × ¬ (ReplacesRow row.place e))
     go (inl (s, t)) = inl (s, subst (λ (before : List EffectValue). IsUp before row.place.key) (sym t) h.while_up)
     go (inr (l, t, other)) = inr (record { announced = l; while_up = subst (λ (before : List EffectValue). IsUp before row.place.key) (sym t) h.while_up }, other)
+
+-- an effect names a peer or not
+pub names_or_other : (key : KeyValue) (e : EffectValue) → Names key e ⊎ ¬ (Names key e)
+names_or_other key (up k info) = same_or_other key_cmp key_total key_exact k key
+names_or_other key (down k info) = same_or_other key_cmp key_total key_exact k key
+names_or_other key (announce k view nlri route) = inr (λ n. n)
+names_or_other key (withdraw k view nlri) = inr (λ n. n)
+names_or_other key (mark k view family) = inr (λ n. n)
+names_or_other key (statistic k stat) = inr (λ n. n)
+names_or_other key (named name) = inr (λ n. n)
+names_or_other key (described text) = inr (λ n. n)
+names_or_other key orphan = inr (λ n. n)
+names_or_other key mirrored = inr (λ n. n)
+names_or_other key passed = inr (λ n. n)
+names_or_other key (unread parts) = inr (λ n. n)
+
+up_or_down_by : (es : List EffectValue) (key : KeyValue) (e : EffectValue) → Names key e → Latest (Names key) es e → IsUp es key ⊎ ((info : DownInfoValue) × IsDownWith es key info)
+up_or_down_by es key (up k info) same l = inl (info, subst (λ (j : KeyValue). Latest (Names key) es (up j info)) same l)
+up_or_down_by es key (down k info) same l = inr (info, subst (λ (j : KeyValue). Latest (Names key) es (down j info)) same l)
+up_or_down_by es key (announce k view nlri route) n l = absurd n
+up_or_down_by es key (withdraw k view nlri) n l = absurd n
+up_or_down_by es key (mark k view family) n l = absurd n
+up_or_down_by es key (statistic k stat) n l = absurd n
+up_or_down_by es key (named name) n l = absurd n
+up_or_down_by es key (described text) n l = absurd n
+up_or_down_by es key orphan n l = absurd n
+up_or_down_by es key mirrored n l = absurd n
+up_or_down_by es key passed n l = absurd n
+up_or_down_by es key (unread parts) n l = absurd n
+
+-- a peer is up, or it is down, or no effect names it
+pub peer_cases : (es : List EffectValue) (key : KeyValue) → IsUp es key ⊎ ((info : DownInfoValue) × IsDownWith es key info) ⊎ AllByRecursion (λ e. ¬ (Names key e)) es
+peer_cases es key = elim (latest_stands (Names key) (names_or_other key) es) [
+  | inl h ↦ elim (up_or_down_by es key h.0 h.1 h.2) [ inl u ↦ inl u | inr d ↦ inr (inl d) ]
+  | inr none ↦ inr (inr none)
+]
