@@ -1,30 +1,15 @@
 -- Whether a peer is up after one more effect.
 use Rattle.std.proofs.Common.{◌≡◌, ◌↔◌, ◌⊎◌, inl, inr, ℕ, Bool, true, [], ◌∷◌, ◌++◌, refl, sym, subst}
-use Rattle.std.specs.declared.cmp.Ordering.{Ordering}
-use Rattle.std.specs.declared.cmp.Ordering.TheVariants.{Less, Equal, Greater}
-use Rattle.std.proofs.lemmas.Cmp.{tied_itself}
 use Rattle.bmp_specs.specs.Orders.{key_cmp}
 use Rattle.bmp_specs.specs.PeerUp.{Names, IsUp}
 use Rattle.bmp_specs.specs.Values.{KeyValue, PeerInfoValue, DownInfoValue, EffectValue, up, down}
-use Rattle.bmp_specs.proofs.OrderLaws.{key_total, key_exact}
+use Rattle.bmp_specs.proofs.OrderLaws.{key_total, key_exact, same_or_other}
 use Rattle.bmp_specs.proofs.RowLaws.{up_now, up_still, up_from}
 use Rattle.plain_model.specs.declared.values.Peer.{Peer}
 use Rattle.plain_model.specs.declared.values.Effect.{Effect}
 use Rattle.plain_model.specs.declared.values.Effect.TheVariants.{Up, Down, Announce, Withdraw, Mark, Passed}
 use Rattle.plain_model.specs.Rows.{KeepsUp}
 use Rattle.plain_model.specs.Values.{effect_value}
-
--- two peers are one or not
-one_peer : (a b : KeyValue) → (a ≡ b) ⊎ ¬ (a ≡ b)
-one_peer a b = go (key_cmp a b) refl
-  where
-    apart : (o : Ordering) → key_cmp a b ≡ o → ¬ (o ≡ Equal) → ¬ (a ≡ b)
-    apart o is other same = let e : key_cmp a b ≡ Equal = subst (λ (k : KeyValue). key_cmp a k ≡ Equal) same (tied_itself key_total a) in other cc
-
-    go : (o : Ordering) → key_cmp a b ≡ o → (a ≡ b) ⊎ ¬ (a ≡ b)
-    go Less is = inr (apart Less is (λ e. cc))
-    go Equal is = inl (key_exact a b is)
-    go Greater is = inr (apart Greater is (λ e. cc))
 
 pub keeps_up : (key k : KeyValue) (info : PeerInfoValue) (was after : Bool) → (after ≡ true) ↔ ((was ≡ true) ⊎ (k ≡ key)) → KeepsUp key (up k info) was after
 keeps_up key k info was after is es before = (λ t. to (is.0 t), λ u. is.1 (back (up_from es (up k info) key u)))
@@ -34,7 +19,7 @@ keeps_up key k info was after is es before = (λ t. to (is.0 t), λ u. is.1 (bac
 
     to : (was ≡ true) ⊎ (k ≡ key) → IsUp (es ++ up k info ∷ []) key
     to (inr e) = named e
-    to (inl w) = elim (one_peer k key) [ inl e ↦ named e | inr other ↦ up_still es (up k info) key other (before.0 w) ]
+    to (inl w) = elim (same_or_other key_cmp key_total key_exact k key) [ inl e ↦ named e | inr other ↦ up_still es (up k info) key other (before.0 w) ]
 
     back : ((i : PeerInfoValue) × (up k info ≡ up key i)) ⊎ (IsUp es key × ¬ (k ≡ key)) → (was ≡ true) ⊎ (k ≡ key)
     back (inl (i, e)) = inr cc
