@@ -6,7 +6,7 @@ use Rattle.std.specs.List.{last_or, AllByRecursion}
 use Rattle.std.proofs.lemmas.Grind.{flat_map-append}
 use Rattle.bmp_specs.specs.declared.causes.Cause.{Cause}
 use Rattle.bmp_specs.specs.Values.{EffectValue, EntryValue, opened, message, closed}
-use Rattle.bmp_specs.specs.Session.{since_opening, cause_in, last_cause, unless_closed, present_session, idle, live, shut, state_by, state_since, state_of, effects_in, session_effects}
+use Rattle.bmp_specs.specs.Session.{since_opening, cause_in, last_cause, unless_closed, present_session, idle, live, shut, state_by, state_since, state_of, effects_in, session_messages, session_effects}
 
 -- the entry is a message
 abbrev pub IsMessage : EntryValue → Type 0
@@ -114,19 +114,25 @@ cause_closed (message k l fx ∷ entries) found cause = cause_closed entries fou
 cause_closed (closed other ∷ entries) found cause = cause_closed entries (Some other) cause
 
 -- an opening begins a session without messages
+pub messages_after_opening : (entries : List EntryValue) → session_messages (entries ++ opened ∷ []) ≡ []
+messages_after_opening entries = rw (since_opened entries) refl
+
 pub effects_after_opening : (entries : List EntryValue) → session_effects (entries ++ opened ∷ []) ≡ []
-effects_after_opening entries = rw (since_opened entries) refl
+effects_after_opening entries = ap (flat_map effects_in) (messages_after_opening entries)
 
 pub state_after_opening : (entries : List EntryValue) → state_of (entries ++ opened ∷ []) ≡ live
 state_after_opening entries = rw (since_opened entries) refl
 
 -- a closing ends the session
-pub effects_after_closing : (entries : List EntryValue) (cause : Cause) → session_effects (entries ++ closed cause ∷ []) ≡ []
-effects_after_closing entries cause = rw (since_pushed entries (closed cause) (inr (cause, refl))) (go (since_opening entries))
+pub messages_after_closing : (entries : List EntryValue) (cause : Cause) → session_messages (entries ++ closed cause ∷ []) ≡ []
+messages_after_closing entries cause = rw (since_pushed entries (closed cause) (inr (cause, refl))) (go (since_opening entries))
   where
-    go : (o : Option (List EntryValue)) → flat_map effects_in (unwrap_or (option_and_then (λ s. unless_closed s (last_cause s)) (option_map (λ s. s ++ closed cause ∷ []) o)) []) ≡ []
+    go : (o : Option (List EntryValue)) → unwrap_or (option_and_then (λ s. unless_closed s (last_cause s)) (option_map (λ s. s ++ closed cause ∷ []) o)) [] ≡ []
     go None = refl
     go (Some s) = rw (cause_closed s None cause) refl
+
+pub effects_after_closing : (entries : List EntryValue) (cause : Cause) → session_effects (entries ++ closed cause ∷ []) ≡ []
+effects_after_closing entries cause = ap (flat_map effects_in) (messages_after_closing entries cause)
 
 pub state_after_closing : (entries : List EntryValue) (cause : Cause) → (state_of entries ≡ idle → ⊥) → state_of (entries ++ closed cause ∷ []) ≡ shut cause
 state_after_closing entries cause ever = rw (since_pushed entries (closed cause) (inr (cause, refl))) (go (since_opening entries) ever)
@@ -135,21 +141,50 @@ state_after_closing entries cause ever = rw (since_pushed entries (closed cause)
     go None was = absurd (was refl)
     go (Some s) was = rw (cause_closed s None cause) refl
 
+-- a closing before any opening changes nothing
+pub state_stays_idle : (entries : List EntryValue) (cause : Cause) → state_of entries ≡ idle → state_of (entries ++ closed cause ∷ []) ≡ idle
+state_stays_idle entries cause is_idle = rw (since_pushed entries (closed cause) (inr (cause, refl))) (go (since_opening entries) is_idle)
+  where
+    by_cause : (c : Option Cause) → state_by c ≡ idle → ⊥
+    by_cause None e = cc
+    by_cause (Some d) e = cc
+
+    go : (o : Option (List EntryValue)) → state_since o ≡ idle → state_since (option_map (λ s. s ++ closed cause ∷ []) o) ≡ idle
+    go None was = refl
+    go (Some s) was = absurd (by_cause (last_cause s) was)
+
 -- a message joins the session, where there is one
-pub effects_after_message : (entries : List EntryValue) (kind len : ℕ) (effects : List EffectValue) → state_of entries ≡ live → session_effects (entries ++ message kind len effects ∷ []) ≡ session_effects entries ++ effects
-effects_after_message entries kind len effects is_live = rw (since_pushed entries (message kind len effects) (inl tt)) (go (since_opening entries) is_live)
+pub messages_after_message : (entries : List EntryValue) (kind len : ℕ) (effects : List EffectValue) → state_of entries ≡ live → session_messages (entries ++ message kind len effects ∷ []) ≡ session_messages entries ++ message kind len effects ∷ []
+messages_after_message entries kind len effects is_live = rw (since_pushed entries (message kind len effects) (inl tt)) (go (since_opening entries) is_live)
   where
     go : (o : Option (List EntryValue)) → state_since o ≡ live
-        → flat_map effects_in (unwrap_or (option_and_then (λ s. unless_closed s (last_cause s)) (option_map (λ s. s ++ message kind len effects ∷ []) o)) [])
-        ≡ flat_map effects_in (unwrap_or (option_and_then (λ s. unless_closed s (last_cause s)) o) []) ++ effects
+        → unwrap_or (option_and_then (λ s. unless_closed s (last_cause s)) (option_map (λ s. s ++ message kind len effects ∷ []) o)) []
+        ≡ unwrap_or (option_and_then (λ s. unless_closed s (last_cause s)) o) [] ++ message kind len effects ∷ []
     go None was = absurd cc
     go (Some s) was = at (last_cause s) refl was
       where
         at : (c : Option Cause) → last_cause s ≡ c → state_by c ≡ live
-            → flat_map effects_in (unwrap_or (unless_closed (s ++ message kind len effects ∷ []) (last_cause (s ++ message kind len effects ∷ []))) [])
-            ≡ flat_map effects_in (unwrap_or (unless_closed s (last_cause s)) []) ++ effects
+            → unwrap_or (unless_closed (s ++ message kind len effects ∷ []) (last_cause (s ++ message kind len effects ∷ []))) [] ≡ unwrap_or (unless_closed s (last_cause s)) [] ++ message kind len effects ∷ []
         at (Some cause) is was = absurd cc
-        at None is was = rw (cause_pushed s None kind len effects, is) (flat_map-append effects_in s (message kind len effects ∷ []) ∙ ap (λ (l : List EffectValue). flat_map effects_in s ++ l) (append-nil effects))
+        at None is was = rw (cause_pushed s None kind len effects, is) refl
+
+pub effects_after_message : (entries : List EntryValue) (kind len : ℕ) (effects : List EffectValue) → state_of entries ≡ live → session_effects (entries ++ message kind len effects ∷ []) ≡ session_effects entries ++ effects
+effects_after_message entries kind len effects is_live =
+    ap (flat_map effects_in) (messages_after_message entries kind len effects is_live)
+    ∙ flat_map-append effects_in (session_messages entries) (message kind len effects ∷ [])
+    ∙ ap (λ (l : List EffectValue). session_effects entries ++ l) (append-nil effects)
+
+-- and goes nowhere, where there is none
+pub messages_stay_none : (entries : List EntryValue) (kind len : ℕ) (effects : List EffectValue) → (state_of entries ≡ live → ⊥) → session_messages (entries ++ message kind len effects ∷ []) ≡ []
+messages_stay_none entries kind len effects isnt_live = rw (since_pushed entries (message kind len effects) (inl tt)) (go (since_opening entries) isnt_live)
+  where
+    go : (o : Option (List EntryValue)) → (state_since o ≡ live → ⊥) → unwrap_or (option_and_then (λ s. unless_closed s (last_cause s)) (option_map (λ s. s ++ message kind len effects ∷ []) o)) [] ≡ []
+    go None was = refl
+    go (Some s) was = at (last_cause s) refl was
+      where
+        at : (c : Option Cause) → last_cause s ≡ c → (state_by c ≡ live → ⊥) → unwrap_or (unless_closed (s ++ message kind len effects ∷ []) (last_cause (s ++ message kind len effects ∷ []))) [] ≡ []
+        at None is was = absurd (was refl)
+        at (Some cause) is was = rw (cause_pushed s None kind len effects, is) refl
 
 pub state_after_message : (entries : List EntryValue) (kind len : ℕ) (effects : List EffectValue) → state_of (entries ++ message kind len effects ∷ []) ≡ state_of entries
 state_after_message entries kind len effects = rw (since_pushed entries (message kind len effects) (inl tt)) (go (since_opening entries))
