@@ -1,4 +1,4 @@
-ghost use Rattle.std.specs.Prelude.{◌≡◌, ◌↔◌, IsTrue, IfSome, IfNone};
+ghost use Rattle.std.specs.Prelude.{◌≡◌, ◌↔◌, ℕ, List, IsTrue, IfSome, IfNone};
 ghost use Rattle.bmp_specs.specs.PeerText.{view_text, IsViewText};
 ghost use Rattle.bmp_specs.specs.declared.peers.View.{View};
 
@@ -7,8 +7,12 @@ use ip_prefix::ShortText;
 
 /// The text of a view, as queries and replies write it.
 pub trait ViewText {
+    /// The text.
+    ghost words: { Self → List ℕ };
+
     /// Gives `adj-in-pre`, `adj-in-post`, `adj-out-pre`, `adj-out-post` or `loc`.
-    fn text(&self) -> ShortText;
+    fn text(&self) -> ShortText
+        ensures { result ≡ words self.now };
 }
 
 // The word for a view.
@@ -25,6 +29,8 @@ fn word(view: View) -> &'static str
 }
 
 impl ViewText for View {
+    ghost words = { view_text };
+
     fn text(&self) -> ShortText
         ensures { result ≡ view_text self.now }
     {
