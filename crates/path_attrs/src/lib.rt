@@ -4,14 +4,33 @@
 //! hop and the rest, each behind its flags, its type and its length. `bgp_update` reads them with this
 //! crate, and all routes of one UPDATE share what it gives.
 //!
-//! Proved: a copy of attributes is equal to them. The words are in `bmp_specs`,
-//! `specs/Attributes.antt`. Begin with `src/attrs.rt`.
+//! Proved: `read_attrs` gives the attributes that a field has, and `Broken` exactly where it has none:
+//! where it is no list of attributes, two are of one type, or a value isn't of the form of its type
+//! (RFC 4271, section 4.3; RFC 4760; RFC 1997). In two-octet form AS4_PATH and AS4_AGGREGATOR are put
+//! back (RFC 6793, section 4.2.3). A copy of attributes is equal to them. The words are in `bmp_specs`,
+//! `specs/Attributes.antt` and `specs/FourOctetAs.antt`. Begin with `src/read.rt`; `src/part.rt` finds
+//! the attribute of one type, and each further file reads its value.
 #![tactic(auto)]
 
+mod as4;
+mod as_info;
 mod attrs;
+mod bytes;
+mod check;
+mod codes;
+mod communities;
+mod fault;
+mod keep;
+mod mp;
 mod others;
+mod part;
+mod read;
+mod values;
 
-pub use as_path::{AsPath, Numbers, Unplaced};
+pub use as_path::{AsPath, Numbers, Unplaced, Width};
 pub use attrs::{Aggregator, Attrs};
+pub use fault::AttrFault;
+pub use mp::MpPart;
 pub use others::{Other, OtherList};
+pub use read::{AttrsRead, read_attrs};
 pub use wire_io::{ByteList, NoMemory};

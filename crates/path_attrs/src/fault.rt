@@ -1,0 +1,69 @@
+ghost use Rattle.std.specs.Prelude.{◌≡◌};
+ghost use Rattle.path_attrs.specs.declared.fault.AttrFault.TheVariants.{Broken as OutOfForm, NoMemory as OutOfMemory};
+
+use as_path::Unplaced;
+use std::alloc::{AllocError, AllocFailed};
+use wire_io::NoMemory;
+
+/// Why path attributes were not read.
+#[derive(Clone, Copy, Debug, PartialEq, Eq)]
+pub enum AttrFault {
+    /// The bytes are no path attributes, two of them are of one type, or a value isn't of the form of
+    /// its type (RFC 4271, section 4.3).
+    Broken,
+
+    /// Want of memory.
+    NoMemory,
+}
+
+// A value isn't of the form of its type.
+#[derive(Clone, Copy)]
+pub(crate) struct Broken;
+
+impl From<Broken> for AttrFault {
+    ghost from_gives = { λ _ fault. fault ≡ OutOfForm };
+
+    fn from(_: Broken) -> Self {
+        AttrFault::Broken
+    }
+}
+
+impl From<NoMemory> for AttrFault {
+    ghost from_gives = { λ _ fault. fault ≡ OutOfMemory };
+
+    fn from(_: NoMemory) -> Self {
+        AttrFault::NoMemory
+    }
+}
+
+impl From<as_path::NoMemory> for AttrFault {
+    ghost from_gives = { λ _ fault. fault ≡ OutOfMemory };
+
+    fn from(_: as_path::NoMemory) -> Self {
+        AttrFault::NoMemory
+    }
+}
+
+impl From<AllocError> for AttrFault {
+    ghost from_gives = { λ _ fault. fault ≡ OutOfMemory };
+
+    fn from(_: AllocError) -> Self {
+        AttrFault::NoMemory
+    }
+}
+
+impl<T: Drop> From<AllocFailed<T>> for AttrFault {
+    ghost from_gives = { λ _ fault. fault ≡ OutOfMemory };
+
+    fn from(_: AllocFailed<T>) -> Self {
+        AttrFault::NoMemory
+    }
+}
+
+impl<T: Drop> From<Unplaced<T>> for AttrFault {
+    ghost from_gives = { λ _ fault. fault ≡ OutOfMemory };
+
+    fn from(_: Unplaced<T>) -> Self {
+        AttrFault::NoMemory
+    }
+}

@@ -1,0 +1,74 @@
+ghost use Rattle.std.specs.Prelude.{◌≡◌, ◌++◌, ◌==◌, List, map, filter, not, [], ◌∷◌, IfOk, IfErr, OnOk};
+ghost use Rattle.std.specs.List.{list_any};
+ghost use Rattle.bmp_specs.specs.Attribute.{IsAttribute};
+ghost use Rattle.bmp_specs.specs.Attributes.{is_read, kept, read_types};
+ghost use Rattle.bmp_specs.specs.Parts.{AreParts};
+ghost use Rattle.bmp_specs.specs.Values.{OtherValue};
+ghost use Rattle.path_attrs.specs.Kept.{kept_of};
+
+use crate::bytes::bytes_of;
+use crate::codes::{
+    AGGREGATOR, AS_PATH, AS4_AGGREGATOR, AS4_PATH, ATOMIC_AGGREGATE, COMMUNITIES, LOCAL_PREF,
+    MP_REACH_NLRI, MP_UNREACH_NLRI, MULTI_EXIT_DISC, NEXT_HOP, ORIGIN,
+};
+use crate::fault::AttrFault;
+use crate::others::{Other, OtherList};
+use crate::part::{EXTENDED_LENGTH, Part, read_part};
+use std::alloc::Global;
+
+// Whether attributes of the type are read.
+fn is_read_type(code: u8) -> bool
+    ensures { result ≡ list_any (λ c. c == code) read_types }
+{
+    matches!(
+        code,
+        ORIGIN
+            | AS_PATH
+            | NEXT_HOP
+            | MULTI_EXIT_DISC
+            | LOCAL_PREF
+            | ATOMIC_AGGREGATE
+            | AGGREGATOR
+            | COMMUNITIES
+            | MP_REACH_NLRI
+            | MP_UNREACH_NLRI
+            | AS4_PATH
+            | AS4_AGGREGATOR
+    )
+}
+
+// Keeps the attribute, where attributes of its type aren't read.
+fn keep(alloc: Global, others: &mut OtherList, part: &Part<'_>) -> Result<(), AttrFault>
+    ensures ok { OnOk result (others.new ≡ others.old ++ kept_of (record { flags = part.now.flags; code = part.now.code; value = part.now.value.now } ∷ [])) }
+    ensures fault { IfErr result (λ fault. fault ≡ AttrFault.NoMemory) }
+{
+    if is_read_type(part.code) {
+        return Ok(());
+    }
+    let flags = if part.flags & EXTENDED_LENGTH == EXTENDED_LENGTH {
+        part.flags - EXTENDED_LENGTH
+    } else {
+        part.flags
+    };
+    let value = bytes_of(alloc, part.value)?;
+    others.push(Other {
+        flags,
+        code: part.code,
+        value,
+    })?;
+    Ok(())
+}
+
+// The field's attributes of all types that aren't read, in order.
+pub(crate) fn read_others(alloc: Global, field: &[u8]) -> Result<OtherList, AttrFault>
+    ensures ok { IfOk result (λ others. (parts : List OtherValue) → AreParts IsAttribute field.now parts → others ≡ kept_of parts) }
+    ensures fault { IfErr result (λ fault. fault ≡ AttrFault.NoMemory) }
+{
+    let mut others = OtherList::new(alloc);
+    let mut rest = field;
+    while let Some(part) = read_part(rest) {
+        keep(alloc, &mut others, &part)?;
+        rest = part.rest;
+    }
+    Ok(others)
+}
