@@ -51,3 +51,4 @@ pub mod MessageEffects
 pub mod Containment
 pub mod EscapedText
 pub mod RouteLine
+pub mod ShortenedRun

@@ -59,7 +59,7 @@ unfolding joined_groups
 groups_back gs fit = record { pieces = map group_text gs; spelled = refl; each = each_back gs fit }
 
 -- what `find` finds passes, and has what each item of the list has
-found : {X : Type 0} (p q : X → Bool) (xs : List X) (x : X) → list_all q xs ≡ true → find p xs ≡ Some x → (p x ≡ true) × (q x ≡ true)
+pub found : {X : Type 0} (p q : X → Bool) (xs : List X) (x : X) → list_all q xs ≡ true → find p xs ≡ Some x → (p x ≡ true) × (q x ≡ true)
 found p q [] x all e = absurd cc
 found {X} p q (y ∷ ys) x all e = by (p y) refl e (λ f. found p q ys x (and-true (q y) (list_all q ys) all).1 f)
   where
@@ -67,14 +67,14 @@ found {X} p q (y ∷ ys) x all e = by (p y) refl e (λ f. found p q ys x (and-tr
     by true passes e later = let same : y ≡ x = cc in (subst (λ (z : X). p z ≡ true) same passes, subst (λ (z : X). q z ≡ true) same (and-true (q y) (list_all q ys) all).0)
     by false fails e later = later e
 
-abbrev is_run : ℕ × ℕ → Bool
+abbrev pub is_run : ℕ × ℕ → Bool
 is_run run = nat_le 2 run.1 && nat_le (run.0 + run.1) 8
 
-all_runs : list_all is_run runs ≡ true
+pub all_runs : list_all is_run runs ≡ true
 unfolding runs
 all_runs = refl
 
-zeros_are : (xs : List ℕ) → list_all (λ g. g == 0) xs ≡ true → xs ≡ replicate (length xs) 0
+pub zeros_are : (xs : List ℕ) → list_all (λ g. g == 0) xs ≡ true → xs ≡ replicate (length xs) 0
 zeros_are [] e = refl
 zeros_are (x ∷ xs) e =
     let both = and-true (x == 0) (list_all (λ g. g == 0) xs) e in

@@ -1,6 +1,7 @@
 ghost use Rattle.std.specs.Prelude.{◌≡◌, ◌+◌, ◌*◌, ◌<◌, ◌≤◌, [], ◌∷◌, ◌++◌, IfSome, length};
 ghost use Rattle.std.specs.Net.Addr.{segments_of};
 ghost use Rattle.bmp_specs.specs.AddressText.{dotted, group_text, joined_groups, shortened_run, groups_text, address_text, IsAddressText};
+ghost use Rattle.bmp_specs.specs.ShortenedRun.{Shortens};
 ghost use Rattle.bmp_specs.specs.PrefixText.{prefix_text, IsPrefixText};
 
 use crate::address::Addr;
@@ -71,6 +72,7 @@ fn put_groups(text: &mut ShortText, groups: &[u16])
 // Where the zero groups are that the text shortens: the first of them, and how many they are.
 fn shortened_run(groups: &[u16; 8]) -> Option<(usize, usize)>
     ensures run { result ≡ shortened_run groups.now }
+    ensures rules { Shortens groups.now result }
     ensures within { IfSome result (λ run. run.0 + run.1 ≤ 8) }
 {
     let mut start = 8;
