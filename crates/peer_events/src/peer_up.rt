@@ -1,0 +1,156 @@
+ghost use Rattle.std.specs.Prelude.{◌≡◌, ◌==◌, ◌≤◌, ◌&&◌, List, ℕ, if◌then◌else◌, IfOk, IsErrOf, length, take, None};
+ghost use Rattle.std.specs.Option.{option_copied};
+ghost use Rattle.bmp_specs.specs.Open.{IsOpenMessage};
+ghost use Rattle.bmp_specs.specs.PeerHeader.{is_set, place_of as place_in};
+ghost use Rattle.bmp_specs.specs.PeerUpNotification.{IsPeerUp, is_loc_rib as loc_rib_in, table_in, f_flag};
+ghost use Rattle.bmp_specs.specs.Sequence.{HasFront};
+ghost use Rattle.bmp_specs.specs.Tlv.{AreTlvs};
+ghost use Rattle.bmp_specs.specs.Values.{OpenValue, PeerUpValue, TlvValue};
+
+use crate::fault::EventFault;
+use crate::initiation::copied;
+use crate::tlvs::{Place, TABLE_NAME, are_tlvs, count_unread, last_value};
+use bgp_open::{Open, OpenFault, PeerInfo, bgp_frame, read_open};
+use bmp_frames::PeerHeader;
+use byteorder::{BigEndian, ByteOrder};
+use ip_prefix::Addr;
+use std::alloc::Global;
+use std::marker::Model;
+use wire_io::{ByteList, NoMemory};
+
+/// "Local Address", "Local Port" and "Remote Port" (RFC 7854, section 4.10).
+const HEADER_LENGTH: usize = 20;
+
+/// The Loc-RIB Instance Peer (RFC 9069, section 4.1).
+const LOC_RIB: u8 = 3;
+
+/// "F flag": the Loc-RIB is filtered (RFC 9069, section 4.2).
+const F_FLAG: u8 = 0x80;
+
+/// The type of an OPEN message (RFC 4271, section 4.1).
+const OPEN: u8 = 1;
+
+/// A Peer Up Notification (RFC 7854, section 4.10).
+#[derive(Drop)]
+pub struct PeerUp {
+    /// What it tells of the peer.
+    pub info: PeerInfo,
+
+    /// How many TLVs were passed over.
+    pub unread: u32,
+}
+
+impl Model for PeerUp {
+    ghost use Rattle.bmp_specs.specs.Values.{PeerUpValue};
+
+    ghost Value = { PeerUpValue };
+
+    ghost view = { λ u. record { info = u.info; unread = u.unread } };
+}
+
+// An OPEN message at the front, and what follows it.
+#[derive(Drop)]
+struct Opening<'a> {
+    open: Open,
+    rest: &'a [u8],
+}
+
+// Reads an OPEN message from the front (RFC 4271, section 4.2).
+fn read_opening(alloc: Global, input: &[u8]) -> Result<Opening<'_>, EventFault>
+    ensures ok { IfOk result (λ o. HasFront IsOpenMessage input.now o.«open» o.rest.now) }
+    ensures shorter { IfOk result (λ o. length o.rest.now ≤ length input.now) }
+    ensures broken { IsErrOf result EventFault.Broken → (o : OpenValue) (rest : List ℕ) → HasFront IsOpenMessage input.now o rest → ⊥ }
+{
+    let Some(frame) = bgp_frame(input) else {
+        return Err(EventFault::Broken);
+    };
+    if frame.kind != OPEN {
+        return Err(EventFault::Broken);
+    }
+    let (message, rest) = input.split_at(frame.length as usize);
+    match read_open(alloc, &message[19..]) {
+        Ok(open) => Ok(Opening { open, rest }),
+        Err(OpenFault::Broken) => Err(EventFault::Broken),
+        Err(OpenFault::NoMemory) => Err(EventFault::NoMemory),
+    }
+}
+
+// Whether the header is of a Loc-RIB Instance Peer.
+fn is_loc_rib(head: &PeerHeader) -> bool
+    ensures { result ≡ loc_rib_in head.now }
+{
+    head.kind == LOC_RIB
+}
+
+// Whether a Loc-RIB Instance Peer tells of a filtered Loc-RIB.
+fn is_filtered(head: &PeerHeader) -> bool
+    ensures { result ≡ (loc_rib_in head.now && is_set f_flag head.now.flags) }
+{
+    is_loc_rib(head) && head.flags & F_FLAG == F_FLAG
+}
+
+// The last table name of a Loc-RIB Instance Peer.
+fn table(alloc: Global, head: &PeerHeader, information: &[u8]) -> Result<Option<ByteList>, NoMemory>
+    ensures { (ts : List TlvValue) → AreTlvs information.now ts → IfOk result (λ table. table ≡ table_in head.now ts) }
+{
+    if is_loc_rib(head) {
+        copied(alloc, last_value(information, TABLE_NAME))
+    } else {
+        Ok(None)
+    }
+}
+
+// Which TLVs a Peer Up of this header knows.
+fn place_of(head: &PeerHeader) -> Place
+    ensures { result ≡ (if loc_rib_in head.now then Place.LocRibPeerUp else Place.PeerUp) }
+{
+    if is_loc_rib(head) {
+        Place::LocRibPeerUp
+    } else {
+        Place::PeerUp
+    }
+}
+
+// "Local Address", by the header's flags.
+fn local_address(head: &PeerHeader, rest: &[u8]) -> Addr
+    requires { 20 ≤ length rest.now }
+    ensures { result ≡ place_in head.now (take 16 rest.now) }
+{
+    let mut raw = [0u8; 16];
+    raw.copy_from_slice(&rest[..16]);
+    head.place(&raw)
+}
+
+/// Reads what follows the Per-Peer Header in a Peer Up Notification (RFC 7854, section 4.10; RFC 9069,
+/// sections 4.4 and 5.2), all of the bytes. `EventFault::Broken` exactly where they are none. Time and
+/// memory are linear in the bytes.
+pub fn read_peer_up(alloc: Global, head: &PeerHeader, rest: &[u8]) -> Result<PeerUp, EventFault>
+    requires { length rest.now ≤ 1048570 }
+    ensures ok { IfOk result (λ u. IsPeerUp head.now rest.now u) }
+    ensures broken { IsErrOf result EventFault.Broken → (u : PeerUpValue) → IsPeerUp head.now rest.now u → ⊥ }
+{
+    if rest.len() < HEADER_LENGTH {
+        return Err(EventFault::Broken);
+    }
+    let sent = read_opening(alloc, &rest[HEADER_LENGTH..])?;
+    let received = read_opening(alloc, sent.rest)?;
+    let information = received.rest;
+    if !are_tlvs(information) {
+        return Err(EventFault::Broken);
+    }
+    let table = table(alloc, head, information)?;
+    Ok(PeerUp {
+        info: PeerInfo {
+            asn: head.asn,
+            identifier: head.identifier,
+            local: local_address(head, rest),
+            local_port: BigEndian::read_u16(&rest[16..]),
+            remote_port: BigEndian::read_u16(&rest[18..]),
+            sent: sent.open,
+            received: received.open,
+            filtered: is_filtered(head),
+            table,
+        },
+        unread: count_unread(place_of(head), information),
+    })
+}

@@ -1,0 +1,197 @@
+ghost use Rattle.std.specs.Prelude.{◌≡◌, ◌↔◌, ◌≤◌, ◌+◌, [], ◌∷◌, ◌++◌, List, Option, IfOk, IfErr, OnOk, OnErr, IsErrOf, IsNone, IfSome, length, option_to_list, is_none, count_by};
+ghost use Rattle.std.specs.List.{filter_map};
+ghost use Rattle.bmp_specs.specs.Statistics.{IsStatistics, statistic_of, value_in};
+ghost use Rattle.bmp_specs.specs.Tlv.{AreTlvs};
+ghost use Rattle.bmp_specs.specs.Values.{StatisticsValue, TlvValue};
+
+use crate::fault::EventFault;
+use crate::tlvs::{Tlv, are_tlvs, read_tlv};
+use bgp_open::Unplaced;
+use byteorder::{BigEndian, ByteOrder};
+use std::alloc::Global;
+use std::marker::Model;
+use wire_io::NoMemory;
+use wire_tables::{Shape, Stat, statistic_table};
+
+/// A list of statistics, in the order of the wire. It keeps its allocator.
+#[derive(Debug, Drop)]
+pub struct StatList {
+    items: Vec<Stat>,
+}
+
+impl Model for StatList {
+    ghost use Rattle.std.specs.Prelude.{List};
+    ghost use Rattle.bmp_specs.specs.Values.{StatValue};
+
+    ghost Value = { List StatValue };
+
+    ghost view = { λ stats. stats.items.items };
+}
+
+impl StatList {
+    /// The empty list. It takes no memory.
+    pub fn new(alloc: Global) -> StatList
+        ensures { result ≡ [] }
+    {
+        StatList {
+            items: Vec::new(alloc),
+        }
+    }
+
+    /// Appends the item. After want of memory the list is as before.
+    pub fn push(&mut self, item: Stat) -> Result<(), Unplaced<Stat>>
+        ensures ok { OnOk result (self.new ≡ self.old ++ item ∷ []) }
+        ensures err { OnErr result (self.new ≡ self.old) }
+        ensures handed_back { IfErr result (λ unplaced. unplaced ≡ Unplaced.NoMemory item) }
+    {
+        match self.items.push(item) {
+            Ok(()) => Ok(()),
+            Err(failed) => Err(Unplaced::NoMemory { item: failed.value }),
+        }
+    }
+
+    /// Takes out the last item. `None` exactly where the list is empty.
+    pub fn pop(&mut self) -> Option<Stat>
+        ensures last { self.old ≡ self.new ++ option_to_list result }
+        ensures none { IsNone result ↔ (self.old ≡ []) }
+    {
+        self.items.pop()
+    }
+
+    /// Lends the items.
+    pub fn as_slice(&self) -> &[Stat]
+        ensures { result.now ≡ self.now }
+    {
+        self.items.as_slice()
+    }
+}
+
+/// A Statistics Report (RFC 7854, section 4.8).
+#[derive(Drop)]
+pub struct Statistics {
+    /// The statistics that are known, in the order of the wire.
+    pub stats: StatList,
+
+    /// How many TLVs were passed over.
+    pub unread: u32,
+}
+
+impl Model for Statistics {
+    ghost use Rattle.bmp_specs.specs.Values.{StatisticsValue};
+
+    ghost Value = { StatisticsValue };
+
+    ghost view = { λ s. record { stats = s.stats; unread = s.unread } };
+}
+
+// The statistic that a value has by its shape.
+fn stat_in(shape: Shape, code: u16, value: &[u8]) -> Option<Stat>
+    ensures { result ≡ value_in shape code value.now }
+{
+    match shape {
+        Shape::Counter32 => {
+            if value.len() != 4 {
+                return None;
+            }
+            let counter = BigEndian::read_u32(value) as u64;
+            Some(Stat {
+                code,
+                afi: 0,
+                safi: 0,
+                value: counter,
+            })
+        }
+        Shape::Gauge64 => {
+            if value.len() != 8 {
+                return None;
+            }
+            let gauge = BigEndian::read_u64(value);
+            Some(Stat {
+                code,
+                afi: 0,
+                safi: 0,
+                value: gauge,
+            })
+        }
+        Shape::FamilyGauge64 => {
+            if value.len() != 11 {
+                return None;
+            }
+            let afi = BigEndian::read_u16(value);
+            let gauge = BigEndian::read_u64(&value[3..]);
+            Some(Stat {
+                code,
+                afi,
+                safi: value[2],
+                value: gauge,
+            })
+        }
+        Shape::Exact(_) | Shape::Multiple(_) | Shape::Free => None,
+    }
+}
+
+// The statistic of a TLV: its type has a row, and its length is that of the row.
+fn stat_of(tlv: Tlv<'_>) -> Option<Stat>
+    ensures { result ≡ statistic_of (record { kind = tlv.entry.kind; value = tlv.entry.value.now }) }
+{
+    match statistic_table().find(tlv.kind) {
+        Some(shape) => stat_in(shape, tlv.kind, tlv.value),
+        None => None,
+    }
+}
+
+// How many TLVs there are.
+fn count_tlvs(bytes: &[u8]) -> u32
+    requires { length bytes.now ≤ 1048570 }
+    ensures { (ts : List TlvValue) → AreTlvs bytes.now ts → result ≡ length ts }
+{
+    let mut rest = bytes;
+    let mut count = 0;
+    while let Some(tlv) = read_tlv(rest) {
+        count += 1;
+        rest = tlv.rest;
+    }
+    count
+}
+
+// Appends the statistics of the TLVs, and counts those that are passed over.
+fn add_stats(stats: &mut StatList, bytes: &[u8]) -> Result<u32, NoMemory>
+    requires { length bytes.now ≤ 1048570 }
+    ensures stats { OnOk result ((ts : List TlvValue) → AreTlvs bytes.now ts → stats.new ≡ stats.old ++ filter_map statistic_of ts) }
+    ensures unread { IfOk result (λ unread. (ts : List TlvValue) → AreTlvs bytes.now ts → unread ≡ count_by (λ t. is_none (statistic_of t)) ts) }
+{
+    let mut rest = bytes;
+    let mut unread = 0;
+    while let Some(tlv) = read_tlv(rest) {
+        rest = tlv.rest;
+        match stat_of(tlv) {
+            Some(stat) => stats.push(stat)?,
+            None => unread += 1,
+        }
+    }
+    Ok(unread)
+}
+
+/// Reads what follows the Per-Peer Header in a Statistics Report (RFC 7854, section 4.8), all of the
+/// bytes. `EventFault::Broken` exactly where they aren't a count and as many TLVs. A TLV whose type has
+/// no row in `statistic_table`, or whose length isn't that of its row, is passed over. Time and memory
+/// are linear in the bytes.
+pub fn read_statistics(alloc: Global, rest: &[u8]) -> Result<Statistics, EventFault>
+    requires { length rest.now ≤ 1048570 }
+    ensures ok { IfOk result (λ s. IsStatistics rest.now s) }
+    ensures broken { IsErrOf result EventFault.Broken → (s : StatisticsValue) → IsStatistics rest.now s → ⊥ }
+{
+    if rest.len() < 4 {
+        return Err(EventFault::Broken);
+    }
+    let tlvs = &rest[4..];
+    if !are_tlvs(tlvs) {
+        return Err(EventFault::Broken);
+    }
+    if count_tlvs(tlvs) != BigEndian::read_u32(rest) {
+        return Err(EventFault::Broken);
+    }
+    let mut stats = StatList::new(alloc);
+    let unread = add_stats(&mut stats, tlvs)?;
+    Ok(Statistics { stats, unread })
+}
