@@ -54,6 +54,7 @@ impl<T: Drop> Trie<T> {
         ensures back { IfErr result (λ back. back ≡ value) }
         ensures err { OnErr result (self.new.pairs ≡ self.old.pairs) }
         ensures family { self.new.family ≡ self.old.family }
+        ensures ordered { IsStrictlySortedBy prefix_cmp (keys_of self.new.pairs) }
     {
         let _bits = prefix.bits();
         match self.pairs.insert(prefix, Held::new(value)) {
@@ -69,6 +70,7 @@ impl<T: Drop> Trie<T> {
         ensures value { result ≡ lookup (is_at (prefix_cmp prefix.now)) self.old.pairs }
         ensures rest { self.new.pairs ≡ remove_entry (is_at (prefix_cmp prefix.now)) self.old.pairs }
         ensures family { self.new.family ≡ self.old.family }
+        ensures ordered { IsStrictlySortedBy prefix_cmp (keys_of self.new.pairs) }
     {
         match self.pairs.remove(prefix) {
             Some(held) => Some(held.into_value()),

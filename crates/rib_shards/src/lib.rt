@@ -1,0 +1,17 @@
+//! A table of prefixes that is shared at the price of a counter, and copied where it is changed.
+//!
+//! It stands on 257 tables of `prefix_trie`: one for each first byte, and one for the prefixes below 8
+//! bits. A contract sees none of that: a `Shards<T>` is its family and the list of its pairs in prefix
+//! order, as a trie is. After a change the values are those that the change asks for, or alike by the
+//! trait `Share`, since what somebody else holds is copied first.
+//!
+//! Proved: `insert`, `remove`, `get` and `len` are those of the list; `share` gives the same list.
+//! Begin with `src/shards.rt`, then `src/changes.rt` and `src/parts.rt`.
+#![tactic(auto)]
+
+mod changes;
+mod parts;
+mod shards;
+
+pub use prefix_trie::{NoMemory, Share, Steps};
+pub use shards::Shards;
