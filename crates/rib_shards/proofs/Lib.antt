@@ -4,3 +4,4 @@ pub mod Merging
 pub mod Changing
 pub mod Tables
 pub mod Whole
+pub mod Members

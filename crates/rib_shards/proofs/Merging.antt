@@ -91,6 +91,10 @@ beyond q base (part ∷ parts) own more =
     value-append q (pairs_in part) (joined parts) ∙ ap (λ o. or_else o (value_at q (joined parts))) (value_elsewhere base q (pairs_in part) (own_first base part parts own) (λ e. omega (arith, e, more)))
     ∙ beyond q (suc base) parts (own_rest base part parts own) (omega (arith, more))
 
+-- no part beyond the last
+pub value_beyond : {X : Type 0} (family : Family) (parts : List (Option (TableValue X))) → AreParts family parts → (q : PrefixValue) → 257 ≤ part_of q → value_at q (merged parts) ≡ None
+value_beyond family parts are q more = value-merged q parts ∙ beyond q 0 parts (owned family parts are) (omega (arith, more, are.count))
+
 module _ {X : Type 0} (family : Family) (parts : List (Option (TableValue X))) (are : AreParts family parts) (i : ℕ) (here : i < 257) (part : Option (TableValue X)) (is : IsPart family i part) where
   pub still_parts : AreParts family (set parts i part)
   still_parts = record {
