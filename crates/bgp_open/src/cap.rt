@@ -1,9 +1,8 @@
 ghost use Rattle.std.specs.Prelude.{◌≡◌, ◌↔◌, [], ◌∷◌, ◌++◌, IfOk, OnOk, IfErr, OnErr, IsNone, option_to_list};
 
-use crate::fault::Unplaced;
 use std::alloc::Global;
 use std::marker::Model;
-use wire_io::NoMemory;
+use wire_io::{NoMemory, Unplaced};
 
 /// What a capability says of one address family.
 #[derive(Clone, Copy, Debug, PartialEq, Eq)]

@@ -3,19 +3,6 @@ ghost use Rattle.bgp_open.specs.declared.fault.OpenFault.TheVariants.{NoMemory a
 
 use wire_io::NoMemory;
 
-/// An item that found no place.
-#[derive(Debug, Drop)]
-pub enum Unplaced<T> {
-    /// Want of memory. The item is handed back.
-    NoMemory { item: T },
-}
-
-impl<T: Drop> From<Unplaced<T>> for NoMemory {
-    fn from(_: Unplaced<T>) -> Self {
-        NoMemory
-    }
-}
-
 /// Why an OPEN was not read.
 #[derive(Clone, Copy, Debug, PartialEq, Eq)]
 pub enum OpenFault {

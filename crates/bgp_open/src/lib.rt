@@ -22,7 +22,7 @@ mod read;
 
 pub use bmp_specs::{Detail, Side};
 pub use cap::{Cap, CapList};
-pub use fault::{OpenFault, Unplaced};
+pub use fault::OpenFault;
 pub use ids::path_ids;
 pub use message::{BgpFrame, bgp_frame};
 pub use open::Open;

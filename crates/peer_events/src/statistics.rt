@@ -6,11 +6,10 @@ ghost use Rattle.bmp_specs.specs.Values.{StatisticsValue, TlvValue};
 
 use crate::fault::EventFault;
 use crate::tlvs::{Tlv, are_tlvs, read_tlv};
-use bgp_open::Unplaced;
 use byteorder::{BigEndian, ByteOrder};
 use std::alloc::Global;
 use std::marker::Model;
-use wire_io::NoMemory;
+use wire_io::{NoMemory, Unplaced};
 use wire_tables::{Shape, Stat, statistic_table};
 
 /// A list of statistics, in the order of the wire. It keeps its allocator.

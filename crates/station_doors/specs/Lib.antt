@@ -2,4 +2,3 @@ pub mod Doors
 pub mod LastRead
 pub mod MemPort
 pub mod MemYard
-pub mod Unplaced

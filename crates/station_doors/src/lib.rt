@@ -16,4 +16,4 @@ mod mem_yard;
 pub use doors::{Port, Yard};
 pub use host::{HostPort, HostYard};
 pub use mem_port::MemPort;
-pub use mem_yard::{MemYard, PortList, Unplaced};
+pub use mem_yard::{MemYard, PortList};

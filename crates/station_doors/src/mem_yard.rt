@@ -5,15 +5,9 @@ ghost use Rattle.station_doors.specs.Doors.{untouched, without, one_more};
 ghost use Rattle.station_doors.specs.MemPort.{MemPortValue};
 
 use crate::{MemPort, Port, Yard};
-use std::alloc::{AllocFailed, Global};
+use std::alloc::Global;
 use std::marker::Model;
-use wire_io::{Failed, NoMemory};
-
-/// Why an item was not appended. It is handed back.
-#[derive(Debug, Drop)]
-pub enum Unplaced<T> {
-    NoMemory { item: T },
-}
+use wire_io::{Failed, NoMemory, Unplaced};
 
 /// A list of ports that keeps its allocator.
 #[derive(Drop)]
@@ -31,8 +25,6 @@ impl Model for PortList {
 }
 
 impl PortList {
-    ghost use Rattle.station_doors.specs.Unplaced.{HandsBack};
-
     /// The empty list. It takes no memory.
     pub fn new(alloc: Global) -> PortList
         ensures { result ≡ [] }
@@ -46,7 +38,7 @@ impl PortList {
     pub fn push(&mut self, item: MemPort) -> Result<(), Unplaced<MemPort>>
         ensures ok { OnOk result (self.new ≡ self.old ++ item ∷ []) }
         ensures err { OnErr result (self.new ≡ self.old) }
-        ensures item { IfErr result (HandsBack item) }
+        ensures handed_back { IfErr result (λ unplaced. unplaced ≡ Unplaced.NoMemory item) }
     {
         match self.items.push(item) {
             Ok(()) => Ok(()),
