@@ -1,4 +1,4 @@
-ghost use Rattle.std.specs.Prelude.{◌≡◌, ℕ, ◌<◌, Option, None, IfSome, IsOk, length};
+ghost use Rattle.std.specs.Prelude.{◌≡◌, ℕ, ◌<◌, Option, None, [], IfSome, OnErr, length};
 ghost use Rattle.std.specs.Io.{ReadsAtMost};
 ghost use Rattle.wire_io.specs.Aside.{Aside};
 ghost use Rattle.wire_io.specs.Faults.{HasCause};
@@ -14,10 +14,11 @@ pub trait Port {
     /// How many of its calls were made that its plan numbers.
     ghost calls: { Self → ℕ } = { λ _. 0 };
 
-    /// Opens the next connection, of which no byte was given. False where there is none.
+    /// Opens the next connection, of which no byte was given. False where there is none. It fails only
+    /// where the plan, if it is shown, has a call that fails.
     fn next_connection(&mut self) -> Result<bool, Failed>
         ensures opens { Opens (aside self.old) (aside self.new) result }
-        ensures planned { IfSome (aside self.old).plan (λ _. IsOk result) }
+        ensures planned { IfSome (aside self.old).plan (λ plan. OnErr result (plan.fails ≡ [] → ⊥)) }
         ensures calls { calls self.new ≡ calls self.old };
 
     /// Gives the next bytes of the present connection, at least one, or none at its end. It is asked for

@@ -12,7 +12,7 @@ use Rattle.wire_io.specs.declared.sink.Failed.{Failed}
 use Rattle.wire_io.specs.Aside.{Aside, Given, Plan, fresh}
 use Rattle.station_doors.specs.Doors.{Opens, OpensNext, GivesNext, Reads, Closes, AsPlanned, GivesBytes, given_more, read_of, untouched}
 use Rattle.station_doors.proofs.Sessions.{given_more_last}
-use Rattle.station_top.specs.Input.{HasCome, cause_of, unless_some}
+use Rattle.station_top.specs.Input.{HasCome, cause_of, unless_some, input_of}
 use Rattle.station_top.specs.Take.{GivesMore, IsNew, Takes, FailsBy, Comes, first_of, cause_by}
 use Rattle.station_top.specs.declared.take.Input.{Input}
 use Rattle.station_top.specs.declared.take.Input.TheVariants.{Empty, Fault, Bytes}
@@ -217,8 +217,26 @@ comes plan a b c d calls input e none o t shut =
       front = first.2 ∙ front.1;
       whole = λ h. front.2 (t.end h);
       steady = λ h. steady_cause input t.bytes front.0 (first_of plan.connections) t.last t.come (first.2 ∙ front.1) (λ w. front.2 (t.end w)) (λ w. none_fails (fault w) h);
-      fault = λ offset w. fault_place input plan t.bytes t.last offset t.come fault w;
+      fault = λ offset some w. fault_place input plan t.bytes t.last offset t.come fault w;
     }
   where
     none_fails : {most : ℕ} → FailsBy (Some plan) most → plan.fails ≡ [] → ⊥
     none_fails p h = omega (arith, p.2.1, ap length h)
+
+-- no connection could be opened: an empty one whose read failed
+pub comes_unopened : (plan : Plan) (a b : Aside) (e : Failed) → a ≡ untouched plan → Opens a b (Err e) → IfSome a.plan (λ p. p.fails ≡ [] → ⊥) → Comes plan b (Some (ReadFault 0))
+comes_unopened plan a b e is o fails =
+    let o1 = subst (λ (x : Aside). Opens x b (Err e)) is o in
+    let some = subst (λ (x : Aside). IfSome x.plan (λ p. p.fails ≡ [] → ⊥)) is fails in
+    record {
+      shown = o1.plan;
+      given = [];
+      given_is = o1.given;
+      one = omega arith;
+      come = subst (λ (r : Bool). HasCome (input_of [] r) (Some (ReadFault 0))) (sym o1.refused) (refl, is_fault);
+      rest = first_of plan.connections;
+      front = subst (λ (r : Bool). first_of plan.connections ≡ (input_of [] r).bytes ++ first_of plan.connections) (sym o1.refused) refl;
+      whole = subst (λ (r : Bool). (input_of [] r).last ≡ gave_none → first_of plan.connections ≡ []) (sym o1.refused) (λ h. absurd (cc h));
+      steady = λ h. absurd (some h);
+      fault = λ offset one w. absurd (omega (arith, one));
+    }

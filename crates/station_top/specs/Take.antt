@@ -1,5 +1,5 @@
 -- What taking a connection does to a port.
-use Rattle.std.specs.Prelude.{◌≡◌, ℕ, ◌+◌, ◌≤◌, ◌++◌, List, [], ◌∷◌, Option, Some, None, IfSome, Contains, length}
+use Rattle.std.specs.Prelude.{◌≡◌, ℕ, ◌+◌, ◌<◌, ◌≤◌, ◌++◌, List, [], ◌∷◌, Option, Some, None, IfSome, Contains, length}
 use Rattle.std.specs.Io.KnownBytes.{Consumes, IsAtEnd}
 use Rattle.bmp_specs.specs.declared.causes.Cause.{Cause}
 use Rattle.bmp_specs.specs.declared.causes.Cause.TheVariants.{Ended, ReadFault}
@@ -47,7 +47,7 @@ cause_by (byte ∷ bytes) = None
 
 -- What a port with this plan shows after its one input connection was taken, which came to this cause. What it gave is a
 -- front of the plan's first connection, and is the whole of it where it ended. Where the plan doesn't fail, the cause follows
--- from that connection alone. A read fault comes only where the plan has a failing read, and no later than there.
+-- from that connection alone. A failed read of a connection comes no later than at the plan's first failing read.
 pub record Comes (plan : Plan) (shows : Aside) (cause : Option Cause) : Type 0 where
   pub shown : shows.plan ≡ Some plan
   pub given : List Given
@@ -58,4 +58,4 @@ pub record Comes (plan : Plan) (shows : Aside) (cause : Option Cause) : Type 0 w
   pub front : first_of plan.connections ≡ (input_of given shows.refused).bytes ++ rest
   pub whole : (input_of given shows.refused).last ≡ gave_none → rest ≡ []
   pub steady : plan.fails ≡ [] → cause ≡ cause_by (first_of plan.connections)
-  pub fault : (offset : ℕ) → cause ≡ Some (ReadFault offset) → (k : ℕ) × (k ≤ offset) × Contains plan.fails k
+  pub fault : (offset : ℕ) → 0 < length given → cause ≡ Some (ReadFault offset) → (k : ℕ) × (k ≤ offset) × Contains plan.fails k
