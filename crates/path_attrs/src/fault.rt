@@ -2,7 +2,6 @@ ghost use Rattle.std.specs.Prelude.{◌≡◌};
 ghost use Rattle.path_attrs.specs.declared.fault.AttrFault.TheVariants.{Broken as OutOfForm, NoMemory as OutOfMemory};
 
 use as_path::Unplaced;
-use std::alloc::{AllocError, AllocFailed};
 use wire_io::NoMemory;
 
 /// Why path attributes were not read.
@@ -40,22 +39,6 @@ impl From<as_path::NoMemory> for AttrFault {
     ghost from_gives = { λ _ fault. fault ≡ OutOfMemory };
 
     fn from(_: as_path::NoMemory) -> Self {
-        AttrFault::NoMemory
-    }
-}
-
-impl From<AllocError> for AttrFault {
-    ghost from_gives = { λ _ fault. fault ≡ OutOfMemory };
-
-    fn from(_: AllocError) -> Self {
-        AttrFault::NoMemory
-    }
-}
-
-impl<T: Drop> From<AllocFailed<T>> for AttrFault {
-    ghost from_gives = { λ _ fault. fault ≡ OutOfMemory };
-
-    fn from(_: AllocFailed<T>) -> Self {
         AttrFault::NoMemory
     }
 }

@@ -25,6 +25,8 @@ mod mp;
 mod others;
 mod part;
 mod read;
+#[cfg(test)]
+mod tests;
 mod values;
 
 pub use as_path::{AsPath, Numbers, Unplaced, Width};
