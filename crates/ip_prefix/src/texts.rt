@@ -1,5 +1,4 @@
 ghost use Rattle.std.specs.Prelude.{◌≡◌, ◌+◌, ◌*◌, ◌<◌, ◌≤◌, [], ◌∷◌, ◌++◌, IfSome, length};
-ghost use Rattle.std.specs.Net.Addr.{segments_of};
 ghost use Rattle.bmp_specs.specs.AddressText.{dotted, group_text, joined_groups, shortened_run, groups_text, address_text, IsAddressText};
 ghost use Rattle.bmp_specs.specs.ShortenedRun.{Shortens};
 ghost use Rattle.bmp_specs.specs.PrefixText.{prefix_text, IsPrefixText};
