@@ -4,7 +4,9 @@
 #![tactic(auto)]
 
 mod frames;
+mod publisher;
 
+use publisher::Call;
 use std::{env, io};
 
 fn main(rt: HostRuntime) -> io::Result<()> {
@@ -14,6 +16,8 @@ fn main(rt: HostRuntime) -> io::Result<()> {
     let number = words.next().and_then(|word| word.parse::<usize>().ok());
     match word.as_ref().map(|word| word.as_str()) {
         Some("frames") => frames::run(&rt, number),
-        _ => println!(rt; "usage: bench frames [PIECE]"),
+        Some("publish") => publisher::run(&rt, rt.alloc(), Call::Publish, number),
+        Some("snapshot") => publisher::run(&rt, rt.alloc(), Call::Snapshot, number),
+        _ => println!(rt; "usage: bench frames [PIECE] | publish [N] | snapshot [N]"),
     }
 }

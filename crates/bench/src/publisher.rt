@@ -1,0 +1,130 @@
+ghost use Rattle.std.specs.Prelude.{◌≡◌};
+ghost use Rattle.cut_publisher.specs.Opening.{IsOpened};
+
+use cut_publisher::{
+    AskPass, FeedPass, Naming, Publisher, Station, Subject, name, open_station, publish, snapshot,
+};
+use std::alloc::Global;
+use std::io;
+use std::marker::Brand;
+use std::sync::{Arc, Wait};
+
+/// The most calls of one run, and the number where no other is given.
+const MOST: u32 = 1_000_000_000;
+
+const USUAL: u32 = 1_000_000;
+
+/// How many entries a lane has published.
+#[derive(Drop)]
+struct Tally {
+    count: u64,
+}
+
+impl Subject for Tally {
+    type Entry = u32;
+
+    ghost use Rattle.std.specs.Prelude.{◌≡◌, length};
+
+    ghost stands = { λ v es. v.count ≡ length es };
+}
+
+/// The call that is measured.
+#[derive(Clone, Copy)]
+pub enum Call {
+    Publish,
+    Snapshot,
+}
+
+/// Makes the call so many times, in a station of one lane and one asker. It prints the asker's
+/// revision after its last snapshot.
+pub fn run<R: Wait + Print>(
+    rt: &R,
+    alloc: Global,
+    call: Call,
+    times: Option<usize>,
+) -> io::Result<()> {
+    let times = times.map_or(USUAL, |times| times.min(MOST as usize) as u32);
+    match revision(rt, alloc, call, times) {
+        Some(revision) => println!(rt; "revision {revision}"),
+        None => Err(io::Error::from(io::ErrorKind::OutOfMemory)),
+    }
+}
+
+fn revision<R: Wait>(rt: &R, alloc: Global, call: Call, times: u32) -> Option<u64> {
+    let first = Arc::new(alloc, Tally { count: 0 }).ok()?;
+    let station = open_station(alloc, first, 1, 1).ok()?;
+    revision_in::<Brand, R>(rt, alloc, station, call, times)
+}
+
+fn revision_in<J: Naming, R: Wait>(
+    rt: &R,
+    alloc: Global,
+    station: Station<Tally>,
+    call: Call,
+    times: u32,
+) -> Option<u64>
+    requires named { station.publisher.station ≡ J.site }
+    requires opened { IsOpened 1 1 station.publisher station.feeds station.asks }
+{
+    let Station {
+        publisher,
+        mut feeds,
+        mut asks,
+    } = station;
+    let publisher = name::<Tally, J, R>(rt, publisher, &mut asks);
+    let feed = feeds.pop();
+    let ask = asks.pop();
+    let revision = match (feed, ask) {
+        (Some(feed), Some(ask)) => Some(calls(rt, alloc, &publisher, feed, ask, call, times)),
+        _ => None,
+    };
+    publisher.close(rt);
+    revision
+}
+
+fn calls<J: Naming, R: Wait>(
+    rt: &R,
+    alloc: Global,
+    publisher: &Publisher<Tally, J>,
+    mut feed: FeedPass<Tally>,
+    mut ask: AskPass<Tally>,
+    call: Call,
+    times: u32,
+) -> u64
+    requires { feed.station ≡ J.site }
+{
+    match call {
+        Call::Publish => {
+            for _ in 0..times {
+                publish_one(rt, alloc, publisher, &mut feed);
+            }
+            snapshot(&mut ask);
+        }
+        Call::Snapshot => {
+            publish_one(rt, alloc, publisher, &mut feed);
+            for _ in 0..times {
+                snapshot(&mut ask);
+            }
+        }
+    }
+    ask.cut().rev()
+}
+
+// Publishes one entry. Where there is no memory, the lane is as before.
+fn publish_one<J: Naming, R: Wait>(
+    rt: &R,
+    alloc: Global,
+    publisher: &Publisher<Tally, J>,
+    feed: &mut FeedPass<Tally>,
+)
+    requires { feed.old.station ≡ J.site }
+    ensures { feed.new.station ≡ J.site }
+{
+    let count = feed.count();
+    if count >= 1 << 57 {
+        return;
+    }
+    if let Ok(value) = Arc::new(alloc, Tally { count: count + 1 }) {
+        let _ = publish(rt, alloc, publisher, feed, &[0], value);
+    }
+}
