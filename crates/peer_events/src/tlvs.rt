@@ -7,9 +7,6 @@ ghost use Rattle.peer_events.specs.Known.{is_known_in};
 
 use byteorder::{BigEndian, ByteOrder};
 
-/// The longest slice that a reader is given: the longest message without its common header.
-pub const LONGEST: usize = 1_048_570;
-
 /// "Type = 0: String", in an Initiation and in a Peer Up (RFC 7854, section 4.4).
 pub(crate) const STRING: u16 = 0;
 
@@ -129,7 +126,7 @@ fn passed_over(place: Place, tlv: Tlv<'_>) -> u32
 
 // How many TLVs are passed over.
 pub(crate) fn count_unread(place: Place, bytes: &[u8]) -> u32
-    requires { length bytes.now ≤ LONGEST }
+    requires { length bytes.now ≤ 1048570 }
     ensures { (ts : List TlvValue) → AreTlvs bytes.now ts → result ≡ count_by (λ t. not (is_known_in place t)) ts }
 {
     let mut rest = bytes;
