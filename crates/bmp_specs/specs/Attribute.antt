@@ -26,9 +26,3 @@ pub record IsAttribute (bytes : List ℕ) (a : OtherValue) : Type 0 where
   pub code_is : slice_index bytes 1 ≡ a.code
   pub length_is : value_length bytes + attribute_header bytes ≡ length bytes
   pub value_is : drop (attribute_header bytes) bytes ≡ a.value
-
--- an attribute of so many bytes stands at the front
-pub record BeginsWithAttribute (bytes : List ℕ) (size : ℕ) : Type 0 where
-  pub within : size ≤ length bytes
-  pub header : attribute_header bytes ≤ size
-  pub length_is : value_length bytes + attribute_header bytes ≡ size

@@ -16,12 +16,6 @@ pub record IsTlv (bytes : List ℕ) (t : TlvValue) : Type 0 where
 abbrev pub AreTlvs : List ℕ → List TlvValue → Type 0
 AreTlvs bytes ts = AreParts IsTlv bytes ts
 
--- a TLV of so many bytes stands at the front
-pub record BeginsWithTlv (bytes : List ℕ) (size : ℕ) : Type 0 where
-  pub within : size ≤ length bytes
-  pub header : 4 ≤ size
-  pub length_is : big_number 2 (drop 2 bytes) + 4 ≡ size
-
 -- the values of one type, in order
 abbrev pub values_of : ℕ → List TlvValue → List (List ℕ)
 values_of kind ts = map (λ t. t.value) (filter (λ t. t.kind == kind) ts)

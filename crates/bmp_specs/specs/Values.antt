@@ -87,7 +87,7 @@ pub record KeyValue : Type 0 where
   pub distinguisher : ℕ
   pub address : AddressValue
 
--- what a Peer Up Notification tells of a peer (RFC 7854, section 4.10; RFC 9069, section 4.4)
+-- what a Peer Up Notification tells of a peer (RFC 7854, section 4.10; RFC 9069, section 5.2)
 pub record PeerInfoValue : Type 0 where
   pub asn : ℕ
   pub identifier : List ℕ
