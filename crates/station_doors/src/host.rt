@@ -1,4 +1,6 @@
-ghost use Rattle.std.specs.Prelude.{◌≡◌, ℕ, [], None, Some};
+ghost use Rattle.std.specs.Prelude.{◌≡◌, ◌↔◌, ℕ, [], None, Some, IfOk, IsOk, IsSome};
+ghost use Rattle.wire_io.specs.Faults.{HasCause};
+ghost use Rattle.station_doors.specs.Doors.{one_more};
 
 use crate::{Port, Yard};
 use std::io::Read;
@@ -74,7 +76,13 @@ impl<R: Read + Drop> Yard for HostYard<R> {
 
     ghost calls = { λ y. y.calls };
 
-    fn port(&mut self, _lane: u32) -> Result<HostPort<R>, Failed> {
+    fn port(&mut self, _lane: u32) -> Result<HostPort<R>, Failed>
+        ensures once { IsOk result ↔ IsSome self.old.input }
+        ensures reader { IfOk result (λ port. self.old.input ≡ Some port.input) }
+        ensures input { self.new.input ≡ None }
+        ensures calls { self.new.calls ≡ one_more self.old.calls }
+        ensures cause { HasCause self.old.faults self.new.faults result }
+    {
         self.calls = self.calls.saturating_add(1);
         match self.input.take() {
             Some(input) => Ok(HostPort {
