@@ -19,35 +19,35 @@ const NOTIFICATION: u8 = 3;
 
 // The error code and the error subcode, where the bytes are exactly one NOTIFICATION that has them (RFC
 // 4271, section 4.5).
-fn notification(data: &[u8]) -> Option<(u8, u8)>
-    ensures found { IfSome result (λ codes. IsNotification data.now codes.0 codes.1) }
-    ensures none { IfNone result ((code sub : ℕ) → IsNotification data.now code sub → ⊥) }
+fn notification(bytes: &[u8]) -> Option<(u8, u8)>
+    ensures found { IfSome result (λ codes. IsNotification bytes.now codes.0 codes.1) }
+    ensures none { IfNone result ((code sub : ℕ) → IsNotification bytes.now code sub → ⊥) }
 {
-    let frame = bgp_frame(data)?;
+    let frame = bgp_frame(bytes)?;
     if frame.kind != NOTIFICATION {
         return None;
     }
-    if frame.length as usize != data.len() {
+    if frame.length as usize != bytes.len() {
         return None;
     }
-    if data.len() < 21 {
+    if bytes.len() < 21 {
         return None;
     }
-    Some((data[19], data[20]))
+    Some((bytes[19], bytes[20]))
 }
 
 // What the data says for the reason.
-fn detail(reason: u8, data: &[u8]) -> Detail
-    ensures { IsDetail reason data.now result }
+fn detail(reason: u8, bytes: &[u8]) -> Detail
+    ensures { IsDetail reason bytes.now result }
 {
     match reason {
-        LOCAL_NOTIFICATION | REMOTE_NOTIFICATION => match notification(data) {
+        LOCAL_NOTIFICATION | REMOTE_NOTIFICATION => match notification(bytes) {
             Some((code, sub)) => Detail::Notified { code, sub },
             None => Detail::Unread,
         },
         LOCAL_EVENT => {
-            if data.len() == 2 {
-                Detail::Event(BigEndian::read_u16(data))
+            if bytes.len() == 2 {
+                Detail::Event(BigEndian::read_u16(bytes))
             } else {
                 Detail::Unread
             }
@@ -64,9 +64,9 @@ pub fn read_peer_down(rest: &[u8]) -> Option<DownInfo>
     ensures found { IfSome result (λ d. IsPeerDown rest.now d) }
     ensures none { IfNone result ((d : DownInfoValue) → IsPeerDown rest.now d → ⊥) }
 {
-    let (reason, data) = rest.split_first()?;
+    let (reason, after) = rest.split_first()?;
     Some(DownInfo {
         reason: *reason,
-        detail: detail(*reason, data),
+        detail: detail(*reason, after),
     })
 }

@@ -21,8 +21,17 @@ const STATISTICS: [u8; 39] = [
 // A reason of 2 bytes.
 const TERMINATION: [u8; 6] = [0, 1, 0, 2, 0, 0];
 
-// 192.0.2.254, ports 179 and 50000, two OPENs with ADD-PATH capabilities.
-const PEER_UP: [u8; 118] = [
+// 192.0.2.254, ports 179 and 50000, two OPENs.
+const PEER_UP: [u8; 106] = [
+    0, 0, 0, 0, 0, 0, 0, 0, 0, 0, 0, 0, 192, 0, 2, 254, 0, 179, 195, 80, 255, 255, 255, 255, 255,
+    255, 255, 255, 255, 255, 255, 255, 255, 255, 255, 255, 0, 43, 1, 4, 251, 240, 0, 180, 192, 0,
+    2, 254, 14, 2, 12, 1, 4, 0, 1, 0, 1, 65, 4, 0, 0, 251, 240, 255, 255, 255, 255, 255, 255, 255,
+    255, 255, 255, 255, 255, 255, 255, 255, 255, 0, 43, 1, 4, 251, 244, 0, 180, 192, 0, 2, 1, 14,
+    2, 12, 1, 4, 0, 1, 0, 1, 65, 4, 0, 0, 251, 244,
+];
+
+// The same, with an ADD-PATH capability in each OPEN.
+const PEER_UP_WITH_PATHS: [u8; 118] = [
     0, 0, 0, 0, 0, 0, 0, 0, 0, 0, 0, 0, 192, 0, 2, 254, 0, 179, 195, 80, 255, 255, 255, 255, 255,
     255, 255, 255, 255, 255, 255, 255, 255, 255, 255, 255, 0, 49, 1, 4, 251, 240, 0, 180, 192, 0,
     2, 254, 20, 2, 18, 1, 4, 0, 1, 0, 1, 65, 4, 0, 0, 251, 240, 69, 4, 0, 1, 1, 1, 255, 255, 255,
@@ -125,14 +134,26 @@ fn table(info: &PeerInfo) -> Option<&[u8]> {
     }
 }
 
+// The addresses: the local one, and the BGP identifier.
+fn addresses(info: &PeerInfo) -> ([u8; 16], [u8; 4]) {
+    (info.local.octets(), info.identifier)
+}
+
 #[test]
 fn a_peer_up_has_its_fields(rt: HostRuntime) -> Result<(), Fail> {
-    let up = read_peer_up(rt.alloc(), &GLOBAL, &PEER_UP)?;
-    assert_eq!(rt; up.unread, 0);
-    let info = up.info;
-    assert_eq!(rt; numbers(&info), (64500, 179, 50000, false));
-    assert_eq!(rt; speakers(&info), (64496, 64500));
-    assert!(rt; table(&info).is_none());
+    let local = [192, 0, 2, 254, 0, 0, 0, 0, 0, 0, 0, 0, 0, 0, 0, 0];
+    // the body, and how many entries of an ADD-PATH capability each OPEN has
+    let bodies: [(&[u8], usize); 2] = [(&PEER_UP, 0), (&PEER_UP_WITH_PATHS, 1)];
+    for (body, paths) in bodies {
+        let up = read_peer_up(rt.alloc(), &GLOBAL, body)?;
+        assert_eq!(rt; up.unread, 0);
+        let info = up.info;
+        assert_eq!(rt; numbers(&info), (64500, 179, 50000, false));
+        assert_eq!(rt; addresses(&info), (local, [192, 0, 2, 1]));
+        assert_eq!(rt; speakers(&info), (64496, 64500));
+        assert_eq!(rt; info.sent.paths.as_slice().len(), paths);
+        assert!(rt; table(&info).is_none());
+    }
     Ok(())
 }
 
@@ -142,6 +163,7 @@ fn a_loc_rib_peer_up_has_its_table(rt: HostRuntime) -> Result<(), Fail> {
     assert_eq!(rt; up.unread, 0);
     let info = up.info;
     assert_eq!(rt; numbers(&info), (64496, 0, 0, true));
+    assert_eq!(rt; addresses(&info), ([0; 16], [192, 0, 2, 254]));
     assert_eq!(rt; speakers(&info), (64496, 64496));
     assert_eq!(rt; table(&info).ok_or("no table")?, b"global".as_slice());
     Ok(())
