@@ -1,5 +1,6 @@
 ghost use Rattle.std.specs.Prelude.{◌≡◌, ◌≤◌, IfOk, IsErrOf, length};
 ghost use Rattle.std.specs.Option.{option_copied};
+ghost use Rattle.peer_events.specs.Body.{most_body};
 ghost use Rattle.bmp_specs.specs.Initiation.{IsInitiation};
 ghost use Rattle.bmp_specs.specs.Values.{InitiationValue};
 
@@ -47,7 +48,7 @@ pub(crate) fn copied(alloc: Global, bytes: Option<&[u8]>) -> Result<Option<ByteL
 /// Reads the body of an Initiation Message (RFC 7854, section 4.3), all of the bytes.
 /// `EventFault::Broken` exactly where TLVs don't fill them. Time and memory are linear in the bytes.
 pub fn read_initiation(alloc: Global, body: &[u8]) -> Result<Initiation, EventFault>
-    requires { length body.now ≤ 1048570 }
+    requires { length body.now ≤ most_body }
     ensures ok { IfOk result (λ i. IsInitiation body.now i) }
     ensures broken { IsErrOf result EventFault.Broken → (i : InitiationValue) → IsInitiation body.now i → ⊥ }
 {

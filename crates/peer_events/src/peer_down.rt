@@ -1,4 +1,5 @@
 ghost use Rattle.std.specs.Prelude.{◌≤◌, ℕ, IfSome, IfNone, length};
+ghost use Rattle.peer_events.specs.Body.{most_body};
 ghost use Rattle.bmp_specs.specs.PeerDownNotification.{IsDetail, IsNotification, IsPeerDown};
 ghost use Rattle.bmp_specs.specs.Values.{DownInfoValue};
 
@@ -60,7 +61,7 @@ fn detail(reason: u8, bytes: &[u8]) -> Detail
 /// exactly where no reason stands there. Data that isn't what the reason asks for is left unread, and
 /// so is all that follows the reason 6 (RFC 9069, section 5.3).
 pub fn read_peer_down(rest: &[u8]) -> Option<DownInfo>
-    requires { length rest.now ≤ 1048570 }
+    requires { length rest.now ≤ most_body }
     ensures found { IfSome result (λ d. IsPeerDown rest.now d) }
     ensures none { IfNone result ((d : DownInfoValue) → IsPeerDown rest.now d → ⊥) }
 {

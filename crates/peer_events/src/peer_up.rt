@@ -1,5 +1,6 @@
 ghost use Rattle.std.specs.Prelude.{◌≡◌, ◌==◌, ◌≤◌, ◌&&◌, List, ℕ, if◌then◌else◌, IfOk, IsErrOf, length, take, None};
 ghost use Rattle.std.specs.Option.{option_copied};
+ghost use Rattle.peer_events.specs.Body.{most_body};
 ghost use Rattle.bmp_specs.specs.Open.{IsOpenMessage};
 ghost use Rattle.bmp_specs.specs.PeerHeader.{is_set, place_of as place_in};
 ghost use Rattle.bmp_specs.specs.PeerUpNotification.{IsPeerUp, is_loc_rib as loc_rib_in, table_in, f_flag};
@@ -125,7 +126,7 @@ fn local_address(head: &PeerHeader, rest: &[u8]) -> Addr
 /// sections 4.4 and 5.2), all of the bytes. `EventFault::Broken` exactly where they are none. Time and
 /// memory are linear in the bytes.
 pub fn read_peer_up(alloc: Global, head: &PeerHeader, rest: &[u8]) -> Result<PeerUp, EventFault>
-    requires { length rest.now ≤ 1048570 }
+    requires { length rest.now ≤ most_body }
     ensures ok { IfOk result (λ u. IsPeerUp head.now rest.now u) }
     ensures broken { IsErrOf result EventFault.Broken → (u : PeerUpValue) → IsPeerUp head.now rest.now u → ⊥ }
 {

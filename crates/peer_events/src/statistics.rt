@@ -1,5 +1,6 @@
 ghost use Rattle.std.specs.Prelude.{◌≡◌, ◌↔◌, ◌≤◌, ◌+◌, [], ◌∷◌, ◌++◌, List, Option, IfOk, IfErr, OnOk, OnErr, IsErrOf, IsNone, IfSome, length, option_to_list, is_none, count_by};
 ghost use Rattle.std.specs.List.{filter_map};
+ghost use Rattle.peer_events.specs.Body.{most_body};
 ghost use Rattle.bmp_specs.specs.Statistics.{IsStatistics, statistic_of, value_in};
 ghost use Rattle.bmp_specs.specs.Tlv.{AreTlvs};
 ghost use Rattle.bmp_specs.specs.Values.{StatisticsValue, TlvValue};
@@ -141,7 +142,7 @@ fn stat_of(tlv: Tlv<'_>) -> Option<Stat>
 
 // How many TLVs there are.
 fn count_tlvs(bytes: &[u8]) -> u32
-    requires { length bytes.now ≤ 1048570 }
+    requires { length bytes.now ≤ most_body }
     ensures { (ts : List TlvValue) → AreTlvs bytes.now ts → result ≡ length ts }
 {
     let mut rest = bytes;
@@ -155,7 +156,7 @@ fn count_tlvs(bytes: &[u8]) -> u32
 
 // Appends the statistics of the TLVs, and counts those that are passed over.
 fn add_stats(stats: &mut StatList, bytes: &[u8]) -> Result<u32, NoMemory>
-    requires { length bytes.now ≤ 1048570 }
+    requires { length bytes.now ≤ most_body }
     ensures stats { OnOk result ((ts : List TlvValue) → AreTlvs bytes.now ts → stats.new ≡ stats.old ++ filter_map statistic_of ts) }
     ensures unread { IfOk result (λ unread. (ts : List TlvValue) → AreTlvs bytes.now ts → unread ≡ count_by (λ t. is_none (statistic_of t)) ts) }
 {
@@ -176,7 +177,7 @@ fn add_stats(stats: &mut StatList, bytes: &[u8]) -> Result<u32, NoMemory>
 /// no row in `statistic_table`, or whose length isn't that of its row, is passed over. Time and memory
 /// are linear in the bytes.
 pub fn read_statistics(alloc: Global, rest: &[u8]) -> Result<Statistics, EventFault>
-    requires { length rest.now ≤ 1048570 }
+    requires { length rest.now ≤ most_body }
     ensures ok { IfOk result (λ s. IsStatistics rest.now s) }
     ensures broken { IsErrOf result EventFault.Broken → (s : StatisticsValue) → IsStatistics rest.now s → ⊥ }
 {

@@ -1,5 +1,6 @@
 ghost use Rattle.std.specs.Prelude.{◌≡◌, ◌<◌, ◌≤◌, ◌+◌, ◌==◌, not, ℕ, List, Option, Some, if◌then◌else◌, IfSome, IfNone, IsTrue, length, count_by};
 ghost use Rattle.std.specs.Option.{option_copied};
+ghost use Rattle.peer_events.specs.Body.{most_body};
 ghost use Rattle.bmp_specs.specs.Sequence.{HasFront};
 ghost use Rattle.bmp_specs.specs.Tlv.{AreTlvs, IsTlv, last_value as last_value_in};
 ghost use Rattle.bmp_specs.specs.Values.{TlvValue};
@@ -126,7 +127,7 @@ fn passed_over(place: Place, tlv: Tlv<'_>) -> u32
 
 // How many TLVs are passed over.
 pub(crate) fn count_unread(place: Place, bytes: &[u8]) -> u32
-    requires { length bytes.now ≤ 1048570 }
+    requires { length bytes.now ≤ most_body }
     ensures { (ts : List TlvValue) → AreTlvs bytes.now ts → result ≡ count_by (λ t. not (is_known_in place t)) ts }
 {
     let mut rest = bytes;
