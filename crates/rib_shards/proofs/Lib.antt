@@ -5,3 +5,6 @@ pub mod Changing
 pub mod Tables
 pub mod Whole
 pub mod Members
+pub mod Firsts
+pub mod Places
+pub mod Earlier

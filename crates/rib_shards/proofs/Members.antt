@@ -23,10 +23,10 @@ use Rattle.rib_shards.specs.Parts.{part_of, pairs_in, joined, merged, AreParts}
 use Rattle.rib_shards.proofs.Order.{value_at, sorted_from, is_sorted-sorted_pairs}
 use Rattle.rib_shards.proofs.Merging.{value_of_part, value_beyond}
 
-listed_value : {T : Type 0} (es : List (PrefixValue × T)) → IsStrictlySortedBy prefix_cmp (keys_of es) → (d : PrefixValue × T) → Contains es d → value_at d.0 es ≡ Some d.1
+pub listed_value : {T : Type 0} (es : List (PrefixValue × T)) → IsStrictlySortedBy prefix_cmp (keys_of es) → (d : PrefixValue × T) → Contains es d → value_at d.0 es ≡ Some d.1
 listed_value es s d listed = lookup-from_Contains (eq_by_cmp_equiv prefix_total) d.0 d.1 es (IsDistinct-from_sorted prefix_cmp (keys_of es) s) listed
 
-value_listed : {T : Type 0} (es : List (PrefixValue × T)) (d : PrefixValue × T) → value_at d.0 es ≡ Some d.1 → Contains es d
+pub value_listed : {T : Type 0} (es : List (PrefixValue × T)) (d : PrefixValue × T) → value_at d.0 es ≡ Some d.1 → Contains es d
 value_listed es d e = Contains-from_lookup {eq = eq_by_cmp prefix_cmp} (tells_apart prefix_exact) d.0 d.1 es e
 
 none_some : {X : Type 0} (o : Option X) (x : X) → o ≡ None → o ≡ Some x → ⊥
@@ -52,10 +52,10 @@ module _ {T : Type 0} (family : Family) (parts : List (Option (TableValue T))) (
       ∙ ap (λ n. value_at d.0 (pairs_in (get_or parts n None))) at ∙ listed_value (pairs_in (get_or parts i None)) part.ordered d listed)
 
   -- ---- the longest prefix
-  long_part : (p : PrefixValue) → 8 ≤ p.bits → part_of p ≡ get_or p.address.octets 0 0
+  pub long_part : (p : PrefixValue) → 8 ≤ p.bits → part_of p ≡ get_or p.address.octets 0 0
   long_part p h = ap (λ b. if b then 256 else get_or p.address.octets 0 0) {x = nat_lt p.bits 8} {y = false} (grind (arith, nat_tests))
 
-  short_part_is : (p : PrefixValue) → p.bits < 8 → part_of p ≡ 256
+  pub short_part_is : (p : PrefixValue) → p.bits < 8 → part_of p ≡ 256
   short_part_is p h = ap (λ b. if b then 256 else get_or p.address.octets 0 0) {x = nat_lt p.bits 8} {y = true} (grind (arith, nat_tests))
 
   first_high : (n : ℕ) (xs : List ℕ) → 8 ≤ n → get_or (first_bits n xs) 0 0 ≡ get_or xs 0 0

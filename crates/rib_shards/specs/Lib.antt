@@ -1,3 +1,4 @@
 pub mod Parts
 pub mod Likeness
 pub mod Whole
+pub mod Cursor
