@@ -5,8 +5,9 @@
 //! order, as a trie is. After a change the values are those that the change asks for, or alike by the
 //! trait `Share`, since what somebody else holds is copied first.
 //!
-//! Proved: `insert`, `remove`, `get`, `after`, `at_or_after` and `len` are those of the list; `longest` gives the longest listed
-//! prefix that holds the address, in at most 260 looks; `share` gives the same list.
+//! Proved: `insert`, `remove`, `get`, `after`, `at_or_after` and `len` are those of the list; `longest`
+//! gives the longest listed prefix that holds the address, in at most 260 looks; `share` gives the same
+//! list.
 //! Begin with `src/shards.rt`, then `src/changes.rt`, `src/cursor.rt` and `src/longest.rt`.
 #![tactic(auto)]
 
