@@ -1,0 +1,117 @@
+-- One item of a list of prefixes after another, as the loops read them and count them.
+use Rattle.std.proofs.Common.{◌≡◌, ◌+◌, ◌<◌, ◌≤◌, ℕ, Bool, true, false, List, [], ◌∷◌, ◌++◌, length, take, drop, Option, Some, None, sym, ap, subst, ◌∙◌, append_assoc, append-nil, arith, take-append-drop, length-append, length-drop}
+use Rattle.std.proofs.lemmas.List.{drop-append-le, drop-take, length-take-le}
+use Rattle.std.proofs.Math.Seq.{drop-append_seam, take-append_seam}
+use Rattle.byteorder.specs.Endian.{big_number}
+use Rattle.byteorder.specs.Numbers.{big_from-append}
+use Rattle.bmp_specs.specs.declared.wire.Family.{Family}
+use Rattle.bmp_specs.specs.Nlri.{AreNlri, IsNlri}
+use Rattle.bmp_specs.specs.Parts.{Split}
+use Rattle.bmp_specs.specs.Prefix.{IsPrefix, StandsAtFront}
+use Rattle.bmp_specs.specs.Sequence.{HasFront}
+use Rattle.bmp_specs.specs.Values.{NlriValue, PrefixValue}
+use Rattle.bmp_specs.proofs.NlriCode.{nlri_code}
+use Rattle.bmp_specs.proofs.PartsRead.{HasRead, HasRead-nil, HasRead-front, HasRead-none, HasRead-end}
+
+front_stands : (family : Family) (input front rest : List ℕ) (p : PrefixValue) → input ≡ front ++ rest → IsPrefix family front p → StandsAtFront family input p (length front)
+front_stands family input front rest p split is = record {
+  within = omega (arith, ap length split, length-append front rest);
+  is = subst (λ (l : List ℕ). IsPrefix family l p) (sym (ap (λ (l : List ℕ). take (length front) l) split ∙ take-append_seam front rest)) is;
+}
+
+-- no prefix stands at the front
+pub bare_none : (family : Family) (input : List ℕ) → ((size : ℕ) (p : PrefixValue) → StandsAtFront family input p size → ⊥)
+    → (n : NlriValue) (rest : List ℕ) → HasFront (IsNlri family false) input n rest → ⊥
+bare_none family input none n rest (front, split, is) = none (length front) n.prefix (front_stands family input front rest n.prefix split.joined is.prefix_is)
+
+-- no prefix stands behind the identifier
+pub identified_none : (family : Family) (input after : List ℕ) → after ≡ drop 4 input → ((size : ℕ) (p : PrefixValue) → StandsAtFront family after p size → ⊥)
+    → (n : NlriValue) (rest : List ℕ) → HasFront (IsNlri family true) input n rest → ⊥
+identified_none family input after others none n rest (front, split, is) =
+    let behind : after ≡ drop 4 front ++ rest = others ∙ ap (λ (l : List ℕ). drop 4 l) split.joined ∙ drop-append-le 4 front rest is.header in
+    none (length (drop 4 front)) n.prefix (front_stands family after (drop 4 front) rest n.prefix behind is.prefix_is)
+
+-- the identifier and the prefix that were read stand at the front
+pub identified_found : (family : Family) (input id after : List ℕ) (p : PrefixValue) (number size : ℕ) → id ≡ take 4 input → after ≡ drop 4 input → length id ≡ 4 → StandsAtFront family after p size
+    → number ≡ big_number 4 id → HasFront (IsNlri family true) input (record { prefix = p; id = Some number }) (drop (size + 4) input)
+identified_found family input id after p number size first others len here is =
+    let front : List ℕ = take (4 + size) input in
+    let behind : drop 4 front ≡ take size after = drop-take 4 size input ∙ ap (λ (l : List ℕ). take size l) (sym others) in
+    let long : 4 + size ≤ length input = omega (arith, here.within, ap length others, length-drop 4 input, ap length (sym (take-append-drop 4 input)), length-append (take 4 input) (drop 4 input), ap length first, len) in
+    let header : 4 ≤ length front = omega (arith, length-take-le (4 + size) input long) in
+    let same : big_number 4 id ≡ big_number 4 front =
+    sym (big_from-append 4 id after (omega (arith, len))) ∙ ap (λ (l : List ℕ). big_number 4 l) (ap (λ (l : List ℕ). l ++ after) first ∙ ap (λ (l : List ℕ). take 4 input ++ l) others ∙ take-append-drop 4 input ∙ sym (take-append-drop (4 + size) input))
+    ∙ big_from-append 4 front (drop (4 + size) input) header in
+    let at : 4 + size ≡ size + 4 = omega arith in
+    subst (λ (k : ℕ). HasFront (IsNlri family true) input (record { prefix = p; id = Some number }) (drop k input)) at (
+      front,
+      record { joined = sym (take-append-drop (4 + size) input) },
+      record {
+        header = header;
+        id_is = ap (λ (k : ℕ). Some k) (is ∙ same);
+        prefix_is = subst (λ (l : List ℕ). IsPrefix family l p) (sym behind) here.is;
+      },
+    )
+
+-- The items of these bytes are those that were read, and what was read stands behind what the list had.
+pub record ReadsItems (family : Family) (identified : Bool) (bytes rest : List ℕ) (first now : List NlriValue) : Type 0 where
+  pub out : List NlriValue
+  pub read : HasRead (IsNlri family identified) bytes out rest
+  pub is : now ≡ first ++ out
+
+pub items_first : (family : Family) (identified : Bool) (bytes : List ℕ) (first : List NlriValue) → ReadsItems family identified bytes bytes first first
+items_first family identified bytes first = record { out = []; read = HasRead-nil (IsNlri family identified) bytes; is = sym (append-nil first) }
+
+pub items_more : (family : Family) (identified : Bool) (bytes rest after : List ℕ) (first now next : List NlriValue) (n : NlriValue) (size : ℕ) → ReadsItems family identified bytes rest first now
+    → HasFront (IsNlri family identified) rest n (drop size rest) → after ≡ drop size rest → next ≡ now ++ n ∷ [] → ReadsItems family identified bytes after first next
+items_more family identified bytes rest after first now next n size r here others e = record {
+  out = r.out ++ n ∷ [];
+  read = HasRead-front (IsNlri family identified) (nlri_code family identified) bytes r.out rest after n r.read (subst (λ (l : List ℕ). HasFront (IsNlri family identified) rest n l) (sym others) here);
+  is = e ∙ ap (λ (l : List NlriValue). l ++ n ∷ []) r.is ∙ append_assoc first r.out (n ∷ []);
+}
+
+pub items_stuck : (family : Family) (identified : Bool) (bytes rest : List ℕ) (first now : List NlriValue) → ReadsItems family identified bytes rest first now → 0 < length rest
+    → ((n : NlriValue) (after : List ℕ) → HasFront (IsNlri family identified) rest n after → ⊥) → (ns : List NlriValue) → AreNlri family identified bytes ns → ⊥
+items_stuck family identified bytes rest first now r left none ns are = HasRead-none (IsNlri family identified) bytes r.out rest r.read left none ns are
+
+pub items_end : (family : Family) (identified : Bool) (bytes rest : List ℕ) (first now : List NlriValue) → ReadsItems family identified bytes rest first now → length rest ≡ 0
+    → (ns : List NlriValue) × AreNlri family identified bytes ns × (now ≡ first ++ ns)
+items_end family identified bytes rest first now r empty = (r.out, HasRead-end (IsNlri family identified) bytes r.out rest r.read empty, r.is)
+
+-- so many items were counted, and those of the rest are the others
+pub record CountsItems (identified : Bool) (bytes rest : List ℕ) (count : ℕ) : Type 0 where
+  pub go : (family : Family) (ns : List NlriValue) → AreNlri family identified bytes ns → (ms : List NlriValue) × AreNlri family identified rest ms × (length ns ≡ count + length ms)
+  pub room : count + length rest ≤ length bytes
+
+pub counts_first : (identified : Bool) (bytes : List ℕ) → CountsItems identified bytes bytes 0
+counts_first identified bytes = record { go = λ family ns are. (ns, are, omega arith); room = omega arith }
+
+-- the size of the item at the front, where there is one
+abbrev pub HasSize : Bool → List ℕ → Option ℕ → Type 0
+HasSize identified input size = (family : Family) (n : NlriValue) (front rest : List ℕ) → Split input front rest → IsNlri family identified front n → size ≡ Some (length front)
+
+pub counts_more : (identified : Bool) (bytes rest after : List ℕ) (count size : ℕ) → CountsItems identified bytes rest count → HasSize identified rest (Some size) → 0 < size → size ≤ length rest
+    → after ≡ drop size rest → CountsItems identified bytes after (count + 1)
+counts_more identified bytes rest after count size c sized some within others = record {
+  go = λ family ns are. let q = c.go family ns are in next family q.0 q.1 (length ns) q.2;
+  room = omega (arith, c.room, some, within, ap length others, length-drop size rest);
+}
+  where
+    next : (family : Family) (ms : List NlriValue) → AreNlri family identified rest ms → (total : ℕ) → total ≡ count + length ms
+        → (ls : List NlriValue) × AreNlri family identified after ls × (total ≡ count + 1 + length ls)
+    next family [] e total is = absurd (omega (arith, ap length e, some, within))
+    next family (m ∷ ms) (front, tail, split, is', are) total is =
+        let same : size ≡ length front = cc (sized family m front tail split is') in
+        let back : after ≡ tail = others ∙ ap (λ (k : ℕ). drop k rest) same ∙ ap (λ (l : List ℕ). drop (length front) l) split.joined ∙ drop-append_seam front tail in
+        (ms, subst (λ (l : List ℕ). AreNlri family identified l ms) (sym back) are, omega (arith, is))
+
+pub counts_end : (identified : Bool) (bytes rest : List ℕ) (count : ℕ) → CountsItems identified bytes rest count → HasSize identified rest None
+    → (family : Family) (ns : List NlriValue) → AreNlri family identified bytes ns → count ≡ length ns
+counts_end identified bytes rest count c sized family ns are = let q = c.go family ns are in at q.0 q.1 q.2
+  where
+    at : (ms : List NlriValue) → AreNlri family identified rest ms → length ns ≡ count + length ms → count ≡ length ns
+    at [] e is = omega (arith, is)
+    at (m ∷ ms) (front, tail, split, is', _) is = absurd (none (sized family m front tail split is'))
+      where
+        none : None ≡ Some (length front) → ⊥
+        none e = cc e
