@@ -3,19 +3,25 @@
 //! A Route Monitoring message carries one UPDATE (RFC 7854, section 4.6). Its body is withdrawn
 //! prefixes, path attributes and announced prefixes (RFC 4271, section 4.3); prefixes also stand in the
 //! multiprotocol attributes (RFC 4760), with path identifiers where the session uses them (RFC 7911).
-//! `path_attrs` reads the attributes, this crate the prefixes.
+//! `path_attrs` reads the attributes, this crate the prefixes and the whole.
 //!
-//! Proved: a list of prefixes is read from exactly the bytes that are one. The grammar is in
-//! `specs/Nlri.antt` of `bmp_specs`; begin there, then with `src/items.rt`.
+//! Proved: `read_update` gives the value of the grammar exactly where the body has one, with the
+//! End-of-RIB marker (RFC 4724, section 2) and how many multiprotocol attributes are of families that
+//! aren't read. The grammar is `IsUpdate` in `specs/Update.antt` of `bmp_specs`; begin there, then with
+//! `src/read.rt`. `src/items.rt` reads lists of prefixes, `src/multi.rt` those of multiprotocol attributes.
 #![tactic(auto)]
 
 mod body;
 mod fault;
 mod items;
 mod list;
+mod multi;
+mod read;
+mod shared;
 mod update;
 
 pub use bmp_specs::IdUse;
 pub use fault::{Unplaced, UpdateFault};
 pub use list::NlriList;
+pub use read::read_update;
 pub use update::Update;

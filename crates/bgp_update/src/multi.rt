@@ -1,0 +1,159 @@
+ghost use Rattle.std.specs.Prelude.{◌≡◌, ◌<◌, ◌^◌, ◌++◌, List, length, IfOk, OnOk, IsErrOf};
+ghost use Rattle.bmp_specs.specs.AddressFamily.{unicast_family, uses_ids};
+ghost use Rattle.bmp_specs.specs.Nlri.{AreNlri};
+ghost use Rattle.bmp_specs.specs.Update.{AreMpNlri, empty_family, end_of_rib, passed_over};
+ghost use Rattle.bgp_update.specs.Withdrawn.{AreWithdrawn};
+ghost use Rattle.bmp_specs.specs.Values.{NlriValue};
+ghost use Rattle.bmp_specs.specs.declared.wire.Family.TheVariants.{V4};
+
+use crate::fault::UpdateFault;
+use crate::items::{add_items, count_items, uses_ids};
+use crate::list::NlriList;
+use bmp_specs::IdUse;
+use ip_prefix::Family;
+use path_attrs::{AttrsRead, MpPart};
+use std::alloc::Global;
+
+/// "Address Family Identifier" of IPv4 (RFC 4760, section 3).
+const AFI_IP: u16 = 1;
+
+/// "Address Family Identifier" of IPv6 (RFC 4760, section 3).
+const AFI_IP6: u16 = 2;
+
+/// "Subsequent Address Family Identifier" of unicast forwarding (RFC 4760, section 6).
+const SAFI_UNICAST: u8 = 1;
+
+// The family whose unicast the pair is.
+fn unicast_family(afi: u16, safi: u8) -> Option<Family>
+    ensures { result ≡ unicast_family afi safi }
+{
+    if afi == AFI_IP && safi == SAFI_UNICAST {
+        Some(Family::V4)
+    } else if afi == AFI_IP6 && safi == SAFI_UNICAST {
+        Some(Family::V6)
+    } else {
+        None
+    }
+}
+
+// 1 where the attribute is of a family that isn't read.
+pub(crate) fn passed_over(part: &Option<MpPart>) -> u32
+    ensures { result ≡ passed_over part.now }
+{
+    match part {
+        None => 0,
+        Some(part) => match unicast_family(part.afi, part.safi) {
+            None => 1,
+            Some(_) => 0,
+        },
+    }
+}
+
+// The family of an MP_UNREACH_NLRI without prefixes.
+fn empty_family(part: &Option<MpPart>) -> Option<Family>
+    ensures { result ≡ empty_family part.now }
+{
+    match part {
+        None => None,
+        Some(part) => {
+            if part.prefixes.as_slice().len() == 0 {
+                unicast_family(part.afi, part.safi)
+            } else {
+                None
+            }
+        }
+    }
+}
+
+// The family whose End-of-RIB marker the UPDATE is (RFC 4724, section 2): of IPv4 where its three fields
+// are empty, else of the family of an MP_UNREACH_NLRI without prefixes that is all it has.
+pub(crate) fn end_of_rib(withdrawn: &[u8], read: &AttrsRead, nlri: &[u8]) -> Option<Family>
+    ensures { result ≡ end_of_rib withdrawn.now read.now nlri.now }
+{
+    if withdrawn.len() != 0 || nlri.len() != 0 {
+        return None;
+    }
+    if read.count == 0 {
+        Some(Family::V4)
+    } else if read.count == 1 {
+        empty_family(&read.unreach)
+    } else {
+        None
+    }
+}
+
+// How many prefixes the attribute has, by their length octets alone.
+fn count_multi(ids: IdUse, part: &Option<MpPart>) -> usize
+    ensures count { (ns : List NlriValue) → AreMpNlri ids part.now ns → result ≡ length ns }
+    ensures room { result < 2 ^ 63 }
+{
+    match part {
+        None => 0,
+        Some(part) => match unicast_family(part.afi, part.safi) {
+            None => 0,
+            Some(family) => count_items(uses_ids(ids, family), part.prefixes.as_slice()),
+        },
+    }
+}
+
+// Appends the prefixes of the attribute. One of a family that isn't read is passed over.
+fn add_multi(list: &mut NlriList, ids: IdUse, part: &Option<MpPart>) -> Result<(), UpdateFault>
+    ensures ok { OnOk result ((ns : List NlriValue) × AreMpNlri ids part.now ns × (list.new ≡ list.old ++ ns)) }
+    ensures broken { IsErrOf result UpdateFault.Broken → (ns : List NlriValue) → AreMpNlri ids part.now ns → ⊥ }
+{
+    match part {
+        None => Ok(()),
+        Some(part) => match unicast_family(part.afi, part.safi) {
+            None => Ok(()),
+            Some(family) => {
+                add_items(
+                    list,
+                    family,
+                    uses_ids(ids, family),
+                    part.prefixes.as_slice(),
+                )
+            }
+        },
+    }
+}
+
+// The prefixes of MP_REACH_NLRI.
+pub(crate) fn read_multi(
+    alloc: Global,
+    ids: IdUse,
+    reach: &Option<MpPart>,
+) -> Result<NlriList, UpdateFault>
+    ensures ok { IfOk result (AreMpNlri ids reach.now) }
+    ensures broken { IsErrOf result UpdateFault.Broken → (ns : List NlriValue) → AreMpNlri ids reach.now ns → ⊥ }
+{
+    let mut list = NlriList::with_capacity(alloc, count_multi(ids, reach))?;
+    add_multi(&mut list, ids, reach)?;
+    Ok(list)
+}
+
+// The prefixes of "Network Layer Reachability Information".
+pub(crate) fn read_plain(alloc: Global, ids: IdUse, nlri: &[u8]) -> Result<NlriList, UpdateFault>
+    ensures ok { IfOk result (AreNlri V4 (uses_ids ids V4) nlri.now) }
+    ensures broken { IsErrOf result UpdateFault.Broken → (ns : List NlriValue) → AreNlri V4 (uses_ids ids V4) nlri.now ns → ⊥ }
+{
+    let mut list = NlriList::with_capacity(alloc, count_items(ids.v4, nlri))?;
+    add_items(&mut list, Family::V4, ids.v4, nlri)?;
+    Ok(list)
+}
+
+// The prefixes of "Withdrawn Routes", and then those of MP_UNREACH_NLRI.
+pub(crate) fn read_withdrawn(
+    alloc: Global,
+    ids: IdUse,
+    routes: &[u8],
+    unreach: &Option<MpPart>,
+) -> Result<NlriList, UpdateFault>
+    ensures ok { IfOk result (AreWithdrawn ids routes.now unreach.now) }
+    ensures broken { IsErrOf result UpdateFault.Broken → (ns : List NlriValue) → AreWithdrawn ids routes.now unreach.now ns → ⊥ }
+{
+    let count = count_items(ids.v4, routes) + count_multi(ids, unreach);
+    let mut list = NlriList::with_capacity(alloc, count)?;
+    add_items(&mut list, Family::V4, ids.v4, routes)?;
+    add_multi(&mut list, ids, unreach)?;
+    Ok(list)
+}

@@ -1,0 +1,57 @@
+ghost use Rattle.std.specs.Prelude.{◌≡◌, Some, IfOk, IfErr, OnOk};
+ghost use Rattle.std.specs.Arc.{arc_value};
+ghost use Rattle.bmp_specs.specs.Update.{with_hop_of};
+
+use crate::fault::UpdateFault;
+use path_attrs::{Attrs, MpPart};
+use std::alloc::Global;
+use std::sync::Arc;
+
+// The attributes of the routes of an UPDATE.
+#[derive(Drop)]
+pub(crate) struct SharedAttrs {
+    // those of the prefixes in its last field
+    pub(crate) plain: Arc<Attrs>,
+
+    // those of the prefixes in MP_REACH_NLRI
+    pub(crate) multi: Arc<Attrs>,
+}
+
+// Equal attributes but for the hop, which is that of MP_REACH_NLRI. Their own hop isn't copied.
+fn with_hop(attrs: &mut Attrs, part: MpPart) -> Result<Attrs, UpdateFault>
+    ensures ok { IfOk result (λ multi. multi ≡ with_hop_of (Some part) attrs.old) }
+    ensures same { OnOk result (attrs.new ≡ attrs.old) }
+    ensures fault { IfErr result (λ fault. fault ≡ UpdateFault.NoMemory) }
+{
+    let own = attrs.hop.take();
+    let mut multi = attrs.copy()?;
+    multi.hop = Some(part.hop);
+    attrs.hop = own;
+    Ok(multi)
+}
+
+// Shares the attributes: one set for both fields where there is no MP_REACH_NLRI.
+pub(crate) fn share(
+    alloc: Global,
+    attrs: Attrs,
+    reach: Option<MpPart>,
+) -> Result<SharedAttrs, UpdateFault>
+    ensures plain { IfOk result (λ shared. arc_value shared.plain ≡ attrs) }
+    ensures multi { IfOk result (λ shared. arc_value shared.multi ≡ with_hop_of reach attrs) }
+    ensures fault { IfErr result (λ fault. fault ≡ UpdateFault.NoMemory) }
+{
+    let mut attrs = attrs;
+    match reach {
+        None => {
+            let plain = Arc::new(alloc, attrs)?;
+            let multi = Arc::try_clone(&plain)?;
+            Ok(SharedAttrs { plain, multi })
+        }
+        Some(part) => {
+            let other = with_hop(&mut attrs, part)?;
+            let plain = Arc::new(alloc, attrs)?;
+            let multi = Arc::new(alloc, other)?;
+            Ok(SharedAttrs { plain, multi })
+        }
+    }
+}
