@@ -22,3 +22,6 @@ mod trie;
 pub use share::{NoMemory, Share};
 pub use steps::Steps;
 pub use trie::Trie;
+
+#[cfg(test)]
+mod tests;
