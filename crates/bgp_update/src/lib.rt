@@ -8,7 +8,8 @@
 //! Proved: `read_update` gives the value of the grammar exactly where the body has one, with the
 //! End-of-RIB marker (RFC 4724, section 2) and how many multiprotocol attributes are of families that
 //! aren't read. The grammar is `IsUpdate` in `specs/Update.antt` of `bmp_specs`; begin there, then with
-//! `src/read.rt`. `src/items.rt` reads lists of prefixes, `src/multi.rt` those of multiprotocol attributes.
+//! `src/read.rt`. `src/items.rt` reads lists of prefixes, `src/multi.rt` those of multiprotocol
+//! attributes.
 #![tactic(auto)]
 
 mod body;
@@ -25,3 +26,6 @@ pub use fault::{Unplaced, UpdateFault};
 pub use list::NlriList;
 pub use read::read_update;
 pub use update::Update;
+
+#[cfg(test)]
+mod tests;
