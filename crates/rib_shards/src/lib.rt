@@ -19,3 +19,6 @@ mod shards;
 
 pub use prefix_trie::{NoMemory, Share, Steps};
 pub use shards::Shards;
+
+#[cfg(test)]
+mod tests;
