@@ -40,6 +40,87 @@ fn other_aggregator_ignores_four_byte_attributes(rt: HostRuntime) -> Result<(), 
     Ok(())
 }
 
+// One attribute of each type, each with its flags, its type and its length before its value.
+const ORIGIN: [u8; 4] = [0x40, 1, 1, /* EGP */ 1];
+
+const AS_PATH: [u8; 13] = [
+    0x40, 2, 10, /* AS_SEQUENCE of two */ 2, 2, /* 64496 */ 0, 0, 0xfb, 0xf0, /* 64500 */ 0, 0,
+    0xfb, 0xf4,
+];
+
+const NEXT_HOP: [u8; 7] = [0x40, 3, 4, /* 192.0.2.1 */ 192, 0, 2, 1];
+
+const MULTI_EXIT_DISC: [u8; 7] = [0x80, 4, 4, /* 258 */ 0, 0, 1, 2];
+
+const LOCAL_PREF: [u8; 7] = [0x40, 5, 4, /* 100 */ 0, 0, 0, 100];
+
+const ATOMIC_AGGREGATE: [u8; 3] = [0x40, 6, 0];
+
+const AGGREGATOR: [u8; 11] = [
+    0xc0, 7, 8, /* 64500 */ 0, 0, 0xfb, 0xf4, /* 192.0.2.1 */ 192, 0, 2, 1,
+];
+
+const COMMUNITIES: [u8; 11] = [
+    0xc0, 8, 8, /* 64496:1 */ 0xfb, 0xf0, 0, 1, /* NO_EXPORT */ 0xff, 0xff, 0xff, 1,
+];
+
+const MP_REACH_NLRI: [u8; 29] = [
+    0x80, 14, 26, /* AFI, SAFI */ 0, 2, 1, /* next hop of 16 */ 16, 0x20, 1, 13, 0xb8, 0, 0, 0, 0,
+    0, 0, 0, 0, 0, 0, 0, 1, /* reserved */ 0, /* 2001:db8::/32 */ 32, 0x20, 1, 13, 0xb8,
+];
+
+const MP_UNREACH_NLRI: [u8; 6] = [0x80, 15, 3, /* AFI, SAFI */ 0, 2, 1];
+
+const AS4_PATH: [u8; 9] = [
+    0xc0, 17, 6, /* AS_SEQUENCE of one */ 2, 1, /* 4200000001 */ 0xfa, 0x56, 0xea, 1,
+];
+
+const AS4_AGGREGATOR: [u8; 11] = [
+    0xc0, 18, 8, /* 4200000001 */ 0xfa, 0x56, 0xea, 1, /* 192.0.2.1 */ 192, 0, 2, 1,
+];
+
+// LARGE_COMMUNITY (RFC 8092), which isn't read, with the Extended Length bit
+const LARGE_COMMUNITY: [u8; 16] = [
+    0xd0, 32, 0, 12, /* 64496:1:2 */ 0, 0, 0xfb, 0xf0, 0, 0, 0, 1, 0, 0, 0, 2,
+];
+
+// ORIGIN, MULTI_EXIT_DISC, LOCAL_PREF and ATOMIC_AGGREGATE of a field, and how many communities and other attributes it has.
+type Numbers = (Option<u8>, Option<u32>, Option<u32>, bool, usize, usize);
+
+fn numbers_of(alloc: Global, field: &[u8]) -> Option<Numbers> {
+    let attrs = read_attrs(alloc, field, Width::Four).ok()?.attrs;
+    Some((
+        attrs.origin,
+        attrs.med,
+        attrs.pref,
+        attrs.atomic,
+        attrs.communities.as_slice().len(),
+        attrs.others.as_slice().len(),
+    ))
+}
+
+#[test]
+fn one_attribute_of_each_type(rt: HostRuntime) {
+    let alloc = rt.alloc();
+    for (field, numbers) in [
+        (ORIGIN.as_slice(), (Some(1), None, None, false, 0, 0)),
+        (&AS_PATH, (None, None, None, false, 0, 0)),
+        (&NEXT_HOP, (None, None, None, false, 0, 0)),
+        (&MULTI_EXIT_DISC, (None, Some(258), None, false, 0, 0)),
+        (&LOCAL_PREF, (None, None, Some(100), false, 0, 0)),
+        (&ATOMIC_AGGREGATE, (None, None, None, true, 0, 0)),
+        (&AGGREGATOR, (None, None, None, false, 0, 0)),
+        (&COMMUNITIES, (None, None, None, false, 2, 0)),
+        (&MP_REACH_NLRI, (None, None, None, false, 0, 0)),
+        (&MP_UNREACH_NLRI, (None, None, None, false, 0, 0)),
+        (&AS4_PATH, (None, None, None, false, 0, 0)),
+        (&AS4_AGGREGATOR, (None, None, None, false, 0, 0)),
+        (&LARGE_COMMUNITY, (None, None, None, false, 0, 1)),
+    ] {
+        assert_eq!(rt; numbers_of(alloc, field), Some(numbers));
+    }
+}
+
 fn is_broken(alloc: Global, field: &[u8]) -> bool {
     matches!(read_attrs(alloc, field, Width::Two), Err(AttrFault::Broken))
 }
