@@ -5,19 +5,31 @@
 
 mod frames;
 mod publisher;
+mod tables;
 
 use publisher::Call;
 use std::{env, io};
+use tables::Order;
 
 fn main(rt: HostRuntime) -> io::Result<()> {
     let mut words = env::args(&rt)?;
     let _program = words.next();
     let word = words.next();
     let number = words.next().and_then(|word| word.parse::<usize>().ok());
+    let times = words.next().and_then(|word| word.parse::<usize>().ok());
     match word.as_ref().map(|word| word.as_str()) {
         Some("frames") => frames::run(&rt, number),
         Some("publish") => publisher::run(&rt, rt.alloc(), Call::Publish, number),
         Some("snapshot") => publisher::run(&rt, rt.alloc(), Call::Snapshot, number),
-        _ => println!(rt; "usage: bench frames [PIECE] | publish [N] | snapshot [N]"),
+        Some("trie") => tables::trie(&rt, Order::Prefix, number, times),
+        Some("shuffled") => tables::trie(&rt, Order::Shuffled, number, times),
+        Some("map") => tables::map(&rt, Order::Prefix, number),
+        Some("map_shuffled") => tables::map(&rt, Order::Shuffled, number),
+        _ => {
+            println!(rt; "usage: bench frames [PIECE] | publish [N] | snapshot [N]")?;
+            println!(rt;
+                "       bench trie [N [TIMES]] | shuffled [N [TIMES]] | map [N] | map_shuffled [N]"
+            )
+        }
     }
 }

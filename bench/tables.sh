@@ -1,0 +1,60 @@
+#!/usr/bin/env bash
+# Measures the table of prefixes: a trie, beside an ordered map of std with the same prefixes.
+#
+#   bench/tables.sh [PREFIXES]
+#
+# Both are filled with so many IPv4 prefixes (1,000,000) and asked for each, in prefix order and
+# shuffled. They run in turn, ROUNDS times (7), and so do runs with none of the work and runs that also
+# ask the trie for the longest match of an address for each. A ratio is that of least processor times,
+# below 1 where the trie is the faster. Times include 4 bytes a prefix for its number and, shuffled, the
+# shuffle; `call` lines have the difference of two runs. Bytes a prefix are of peak memory, without
+# those 4, from `/usr/bin/time` of GNU.
+set -euo pipefail
+
+prefixes=${1:-1000000}
+rounds=${ROUNDS:-7}
+top=$(cd "$(dirname "$0")/.." && pwd)
+ours=$top/crates/bench/out/bench
+[ -x "$ours" ] || (cd "$top/crates/bench" && rt run >/dev/null 2>&1)
+
+work=$(mktemp -d)
+trap 'rm -rf "$work"' EXIT
+
+# Runs the words, and appends the processor time in milliseconds and the peak memory in KiB.
+run() {
+    local name=$1
+    shift
+    /usr/bin/time -f '%U %S %M' -o "$work/time" "$ours" "$@" >"$work/$name.said"
+    awk '{ printf "%d %d\n", ($1 + $2) * 1000 + 0.5, $3 }' "$work/time" >>"$work/$name"
+}
+
+for _ in $(seq "$rounds"); do
+    run none trie 0 0
+    for order in trie:map shuffled:map_shuffled; do
+        trie=${order%:*}
+        run "$trie" "$trie" "$prefixes" 0
+        run "${order#*:}" "${order#*:}" "$prefixes"
+        run "$trie.longest" "$trie" "$prefixes" 1
+        # Both hold and find the same.
+        diff <(head -n 3 "$work/$trie.said") "$work/${order#*:}.said"
+    done
+done
+
+least() { sort -n "$work/$1" | awk 'NR == 1 { print $1 }'; }
+peak() { awk '$2 > most { most = $2 } END { print most }' "$work/$1"; }
+
+echo "prefixes $prefixes"
+empty=$(peak none)
+for order in trie:map shuffled:map_shuffled; do
+    trie=${order%:*}
+    map=${order#*:}
+    a=$(least "$trie")
+    b=$(least "$map")
+    c=$(least "$trie.longest")
+    echo "$trie $a ms, $map $b ms, $trie with longest $c ms"
+    awk -v a="$a" -v b="$b" 'BEGIN { printf "ratio %.2f\n", a / b }'
+    awk -v a="$a" -v c="$c" -v n="$prefixes" \
+        'BEGIN { printf "longest %d ns a call\n", (c - a) * 1000000 / n }'
+    awk -v t="$(peak "$trie")" -v m="$(peak "$map")" -v e="$empty" -v n="$prefixes" \
+        'BEGIN { printf "bytes a prefix %.1f, map %.1f\n", (t - e) * 1024 / n - 4, (m - e) * 1024 / n - 4 }'
+done
