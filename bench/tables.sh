@@ -4,11 +4,11 @@
 #   bench/tables.sh [PREFIXES]
 #
 # Both are filled with so many IPv4 prefixes (1,000,000) and asked for each, in prefix order and
-# shuffled. They run in turn, ROUNDS times (7), and so do runs with none of the work and runs that also
-# ask the trie for the longest match of an address for each. A ratio is that of least processor times,
-# below 1 where the trie is the faster. Times include 4 bytes a prefix for its number and, shuffled, the
-# shuffle; `call` lines have the difference of two runs. Bytes a prefix are of peak memory, without
-# those 4, from `/usr/bin/time` of GNU.
+# shuffled. They run in turn, ROUNDS times (7), with runs that do nothing, and runs that also ask the
+# trie for the longest match of an address for each. A ratio is that of least processor times, below 1
+# where the trie is the faster. A time includes the list of the prefixes' numbers, and its shuffle; that
+# of a longest match is the difference of two runs. Bytes a prefix are of peak memory, by the `time` of
+# GNU, without what a run takes that does nothing, and without the 4 bytes of the number.
 set -euo pipefail
 
 prefixes=${1:-1000000}
@@ -21,11 +21,13 @@ work=$(mktemp -d)
 trap 'rm -rf "$work"' EXIT
 
 # Runs the words, and appends the processor time in milliseconds and the peak memory in KiB.
+TIMEFORMAT='%U %S'
 run() {
     local name=$1
     shift
-    /usr/bin/time -f '%U %S %M' -o "$work/time" "$ours" "$@" >"$work/$name.said"
-    awk '{ printf "%d %d\n", ($1 + $2) * 1000 + 0.5, $3 }' "$work/time" >>"$work/$name"
+    { time /usr/bin/time -f %M -o "$work/peak" "$ours" "$@" >"$work/$name.said"; } 2>"$work/time"
+    paste -d ' ' "$work/time" "$work/peak" |
+        awk '{ printf "%d %d\n", ($1 + $2) * 1000 + 0.5, $3 }' >>"$work/$name"
 }
 
 for _ in $(seq "$rounds"); do
