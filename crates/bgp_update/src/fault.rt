@@ -2,14 +2,7 @@ ghost use Rattle.std.specs.Prelude.{◌≡◌};
 ghost use Rattle.bgp_update.specs.declared.fault.UpdateFault.TheVariants.{NoMemory as OutOfMemory};
 
 use std::alloc::{AllocError, AllocFailed};
-use wire_io::NoMemory;
-
-/// An item that found no place.
-#[derive(Debug, Drop)]
-pub enum Unplaced<T> {
-    /// Want of memory. The item is handed back.
-    NoMemory { item: T },
-}
+use wire_io::{NoMemory, Unplaced};
 
 /// Why an UPDATE was not read.
 #[derive(Clone, Copy, Debug, PartialEq, Eq)]

@@ -22,10 +22,11 @@ mod shared;
 mod update;
 
 pub use bmp_specs::IdUse;
-pub use fault::{Unplaced, UpdateFault};
+pub use fault::UpdateFault;
 pub use list::NlriList;
 pub use read::read_update;
 pub use update::Update;
+pub use wire_io::Unplaced;
 
 #[cfg(test)]
 mod tests;

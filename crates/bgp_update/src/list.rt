@@ -1,10 +1,9 @@
 ghost use Rattle.std.specs.Prelude.{◌≡◌, ◌↔◌, [], ◌∷◌, ◌++◌, IfOk, OnOk, IfErr, OnErr, IsNone, option_to_list};
 
-use crate::fault::Unplaced;
 use ip_prefix::Nlri;
 use std::alloc::Global;
 use std::marker::Model;
-use wire_io::NoMemory;
+use wire_io::{NoMemory, Unplaced};
 
 /// A list of prefixes with their path identifiers, in the order of the wire. It keeps its allocator.
 #[derive(Debug, Drop)]
