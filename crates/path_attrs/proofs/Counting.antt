@@ -18,7 +18,7 @@ use Rattle.bmp_specs.proofs.PartsRead.{HasRead, HasRead-nil, HasRead-front, HasR
 use Rattle.path_attrs.specs.Field.{HasParts}
 use Rattle.path_attrs.proofs.Reading.{front_part}
 
-abbrev codes_of : List OtherValue → List ℕ
+abbrev pub codes_of : List OtherValue → List ℕ
 codes_of parts = map (λ a. a.code) parts
 
 -- the attributes up to the rest were counted, and exactly their types are marked
@@ -31,17 +31,20 @@ pub record Counts (field rest : List ℕ) (seen : List Bool) (count : ℕ) : Typ
   pub count_is : count ≡ length parts
 
 -- nothing is marked at first
-falses : (n k : ℕ) → get_or (replicate n false) k false ≡ false
+pub falses : (n k : ℕ) → get_or (replicate n false) k false ≡ false
 falses zero k = refl
 falses (suc n) zero = refl
 falses (suc n) (suc k) = falses n k
 
-pub counts_first : (field : List ℕ) → Counts field field (replicate 256 false) 0
+pub none_distinct : IsDistinct (λ j k. j == k) []
 unfolding IsDistinct
-counts_first field = record { parts = []; read = HasRead-nil IsAttribute field; distinct = tt; marks = falses 256; wide = refl; count_is = refl }
+none_distinct = tt
+
+abbrev pub counts_first : (field : List ℕ) → Counts field field (replicate 256 false) 0
+counts_first field = record { parts = []; read = HasRead-nil IsAttribute field; distinct = none_distinct; marks = falses 256; wide = refl; count_is = refl }
 
 -- a mark more
-mark_more : (seen : List Bool) (codes : List ℕ) (c k : ℕ) → c < length seen → get_or seen k false ≡ list_any (eqb k) codes
+pub mark_more : (seen : List Bool) (codes : List ℕ) (c k : ℕ) → c < length seen → get_or seen k false ≡ list_any (eqb k) codes
     → get_or (set seen c true) k false ≡ (list_any (eqb k) codes || (eqb k c || false))
 mark_more seen codes c k lt e = go (eqb k c) refl
   where
@@ -72,7 +75,7 @@ counts_most field rest seen count c =
     let below : (q : ℕ) → list_any (eqb q) (codes_of c.parts) ≡ true → q < 256 = λ q e. omega (arith, c.wide, marked_below seen q (c.marks q ∙ e)) in
     omega (arith, c.count_is, length-map c.parts (λ (a : OtherValue). a.code), length-le_from_distinct_below (codes_of c.parts) 256 c.distinct below)
 
-pub counts_more : (field rest after : List ℕ) (seen : List Bool) (count : ℕ) (a : OtherValue) → Counts field rest seen count → HasFront IsAttribute rest a after → a.code < 256 → get_or seen a.code false ≡ false
+abbrev pub counts_more : (field rest after : List ℕ) (seen : List Bool) (count : ℕ) (a : OtherValue) → Counts field rest seen count → HasFront IsAttribute rest a after → a.code < 256 → get_or seen a.code false ≡ false
     → Counts field after (set seen a.code true) (count + 1)
 counts_more field rest after seen count a c here fits fresh =
     let codes = codes_of c.parts in

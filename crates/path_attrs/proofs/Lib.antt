@@ -1,4 +1,5 @@
 pub mod Reading
 pub mod Counting
+pub mod Gathering
 pub mod Keeping
 pub mod AsStated

@@ -1,21 +1,11 @@
 -- One path attribute after another, as the loops read them.
-use Rattle.std.proofs.Common.{◌≡◌, ◌+◌, ◌-◌, ◌≤◌, ℕ, Bool, true, false, cond, eqb, List, [], ◌∷◌, ◌++◌, length, take, drop, get_or, Some, None, refl, sym, ap, subst, ◌∙◌, arith, take-append-drop}
-use Rattle.std.specs.Prelude.{find, ◌==◌}
-use Rattle.std.specs.Option.{option_map}
+use Rattle.std.proofs.Common.{◌≡◌, ◌+◌, ◌-◌, ◌≤◌, ℕ, List, [], ◌∷◌, ◌++◌, length, take, drop, get_or, refl, sym, ap, subst, ◌∙◌, arith, take-append-drop}
 use Rattle.std.proofs.lemmas.List.{append_cancel_left, get_or_append_left, take_rest}
 use Rattle.bmp_specs.specs.Attribute.{IsAttribute, attribute_header, value_length}
-use Rattle.bmp_specs.specs.Attributes.{value_of}
 use Rattle.bmp_specs.specs.Parts.{AreParts}
 use Rattle.bmp_specs.specs.Sequence.{HasFront}
 use Rattle.bmp_specs.specs.Values.{OtherValue}
 use Rattle.bmp_specs.proofs.AttributesOne.{attribute_code, attribute_header-append, attribute_header-long, value_length-append}
-
--- what is sought in the field is what is sought in the rest
-pub record SeeksOn (field : List ℕ) (code : ℕ) (rest : List ℕ) : Type 0 where
-  pub go : (parts : List OtherValue) → AreParts IsAttribute field parts → (others : List OtherValue) × AreParts IsAttribute rest others × (value_of code parts ≡ value_of code others)
-
-pub seeks_first : (field : List ℕ) (code : ℕ) → SeeksOn field code field
-seeks_first field code = record { go = λ parts are. (parts, are, refl) }
 
 -- the parts of the rest are the attribute at the front, and the others
 pub front_part : (rest after : List ℕ) (a : OtherValue) (parts : List OtherValue) → HasFront IsAttribute rest a after → AreParts IsAttribute rest parts
@@ -29,29 +19,6 @@ front_part rest after a (b ∷ others) (front, split, is) (front', after', split
     let same = attribute_code.one front front' after after' a b is is' (sym split.joined ∙ split'.joined) in
     let tail : after' ≡ after = sym (append_cancel_left front after after' (sym split.joined ∙ split'.joined ∙ ap (λ (f : List ℕ). f ++ after') (sym same.0))) in
     (others, ap (λ (x : OtherValue). x ∷ others) (sym same.1), subst (λ (r : List ℕ). AreParts IsAttribute r others) tail are)
-
-pub seeks_more : (field rest after : List ℕ) (code : ℕ) (a : OtherValue) → SeeksOn field code rest → HasFront IsAttribute rest a after → eqb a.code code ≡ false → SeeksOn field code after
-seeks_more field rest after code a s here other = record {
-  go = λ parts are.
-      let q = s.go parts are in
-      let r = front_part rest after a q.0 here q.1 in
-      (r.0, r.2, q.2 ∙ ap (λ (l : List OtherValue). value_of code l) r.1 ∙ ap (λ (b : Bool). option_map (λ (d : OtherValue). d.value) (cond b (Some a) (find (λ d. d.code == code) r.0))) other);
-}
-
-pub seeks_found : (field rest after : List ℕ) (code : ℕ) (a : OtherValue) → SeeksOn field code rest → HasFront IsAttribute rest a after → eqb a.code code ≡ true
-    → (parts : List OtherValue) → AreParts IsAttribute field parts → Some a.value ≡ value_of code parts
-seeks_found field rest after code a s here is parts are =
-    let q = s.go parts are in
-    let r = front_part rest after a q.0 here q.1 in
-    sym (q.2 ∙ ap (λ (l : List OtherValue). value_of code l) r.1 ∙ ap (λ (b : Bool). option_map (λ (d : OtherValue). d.value) (cond b (Some a) (find (λ d. d.code == code) r.0))) is)
-
-pub seeks_end : (field rest : List ℕ) (code : ℕ) → SeeksOn field code rest → ((a : OtherValue) (after : List ℕ) → HasFront IsAttribute rest a after → ⊥)
-    → (parts : List OtherValue) → AreParts IsAttribute field parts → None ≡ value_of code parts
-seeks_end field rest code s none parts are = let q = s.go parts are in sym (q.2 ∙ at q.0 q.1)
-  where
-    at : (others : List OtherValue) → AreParts IsAttribute rest others → value_of code others ≡ None
-    at [] e = refl
-    at (a ∷ others) (front, after, split, is, _) = absurd (none a after (front, split, is))
 
 -- the attribute that was cut off stands at the front
 pub part_found : (input front rest : List ℕ) (h n : ℕ) → h ≡ attribute_header input → n ≡ value_length input → front ≡ take (h + n) input → rest ≡ drop (h + n) input → length front ≡ h + n

@@ -1,14 +1,13 @@
-ghost use Rattle.std.specs.Prelude.{◌≡◌, IfOk, IsErrOf, OnErr};
+ghost use Rattle.std.specs.Prelude.{◌≡◌, IfOk, IsErrOf, OnErr, option_copied};
 ghost use Rattle.bmp_specs.specs.AsPath.{ArePath, as_width};
-ghost use Rattle.bmp_specs.specs.Attributes.{IsAggregator, aggregator, as_path};
-ghost use Rattle.path_attrs.specs.AsInfo.{TellsAs, BreaksAs};
-ghost use Rattle.path_attrs.specs.Field.{Reads, Breaks};
+ghost use Rattle.bmp_specs.specs.Attributes.{IsAggregator, Optional};
+ghost use Rattle.path_attrs.specs.AsInfo.{StatesAs, BreaksAs};
+ghost use Rattle.path_attrs.specs.Field.{Breaks, value_at};
 
 use crate::as4::{ignores, merge_aggregator, merge_path};
 use crate::attrs::Aggregator;
-use crate::codes::{AGGREGATOR, AS_PATH, AS4_AGGREGATOR, AS4_PATH};
+use crate::codes::{AGGREGATOR, AS_PATH, AS4_AGGREGATOR, AS4_PATH, PLACES};
 use crate::fault::{AttrFault, Broken};
-use crate::part::find_value;
 use as_path::{AsPath, PathFault, Width};
 use byteorder::{BigEndian, ByteOrder};
 use std::alloc::Global;
@@ -23,12 +22,15 @@ fn width_bytes(width: Width) -> usize
     }
 }
 
-// The field's AGGREGATOR, where it has one, with an AS number of the width (RFC 4271, section 5.1.7).
-pub(crate) fn read_aggregator(field: &[u8], width: Width) -> Result<Option<Aggregator>, Broken>
-    ensures ok { IfOk result (Reads (IsAggregator width) aggregator field.now) }
-    ensures broken { OnErr result (Breaks (IsAggregator width) aggregator field.now) }
+// AGGREGATOR, where its value is there, with an AS number of the width (RFC 4271, section 5.1.7).
+pub(crate) fn read_aggregator(
+    value: Option<&[u8]>,
+    width: Width,
+) -> Result<Option<Aggregator>, Broken>
+    ensures ok { IfOk result (Optional (IsAggregator width) (option_copied value.entry)) }
+    ensures broken { OnErr result (Breaks (IsAggregator width) (option_copied value.entry)) }
 {
-    match find_value(field, AGGREGATOR) {
+    match value {
         None => Ok(None),
         Some(value) => {
             let size = width_bytes(width);
@@ -52,16 +54,16 @@ pub(crate) fn read_aggregator(field: &[u8], width: Width) -> Result<Option<Aggre
     }
 }
 
-// The field's AS_PATH, where it has one, with AS numbers of the width (RFC 4271, section 5.1.2).
+// AS_PATH, where its value is there, with AS numbers of the width (RFC 4271, section 5.1.2).
 pub(crate) fn read_as_path(
     alloc: Global,
-    field: &[u8],
+    value: Option<&[u8]>,
     width: Width,
 ) -> Result<Option<AsPath>, AttrFault>
-    ensures ok { IfOk result (Reads (ArePath width) as_path field.now) }
-    ensures broken { IsErrOf result AttrFault.Broken → Breaks (ArePath width) as_path field.now }
+    ensures ok { IfOk result (Optional (ArePath width) (option_copied value.entry)) }
+    ensures broken { IsErrOf result AttrFault.Broken → Breaks (ArePath width) (option_copied value.entry) }
 {
-    match find_value(field, AS_PATH) {
+    match value {
         None => Ok(None),
         Some(value) => match AsPath::read(alloc, value, width) {
             Ok(path) => Ok(Some(path)),
@@ -79,17 +81,21 @@ pub(crate) struct AsInfo {
 }
 
 // What AS_PATH and AGGREGATOR say, in two-octet form together with AS4_PATH and AS4_AGGREGATOR (RFC 6793, section 4.2.3).
-pub(crate) fn read_as_info(alloc: Global, field: &[u8], width: Width) -> Result<AsInfo, AttrFault>
-    ensures ok { IfOk result (λ info. TellsAs width field.now info.aggregator info.path) }
-    ensures broken { IsErrOf result AttrFault.Broken → BreaksAs width field.now }
+pub(crate) fn read_as_info(
+    alloc: Global,
+    values: &[Option<&[u8]>; PLACES],
+    width: Width,
+) -> Result<AsInfo, AttrFault>
+    ensures ok { IfOk result (λ info. StatesAs width (value_at values.now) info.aggregator info.path) }
+    ensures broken { IsErrOf result AttrFault.Broken → BreaksAs width (value_at values.now) }
 {
-    let path = read_as_path(alloc, field, width)?;
-    let aggregator = read_aggregator(field, width)?;
+    let path = read_as_path(alloc, values[AS_PATH as usize], width)?;
+    let aggregator = read_aggregator(values[AGGREGATOR as usize], width)?;
     match width {
         Width::Four => Ok(AsInfo { aggregator, path }),
         Width::Two => {
-            let as4_aggregator = find_value(field, AS4_AGGREGATOR);
-            let as4_path = find_value(field, AS4_PATH);
+            let as4_aggregator = values[AS4_AGGREGATOR as usize];
+            let as4_path = values[AS4_PATH as usize];
             if ignores(&aggregator, as4_aggregator) {
                 return Ok(AsInfo { aggregator, path });
             }

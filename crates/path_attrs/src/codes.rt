@@ -24,3 +24,6 @@ pub(crate) const MP_UNREACH_NLRI: u8 = 15;
 pub(crate) const AS4_PATH: u8 = 17;
 
 pub(crate) const AS4_AGGREGATOR: u8 = 18;
+
+// One place for each type up to AS4_AGGREGATOR, the last that is read.
+pub(crate) const PLACES: usize = 19;

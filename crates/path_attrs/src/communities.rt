@@ -1,15 +1,13 @@
-ghost use Rattle.std.specs.Prelude.{◌≡◌, ◌%◌, List, ℕ, length, IfOk, IfErr, IsErrOf};
-ghost use Rattle.bmp_specs.specs.Attribute.{IsAttribute};
-ghost use Rattle.bmp_specs.specs.Attributes.{AreCommunities, communities, value_of};
+ghost use Rattle.std.specs.Prelude.{◌≡◌, ◌%◌, List, ℕ, length, IfOk, IfErr, IsErrOf, option_copied};
+ghost use Rattle.bmp_specs.specs.Attributes.{AreCommunities};
 ghost use Rattle.bmp_specs.specs.Number.{IsNumber};
 ghost use Rattle.bmp_specs.specs.Parts.{AreParts};
 ghost use Rattle.bmp_specs.specs.Registries.{attribute_types};
-ghost use Rattle.bmp_specs.specs.Values.{OtherValue};
 ghost use Rattle.wire_tables.specs.Table.{row_values};
 
 use crate::codes::COMMUNITIES;
 use crate::fault::AttrFault;
-use crate::values::find_fitting;
+use crate::values::fitting;
 use as_path::Numbers;
 use byteorder::{BigEndian, ByteOrder};
 use std::alloc::Global;
@@ -31,17 +29,17 @@ fn numbers_of(alloc: Global, value: &[u8]) -> Result<Numbers, AttrFault>
     Ok(numbers)
 }
 
-// The field's COMMUNITIES (RFC 1997), or no numbers.
+// COMMUNITIES (RFC 1997), where its value is there, or no numbers.
 pub(crate) fn read_communities(
     alloc: Global,
     table: &CodeTable<12>,
-    field: &[u8],
+    value: Option<&[u8]>,
 ) -> Result<Numbers, AttrFault>
     requires { row_values table.now.rows ≡ attribute_types }
-    ensures ok { IfOk result (λ values. (parts : List OtherValue) → AreParts IsAttribute field.now parts → AreCommunities (value_of communities parts) values) }
-    ensures broken { IsErrOf result AttrFault.Broken → (parts : List OtherValue) → AreParts IsAttribute field.now parts → (values : List ℕ) → AreCommunities (value_of communities parts) values → ⊥ }
+    ensures ok { IfOk result (AreCommunities (option_copied value.entry)) }
+    ensures broken { IsErrOf result AttrFault.Broken → (values : List ℕ) → AreCommunities (option_copied value.entry) values → ⊥ }
 {
-    match find_fitting(table, field, COMMUNITIES) {
+    match fitting(table, COMMUNITIES, value) {
         Ok(None) => Ok(Numbers::new(alloc)),
         Ok(Some(value)) => numbers_of(alloc, value),
         Err(_) => Err(AttrFault::Broken),

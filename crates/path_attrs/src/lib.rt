@@ -8,18 +8,18 @@
 //! where it is no list of attributes, two are of one type, or a value isn't of the form of its type
 //! (RFC 4271, section 4.3; RFC 4760; RFC 1997). In two-octet form AS4_PATH and AS4_AGGREGATOR are put
 //! back (RFC 6793, section 4.2.3). A copy of attributes is equal to them. The words are in `bmp_specs`,
-//! `specs/Attributes.antt` and `specs/FourOctetAs.antt`. Begin with `src/read.rt`; `src/part.rt` finds
-//! the attribute of one type, and each further file reads its value.
+//! `specs/Attributes.antt` and `specs/FourOctetAs.antt`. Begin with `src/read.rt`; `src/found.rt` finds
+//! the value of each type in one pass, and each further file reads the value of its type.
 #![tactic(auto)]
 
 mod as4;
 mod as_info;
 mod attrs;
 mod bytes;
-mod check;
 mod codes;
 mod communities;
 mod fault;
+mod found;
 mod keep;
 mod mp;
 mod others;

@@ -1,13 +1,11 @@
-ghost use Rattle.std.specs.Prelude.{◌≡◌, IfOk, IsErrOf};
-ghost use Rattle.bmp_specs.specs.Attributes.{mp_reach_nlri, mp_unreach_nlri};
+ghost use Rattle.std.specs.Prelude.{IfOk, IsErrOf, option_copied};
+ghost use Rattle.bmp_specs.specs.Attributes.{Optional};
 ghost use Rattle.bmp_specs.specs.MpNlri.{IsMpReach, IsMpUnreach};
 ghost use Rattle.bmp_specs.specs.Values.{MpValue};
-ghost use Rattle.path_attrs.specs.Field.{Reads, Breaks};
+ghost use Rattle.path_attrs.specs.Field.{Breaks};
 
 use crate::bytes::bytes_of;
-use crate::codes::{MP_REACH_NLRI, MP_UNREACH_NLRI};
 use crate::fault::AttrFault;
-use crate::part::find_value;
 use byteorder::{BigEndian, ByteOrder};
 use std::alloc::Global;
 use std::marker::Model;
@@ -77,12 +75,12 @@ fn unreach_of(alloc: Global, value: &[u8]) -> Result<MpPart, AttrFault>
     })
 }
 
-// The field's MP_REACH_NLRI, where it has one.
-pub(crate) fn read_reach(alloc: Global, field: &[u8]) -> Result<Option<MpPart>, AttrFault>
-    ensures ok { IfOk result (Reads IsMpReach mp_reach_nlri field.now) }
-    ensures broken { IsErrOf result AttrFault.Broken → Breaks IsMpReach mp_reach_nlri field.now }
+// MP_REACH_NLRI, where its value is there.
+pub(crate) fn read_reach(alloc: Global, value: Option<&[u8]>) -> Result<Option<MpPart>, AttrFault>
+    ensures ok { IfOk result (Optional IsMpReach (option_copied value.entry)) }
+    ensures broken { IsErrOf result AttrFault.Broken → Breaks IsMpReach (option_copied value.entry) }
 {
-    match find_value(field, MP_REACH_NLRI) {
+    match value {
         None => Ok(None),
         Some(value) => match reach_of(alloc, value) {
             Ok(part) => Ok(Some(part)),
@@ -91,12 +89,12 @@ pub(crate) fn read_reach(alloc: Global, field: &[u8]) -> Result<Option<MpPart>, 
     }
 }
 
-// The field's MP_UNREACH_NLRI, where it has one.
-pub(crate) fn read_unreach(alloc: Global, field: &[u8]) -> Result<Option<MpPart>, AttrFault>
-    ensures ok { IfOk result (Reads IsMpUnreach mp_unreach_nlri field.now) }
-    ensures broken { IsErrOf result AttrFault.Broken → Breaks IsMpUnreach mp_unreach_nlri field.now }
+// MP_UNREACH_NLRI, where its value is there.
+pub(crate) fn read_unreach(alloc: Global, value: Option<&[u8]>) -> Result<Option<MpPart>, AttrFault>
+    ensures ok { IfOk result (Optional IsMpUnreach (option_copied value.entry)) }
+    ensures broken { IsErrOf result AttrFault.Broken → Breaks IsMpUnreach (option_copied value.entry) }
 {
-    match find_value(field, MP_UNREACH_NLRI) {
+    match value {
         None => Ok(None),
         Some(value) => match unreach_of(alloc, value) {
             Ok(part) => Ok(Some(part)),

@@ -1,7 +1,5 @@
-ghost use Rattle.std.specs.Prelude.{◌≡◌, ◌<◌, ◌≤◌, ℕ, List, IfSome, IfNone, length, option_copied};
+ghost use Rattle.std.specs.Prelude.{◌≡◌, ◌<◌, ◌≤◌, ℕ, List, IfSome, IfNone, length};
 ghost use Rattle.bmp_specs.specs.Attribute.{IsAttribute, attribute_header, value_length};
-ghost use Rattle.bmp_specs.specs.Attributes.{value_of};
-ghost use Rattle.bmp_specs.specs.Parts.{AreParts};
 ghost use Rattle.bmp_specs.specs.Sequence.{HasFront};
 ghost use Rattle.bmp_specs.specs.Values.{OtherValue};
 
@@ -70,18 +68,4 @@ pub(crate) fn read_part(input: &[u8]) -> Option<Part<'_>>
         value: &front[header..],
         rest,
     })
-}
-
-// The value of the attribute of a type, where the field has one.
-pub(crate) fn find_value(field: &[u8], code: u8) -> Option<&[u8]>
-    ensures { (parts : List OtherValue) → AreParts IsAttribute field.now parts → option_copied result ≡ value_of code parts }
-{
-    let mut rest = field;
-    while let Some(part) = read_part(rest) {
-        if part.code == code {
-            return Some(part.value);
-        }
-        rest = part.rest;
-    }
-    None
 }

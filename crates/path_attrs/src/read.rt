@@ -4,9 +4,13 @@ ghost use Rattle.bmp_specs.specs.Values.{AttrsReadValue};
 
 use crate::as_info::read_as_info;
 use crate::attrs::Attrs;
-use crate::check::count_parts;
+use crate::codes::{
+    ATOMIC_AGGREGATE, COMMUNITIES, LOCAL_PREF, MP_REACH_NLRI, MP_UNREACH_NLRI, MULTI_EXIT_DISC,
+    NEXT_HOP, ORIGIN,
+};
 use crate::communities::read_communities;
 use crate::fault::AttrFault;
+use crate::found::{Found, find_values};
 use crate::keep::read_others;
 use crate::mp::{MpPart, read_reach, read_unreach};
 use crate::values::{read_atomic, read_hop, read_med, read_origin, read_pref};
@@ -41,25 +45,26 @@ impl Model for AttrsRead {
 
 /// Reads the "Path Attributes" of an UPDATE message (RFC 4271, section 4.3), with AS numbers of the
 /// width. `AttrFault::Broken` exactly where the field is no attributes, two of them are of one type,
-/// or a value isn't of the form of its type. Time and memory are linear in the field.
+/// or a value isn't of the form of its type. The headers are read twice: once to check them and find the
+/// values that are read, once to keep the others. Time and memory are linear in the field.
 pub fn read_attrs(alloc: Global, field: &[u8], width: Width) -> Result<AttrsRead, AttrFault>
     ensures ok { IfOk result (AreAttributes width field.now) }
     ensures broken { IsErrOf result AttrFault.Broken → (read : AttrsReadValue) → AreAttributes width field.now read → ⊥ }
 {
-    let count = match count_parts(field) {
-        Some(count) => count,
+    let Found { count, values } = match find_values(field) {
+        Some(found) => found,
         None => return Err(AttrFault::Broken),
     };
     let table = attribute_table();
-    let origin = read_origin(&table, field)?;
-    let med = read_med(&table, field)?;
-    let pref = read_pref(&table, field)?;
-    let atomic = read_atomic(&table, field)?;
-    let hop = read_hop(alloc, &table, field)?;
-    let communities = read_communities(alloc, &table, field)?;
-    let info = read_as_info(alloc, field, width)?;
-    let reach = read_reach(alloc, field)?;
-    let unreach = read_unreach(alloc, field)?;
+    let origin = read_origin(&table, values[ORIGIN as usize])?;
+    let med = read_med(&table, values[MULTI_EXIT_DISC as usize])?;
+    let pref = read_pref(&table, values[LOCAL_PREF as usize])?;
+    let atomic = read_atomic(&table, values[ATOMIC_AGGREGATE as usize])?;
+    let hop = read_hop(alloc, &table, values[NEXT_HOP as usize])?;
+    let communities = read_communities(alloc, &table, values[COMMUNITIES as usize])?;
+    let info = read_as_info(alloc, &values, width)?;
+    let reach = read_reach(alloc, values[MP_REACH_NLRI as usize])?;
+    let unreach = read_unreach(alloc, values[MP_UNREACH_NLRI as usize])?;
     let others = read_others(alloc, field)?;
     let attrs = Attrs {
         origin,

@@ -1,18 +1,14 @@
-ghost use Rattle.std.specs.Prelude.{◌≡◌, ◌↔◌, Bool, List, ℕ, length, IsTrue, IfSome, IfOk, OnErr, IsErrOf, option_copied};
-ghost use Rattle.bmp_specs.specs.Attribute.{IsAttribute};
-ghost use Rattle.bmp_specs.specs.Attributes.{IsAtomic, atomic_aggregate, local_pref, multi_exit_disc, next_hop, origin, value_of};
+ghost use Rattle.std.specs.Prelude.{◌≡◌, ◌↔◌, Bool, length, IsTrue, IfSome, IfOk, OnErr, IsErrOf, option_copied};
+ghost use Rattle.bmp_specs.specs.Attributes.{IsAtomic, Optional};
 ghost use Rattle.bmp_specs.specs.Number.{IsNumber};
-ghost use Rattle.bmp_specs.specs.Parts.{AreParts};
 ghost use Rattle.bmp_specs.specs.Registries.{FitsShape, attribute_types};
 ghost use Rattle.bmp_specs.specs.Sequence.{IsField};
-ghost use Rattle.bmp_specs.specs.Values.{OtherValue};
 ghost use Rattle.wire_tables.specs.Table.{row_values};
-ghost use Rattle.path_attrs.specs.Field.{HasShape, Reads, Breaks, BreaksShape};
+ghost use Rattle.path_attrs.specs.Field.{HasShape, Breaks, BreaksShape};
 
 use crate::bytes::bytes_of;
 use crate::codes::{ATOMIC_AGGREGATE, LOCAL_PREF, MULTI_EXIT_DISC, NEXT_HOP, ORIGIN};
 use crate::fault::{AttrFault, Broken};
-use crate::part::find_value;
 use byteorder::{BigEndian, ByteOrder};
 use std::alloc::Global;
 use wire_io::ByteList;
@@ -44,35 +40,35 @@ fn fits(table: &CodeTable<12>, code: u8, size: usize) -> bool
     }
 }
 
-// The value of the field's attribute of a type, in a length of that type.
-pub(crate) fn find_fitting<'a>(
+// The value of an attribute of the type, where there is one, in a length of that type.
+pub(crate) fn fitting<'a>(
     table: &CodeTable<12>,
-    field: &'a [u8],
     code: u8,
+    value: Option<&'a [u8]>,
 ) -> Result<Option<&'a [u8]>, Broken>
     requires { row_values table.now.rows ≡ attribute_types }
-    ensures found { IfOk result (λ value. (parts : List OtherValue) → AreParts IsAttribute field.now parts → option_copied value ≡ value_of code parts) }
-    ensures shape { IfOk result (λ value. IfSome value (λ bytes. HasShape code (length bytes.now))) }
-    ensures broken { OnErr result (BreaksShape code field.now) }
+    ensures same { IfOk result (λ fitting. option_copied fitting ≡ option_copied value.entry) }
+    ensures shape { IfOk result (λ fitting. IfSome fitting (λ bytes. HasShape code (length bytes.now))) }
+    ensures broken { OnErr result (BreaksShape code (option_copied value.entry)) }
 {
-    match find_value(field, code) {
+    match value {
         None => Ok(None),
-        Some(value) => {
-            if !fits(table, code, value.len()) {
+        Some(bytes) => {
+            if !fits(table, code, bytes.len()) {
                 return Err(Broken);
             }
-            Ok(Some(value))
+            Ok(Some(bytes))
         }
     }
 }
 
 // ORIGIN (RFC 4271, section 5.1.1), any value of its octet.
-pub(crate) fn read_origin(table: &CodeTable<12>, field: &[u8]) -> Result<Option<u8>, Broken>
+pub(crate) fn read_origin(table: &CodeTable<12>, value: Option<&[u8]>) -> Result<Option<u8>, Broken>
     requires { row_values table.now.rows ≡ attribute_types }
-    ensures ok { IfOk result (Reads (IsNumber 1) origin field.now) }
-    ensures broken { OnErr result (Breaks (IsNumber 1) origin field.now) }
+    ensures ok { IfOk result (Optional (IsNumber 1) (option_copied value.entry)) }
+    ensures broken { OnErr result (Breaks (IsNumber 1) (option_copied value.entry)) }
 {
-    match find_fitting(table, field, ORIGIN) {
+    match fitting(table, ORIGIN, value) {
         Ok(None) => Ok(None),
         Ok(Some(value)) => Ok(Some(value[0])),
         Err(fault) => Err(fault),
@@ -80,12 +76,12 @@ pub(crate) fn read_origin(table: &CodeTable<12>, field: &[u8]) -> Result<Option<
 }
 
 // MULTI_EXIT_DISC (RFC 4271, section 5.1.4).
-pub(crate) fn read_med(table: &CodeTable<12>, field: &[u8]) -> Result<Option<u32>, Broken>
+pub(crate) fn read_med(table: &CodeTable<12>, value: Option<&[u8]>) -> Result<Option<u32>, Broken>
     requires { row_values table.now.rows ≡ attribute_types }
-    ensures ok { IfOk result (Reads (IsNumber 4) multi_exit_disc field.now) }
-    ensures broken { OnErr result (Breaks (IsNumber 4) multi_exit_disc field.now) }
+    ensures ok { IfOk result (Optional (IsNumber 4) (option_copied value.entry)) }
+    ensures broken { OnErr result (Breaks (IsNumber 4) (option_copied value.entry)) }
 {
-    match find_fitting(table, field, MULTI_EXIT_DISC) {
+    match fitting(table, MULTI_EXIT_DISC, value) {
         Ok(None) => Ok(None),
         Ok(Some(value)) => Ok(Some(BigEndian::read_u32(value))),
         Err(fault) => Err(fault),
@@ -93,12 +89,12 @@ pub(crate) fn read_med(table: &CodeTable<12>, field: &[u8]) -> Result<Option<u32
 }
 
 // LOCAL_PREF (RFC 4271, section 5.1.5).
-pub(crate) fn read_pref(table: &CodeTable<12>, field: &[u8]) -> Result<Option<u32>, Broken>
+pub(crate) fn read_pref(table: &CodeTable<12>, value: Option<&[u8]>) -> Result<Option<u32>, Broken>
     requires { row_values table.now.rows ≡ attribute_types }
-    ensures ok { IfOk result (Reads (IsNumber 4) local_pref field.now) }
-    ensures broken { OnErr result (Breaks (IsNumber 4) local_pref field.now) }
+    ensures ok { IfOk result (Optional (IsNumber 4) (option_copied value.entry)) }
+    ensures broken { OnErr result (Breaks (IsNumber 4) (option_copied value.entry)) }
 {
-    match find_fitting(table, field, LOCAL_PREF) {
+    match fitting(table, LOCAL_PREF, value) {
         Ok(None) => Ok(None),
         Ok(Some(value)) => Ok(Some(BigEndian::read_u32(value))),
         Err(fault) => Err(fault),
@@ -109,13 +105,13 @@ pub(crate) fn read_pref(table: &CodeTable<12>, field: &[u8]) -> Result<Option<u3
 pub(crate) fn read_hop(
     alloc: Global,
     table: &CodeTable<12>,
-    field: &[u8],
+    value: Option<&[u8]>,
 ) -> Result<Option<ByteList>, AttrFault>
     requires { row_values table.now.rows ≡ attribute_types }
-    ensures ok { IfOk result (Reads (IsField 4) next_hop field.now) }
-    ensures broken { IsErrOf result AttrFault.Broken → Breaks (IsField 4) next_hop field.now }
+    ensures ok { IfOk result (Optional (IsField 4) (option_copied value.entry)) }
+    ensures broken { IsErrOf result AttrFault.Broken → Breaks (IsField 4) (option_copied value.entry) }
 {
-    match find_fitting(table, field, NEXT_HOP) {
+    match fitting(table, NEXT_HOP, value) {
         Ok(None) => Ok(None),
         Ok(Some(value)) => match bytes_of(alloc, value) {
             Ok(bytes) => Ok(Some(bytes)),
@@ -126,12 +122,12 @@ pub(crate) fn read_hop(
 }
 
 // Whether ATOMIC_AGGREGATE is there (RFC 4271, section 5.1.6).
-pub(crate) fn read_atomic(table: &CodeTable<12>, field: &[u8]) -> Result<bool, Broken>
+pub(crate) fn read_atomic(table: &CodeTable<12>, value: Option<&[u8]>) -> Result<bool, Broken>
     requires { row_values table.now.rows ≡ attribute_types }
-    ensures ok { IfOk result (λ atomic. (parts : List OtherValue) → AreParts IsAttribute field.now parts → IsAtomic (value_of atomic_aggregate parts) atomic) }
-    ensures broken { OnErr result ((parts : List OtherValue) → AreParts IsAttribute field.now parts → (atomic : Bool) → IsAtomic (value_of atomic_aggregate parts) atomic → ⊥) }
+    ensures ok { IfOk result (IsAtomic (option_copied value.entry)) }
+    ensures broken { OnErr result ((atomic : Bool) → IsAtomic (option_copied value.entry) atomic → ⊥) }
 {
-    match find_fitting(table, field, ATOMIC_AGGREGATE) {
+    match fitting(table, ATOMIC_AGGREGATE, value) {
         Ok(None) => Ok(false),
         Ok(Some(_)) => Ok(true),
         Err(fault) => Err(fault),

@@ -1,9 +1,9 @@
 use Rattle.std.proofs.Common.{length}
-use Rattle.path_attrs.proofs.Counting.{Counts}
-use Rattle.path_attrs.proofs.check.count_parts.Given as goal
+use Rattle.path_attrs.proofs.Gathering.{Gathers}
+use Rattle.path_attrs.proofs.found.find_values.Given as goal
 
 abbrev pub invariant-loop-rest : goal.invariant-loop-rest
-invariant-loop-rest l = Counts l.field l.rest l.seen l.count
+invariant-loop-rest l = Gathers l.field l.rest l.seen l.count l.values
 
 abbrev pub decreases-loop-rest : goal.decreases-loop-rest
 decreases-loop-rest l = length l.rest
