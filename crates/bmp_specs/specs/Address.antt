@@ -1,4 +1,4 @@
--- What an address and a prefix keep.
+-- What an address and a prefix keep; the form, 16 bytes for both families, is ours.
 use Rattle.std.specs.Prelude.{◌≡◌, ℕ, ◌<◌, ◌≤◌, List, length, take, slice_index}
 use Rattle.bmp_specs.specs.declared.wire.Family.{Family}
 use Rattle.bmp_specs.specs.declared.wire.Family.TheVariants.{V4, V6}

@@ -1,4 +1,4 @@
--- What a prefix holds.
+-- What a prefix holds, in our words: the addresses and the prefixes that begin with its bits.
 use Rattle.std.specs.Prelude.{◌≡◌, ◌≤◌}
 use Rattle.bmp_specs.specs.Prefix.{first_bits}
 use Rattle.bmp_specs.specs.Values.{AddressValue, PrefixValue}

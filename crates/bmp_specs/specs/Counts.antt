@@ -1,4 +1,4 @@
--- What a live session counts: its messages, their bytes, and the parts of them that fill no table.
+-- What a live session counts, a choice of ours: its messages, their bytes, and the parts of them that fill no table.
 use Rattle.std.specs.Prelude.{ℕ, Bool, true, false, List, length, count_by, sum_by}
 use Rattle.bmp_specs.specs.Values.{EffectValue, EntryValue, orphan, mirrored, passed, unread}
 use Rattle.bmp_specs.specs.Check.{length_of}

@@ -1,5 +1,5 @@
--- Bytes of a router as text that stands in one field of a line: visible ASCII as it is, and any other byte, and `%`, as `%`
--- and two hexadecimal digits.
+-- Bytes of a router as text that stands in one field of a line, in a form of ours: visible ASCII as it is, and any other
+-- byte, and `%`, as `%` and two hexadecimal digits.
 use Rattle.std.specs.Prelude.{ℕ, ◌/◌, ◌%◌, Bool, ◌&&◌, not, List, [], ◌∷◌, nat_le, ◌==◌, if◌then◌else◌, flat_map, slice_index, codes}
 
 -- `%`

@@ -1,4 +1,4 @@
--- The latest of the values in a list that stand for one thing.
+-- The latest of the values in a list that stand for one thing: a notion of ours, of any list.
 use Rattle.std.specs.Prelude.{◌≡◌, List, ◌∷◌, ◌++◌}
 use Rattle.std.specs.List.{AllByRecursion}
 

@@ -52,3 +52,4 @@ pub mod Containment
 pub mod EscapedText
 pub mod RouteLine
 pub mod ShortenedRun
+pub mod Steps

@@ -1,4 +1,4 @@
--- The life of a connection: its opening, the messages of the bytes that were taken of it, and its closing.
+-- The life of a connection, a notion of ours: its opening, the messages of the bytes that were taken of it, and its closing.
 use Rattle.std.specs.Prelude.{◌≡◌, ℕ, ◌-◌, ◌^◌, ◌<◌, ◌≤◌, List, [], ◌∷◌, ◌++◌, length, take}
 use Rattle.bmp_specs.specs.declared.causes.Cause.{Cause}
 use Rattle.bmp_specs.specs.declared.causes.Cause.TheVariants.{Ended, Terminated, CutShort, Broken, ReadFault, Full}

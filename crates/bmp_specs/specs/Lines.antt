@@ -1,4 +1,4 @@
--- The lines that the program writes. Fields are separated by one space, and each line ends with a line feed.
+-- The lines that the program writes, in a form of ours. Fields are separated by one space, and each line ends with a line feed.
 use Rattle.std.specs.Prelude.{ℕ, List, [], ◌∷◌, ◌++◌, codes}
 use Rattle.bmp_specs.specs.declared.causes.Cause.{Cause}
 use Rattle.bmp_specs.specs.declared.causes.Cause.TheVariants.{Ended, Terminated, CutShort, Broken, ReadFault, Full}

@@ -1,4 +1,5 @@
--- What a message does to the tables, in order, and its entry in the history of a lane.
+-- What a message does to the tables, in order, and its entry in the history of a lane. The split into effects, and their
+-- order, is ours.
 use Rattle.std.specs.Prelude.{◌≡◌, ℕ, ◌+◌, ◌==◌, if◌then◌else◌, List, [], ◌∷◌, ◌++◌, length, map, Option, Some, None, ⊤}
 use Rattle.bmp_specs.specs.declared.peers.View.{View}
 use Rattle.bmp_specs.specs.Frame.{least}

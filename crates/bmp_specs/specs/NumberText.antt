@@ -1,4 +1,4 @@
--- Numbers as texts.
+-- Numbers as texts, in the station's own form.
 use Rattle.std.specs.Prelude.{◌≡◌, ℕ, ◌≤◌, List, decimal}
 
 -- the decimal digits of a number, without a leading zero

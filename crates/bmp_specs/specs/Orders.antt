@@ -1,4 +1,4 @@
--- The orders of addresses, prefixes, routes, peers and views.
+-- The orders of addresses, prefixes, routes, peers and views. No RFC sets them; they are the orders of our replies.
 use Rattle.std.specs.Prelude.{ℕ}
 use Rattle.std.specs.declared.cmp.Ordering.{Ordering}
 use Rattle.std.specs.Ordering.{nat_cmp, on, then_cmp}

@@ -1,4 +1,4 @@
--- Peers and views as texts. A peer is its type as a number, its distinguisher as 16 hexadecimal digits, and its address,
+-- Peers and views as texts, in the station's own form. A peer is its type as a number, its distinguisher as 16 hexadecimal digits, and its address,
 -- joined by `-`.
 use Rattle.std.specs.Prelude.{◌≡◌, ℕ, ◌/◌, ◌%◌, ◌^◌, ◌<◌, List, [], ◌∷◌, ◌++◌, slice_index, codes}
 use Rattle.byteorder.specs.Endian.{big_bytes}

@@ -1,4 +1,5 @@
--- A prefix on the wire: one byte that says how many bits, and as many bytes as hold them.
+-- A prefix on the wire (RFC 4271, section 4.3; RFC 4760, section 5): one byte that says how many bits, and as many bytes
+-- as hold them. The RFCs give bits past that number no meaning; that they are cleared is ours.
 use Rattle.std.specs.Prelude.{◌≡◌, ℕ, ◌+◌, ◌-◌, ◌/◌, ◌%◌, ◌^◌, ◌≤◌, List, [], ◌∷◌, ◌++◌, length, replicate, take}
 use Rattle.bmp_specs.specs.declared.wire.Family.{Family}
 use Rattle.bmp_specs.specs.declared.wire.Family.TheVariants.{V4, V6}

@@ -1,4 +1,4 @@
--- Prefixes as texts: an address, `/` and the number of bits.
+-- Prefixes as texts, in the usual form that no RFC fixes for both families: an address, `/` and the number of bits.
 use Rattle.std.specs.Prelude.{◌≡◌, ℕ, ◌≤◌, List, ◌∷◌, ◌++◌}
 use Rattle.bmp_specs.specs.Address.{prefix_at}
 use Rattle.bmp_specs.specs.AddressText.{address_text, IsAddressText}

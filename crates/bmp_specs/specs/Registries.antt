@@ -4,16 +4,16 @@ use Rattle.bmp_specs.specs.declared.registry.Shape.{Shape}
 use Rattle.bmp_specs.specs.declared.registry.Shape.TheVariants.{Counter32, Gauge64, FamilyGauge64, Exact, Multiple, Free}
 
 -- a code of a registry, the shape of its value, and its name
-pub record RowValue : Type 0 where
+pub record CodeRowValue : Type 0 where
   pub code : ℕ
   pub shape : Shape
   pub name : List ℕ
 
-abbrev pub row : ℕ → Shape → List ℕ → RowValue
+abbrev pub row : ℕ → Shape → List ℕ → CodeRowValue
 row code shape name = record { code = code; shape = shape; name = name }
 
 -- the first row with the code
-abbrev pub first_row : ℕ → List RowValue → Option RowValue
+abbrev pub first_row : ℕ → List CodeRowValue → Option CodeRowValue
 first_row code rows = find (λ r. r.code == code) rows
 
 -- a value of so many bytes has the shape
@@ -26,7 +26,7 @@ FitsShape (Multiple count) bytes = bytes % count ≡ 0
 FitsShape Free bytes = Unit {0}
 
 -- BMP message types (RFC 7854, sections 4.1 and 10.1)
-abbrev pub message_types : List RowValue
+abbrev pub message_types : List CodeRowValue
 message_types =
     row 0 Free (codes "route-monitoring")
     ∷ (row 1 Free (codes "statistics-report")
@@ -38,7 +38,7 @@ message_types =
     ∷ []))))))
 
 -- Peer Down reason codes (RFC 7854, section 4.9; for 6 RFC 9069, section 5.3)
-abbrev pub peer_down_reasons : List RowValue
+abbrev pub peer_down_reasons : List CodeRowValue
 peer_down_reasons =
     row 1 Free (codes "local-notification")
     ∷ (row 2 Free (codes "local-event")
@@ -49,7 +49,7 @@ peer_down_reasons =
     ∷ [])))))
 
 -- BMP statistics types (RFC 7854, section 4.8; from 14 on RFC 8671, section 6.2)
-abbrev pub statistics_types : List RowValue
+abbrev pub statistics_types : List CodeRowValue
 statistics_types =
     row 0 Counter32 (codes "rejected-by-policy")
     ∷ (row 1 Counter32 (codes "duplicate-announcements")
@@ -73,7 +73,7 @@ statistics_types =
 
 -- path attribute type codes (RFC 4271, section 5, to 7; RFC 1997 for 8; RFC 4760, sections 3 and 4, for 14 and 15; RFC 6793,
 -- section 3, for 17 and 18)
-abbrev pub attribute_types : List RowValue
+abbrev pub attribute_types : List CodeRowValue
 attribute_types =
     row 1 (Exact 1) (codes "origin")
     ∷ (row 2 Free (codes "as-path")
@@ -90,7 +90,7 @@ attribute_types =
     ∷ [])))))))))))
 
 -- Information TLV types (RFC 7854, section 4.4; for 3 RFC 9069, section 5.2.1)
-abbrev pub information_types : List RowValue
+abbrev pub information_types : List CodeRowValue
 information_types =
     row 0 Free (codes "string")
     ∷ (row 1 Free (codes "sysdescr")
@@ -99,7 +99,7 @@ information_types =
     ∷ [])))
 
 -- capability codes (RFC 4760, section 8; RFC 6793, section 3; RFC 7911, section 4)
-abbrev pub capability_codes : List RowValue
+abbrev pub capability_codes : List CodeRowValue
 capability_codes =
     row 1 (Exact 4) (codes "multiprotocol")
     ∷ (row 65 (Exact 4) (codes "four-byte-as")

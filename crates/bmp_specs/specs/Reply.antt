@@ -1,4 +1,4 @@
--- A reply: the revision of the history that it speaks of, its rows, and their number.
+-- A reply, in a form of ours: the revision of the history that it speaks of, its rows, and their number.
 use Rattle.std.specs.Prelude.{ℕ, ◌-◌, ◌^◌, min, List, ◌++◌, length}
 use Rattle.std.specs.List.{concat}
 use Rattle.bmp_specs.specs.Lines.{at_line, end_line}

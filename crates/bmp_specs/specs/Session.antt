@@ -1,4 +1,4 @@
--- The present session of a router, read off all entries of its lane: the messages since the last opening, where no
+-- The present session of a router, a notion of ours, read off all entries of its lane: the messages since the last opening, where no
 -- closing stands after it.
 use Rattle.std.specs.Prelude.{ℕ, List, [], ◌∷◌, Option, Some, None, filter_map, flat_map, unwrap_or}
 use Rattle.std.specs.Option.{option_or, option_and_then}

@@ -1,4 +1,4 @@
--- The reply of `table` over the entries of one lane.
+-- The reply of our query `table` over the entries of one lane.
 use Rattle.std.specs.Prelude.{◌≡◌, ℕ, List, length, map}
 use Rattle.bmp_specs.specs.Values.{EntryValue}
 use Rattle.bmp_specs.specs.Session.{session_effects}

@@ -1,4 +1,4 @@
--- The rows of a table as a list, in the order of a reply.
+-- The rows of a table as a list, in the order of our replies.
 use Rattle.std.specs.Prelude.{◌↔◌, List, map}
 use Rattle.std.specs.List.{Contains}
 use Rattle.std.specs.List.Sorted.{IsStrictlySortedBy}

@@ -31,13 +31,13 @@ pub record AggregatorValue : Type 0 where
   pub asn : ℕ
   pub identifier : List ℕ
 
--- an attribute that is kept as it came
+-- an attribute that is kept as it came (RFC 4271, section 5)
 pub record OtherValue : Type 0 where
   pub flags : ℕ
   pub code : ℕ
   pub value : List ℕ
 
--- the path attributes of a route
+-- the path attributes of a route (RFC 4271, section 5)
 pub record AttrsValue : Type 0 where
   pub origin : Option ℕ
   pub path : Option (List SegmentValue)
@@ -188,3 +188,12 @@ pub data EntryValue : Type 0 where
   opened : EntryValue
   message : ℕ → ℕ → List EffectValue → EntryValue
   closed : Cause → EntryValue
+
+-- a step of a lane: an entry, or one effect of it, without what it tells of a peer
+pub data StepValue : Type 0 where
+  opened_step : StepValue
+  closed_step : Cause → StepValue
+  up_step : KeyValue → StepValue
+  down_step : KeyValue → StepValue
+  announce_step : KeyValue → View → NlriValue → AttrsValue → StepValue
+  withdraw_step : KeyValue → View → NlriValue → StepValue

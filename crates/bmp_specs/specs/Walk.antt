@@ -1,4 +1,4 @@
--- The one way to cut a stream into messages and a rest.
+-- The one way to cut a stream into messages (RFC 7854, section 4.1) and a rest. The verdicts are ours.
 use Rattle.std.specs.Prelude.{◌≡◌, ℕ, ◌+◌, ◌<◌, ◌==◌, List, [], ◌∷◌, ◌++◌, length, MatchBool}
 use Rattle.bmp_specs.specs.declared.causes.Why.{Why}
 use Rattle.bmp_specs.specs.declared.causes.Why.TheVariants.{Version, Length, Body}

@@ -6,9 +6,9 @@ use bmp_specs::Shape;
 /// A row of a table. A table is generic in its rows, since a proof can't see through references that
 /// stand in an array of any length; each table of this crate has `CodeRow`s.
 pub trait Row {
-    ghost use Rattle.bmp_specs.specs.Registries.{RowValue};
+    ghost use Rattle.bmp_specs.specs.Registries.{CodeRowValue};
 
-    ghost value: { Self → RowValue };
+    ghost value: { Self → CodeRowValue };
 
     /// The code.
     fn code(&self) -> u16
