@@ -1,8 +1,7 @@
 ghost use Rattle.std.specs.Prelude.{◌≡◌};
 ghost use Rattle.path_attrs.specs.declared.fault.AttrFault.TheVariants.{Broken as OutOfForm, NoMemory as OutOfMemory};
 
-use as_path::Unplaced;
-use wire_io::NoMemory;
+use wire_io::{NoMemory, Unplaced};
 
 /// Why path attributes were not read.
 #[derive(Clone, Copy, Debug, PartialEq, Eq)]
@@ -47,6 +46,14 @@ impl<T: Drop> From<Unplaced<T>> for AttrFault {
     ghost from_gives = { λ _ fault. fault ≡ OutOfMemory };
 
     fn from(_: Unplaced<T>) -> Self {
+        AttrFault::NoMemory
+    }
+}
+
+impl<T: Drop> From<as_path::Unplaced<T>> for AttrFault {
+    ghost from_gives = { λ _ fault. fault ≡ OutOfMemory };
+
+    fn from(_: as_path::Unplaced<T>) -> Self {
         AttrFault::NoMemory
     }
 }

@@ -29,7 +29,7 @@ mod read;
 mod tests;
 mod values;
 
-pub use as_path::{AsPath, Numbers, Unplaced, Width};
+pub use as_path::{AsPath, Numbers, Width};
 pub use attrs::{Aggregator, Attrs};
 pub use fault::AttrFault;
 pub use mp::MpPart;

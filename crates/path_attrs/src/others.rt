@@ -1,9 +1,8 @@
 ghost use Rattle.std.specs.Prelude.{◌≡◌, ◌↔◌, [], ◌∷◌, ◌++◌, IfOk, OnOk, IfErr, OnErr, IsNone, option_to_list};
 
-use as_path::Unplaced;
 use std::alloc::Global;
 use std::marker::Model;
-use wire_io::{ByteList, NoMemory};
+use wire_io::{ByteList, NoMemory, Unplaced};
 
 /// A path attribute that is kept as it came (RFC 4271, section 4.3).
 #[derive(Drop)]
