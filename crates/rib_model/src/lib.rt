@@ -1,0 +1,19 @@
+//! Entries: what the messages of a router do to its tables, in the order of its stream.
+//!
+//! `bmp_message` makes them of the messages of a stream, the tables are made of them, and a lane's
+//! history is a list of them. This crate has the plain types: an effect, an entry, the paths of a
+//! prefix, and a step of a lane. The attributes of a route and what a Peer Up told of a peer stand
+//! behind `Arc`s, one for all prefixes of an UPDATE.
+//!
+//! Proved: the lists are lists, and keep the order in which they were filled.
+//! Begin with `src/effect.rt` and `specs/Effects.antt`.
+#![tactic(auto)]
+
+mod effect;
+mod entry;
+mod list;
+
+pub use bmp_specs::{Cause, Why};
+pub use effect::{Effect, Route};
+pub use entry::Entry;
+pub use list::EffectList;
