@@ -1,0 +1,2 @@
+pub mod LastItems
+pub mod Copies

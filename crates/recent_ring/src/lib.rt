@@ -1,0 +1,19 @@
+//! The last items of a list that grows at its end: at most 1,024 of them, and how many there were in all.
+//!
+//! A contract sees a `Recent<T>` as that total, which ends at 2^64 - 1, and the list of the items kept,
+//! oldest first. The items stand in one ring on the heap, so a push moves none of them.
+//!
+//! Proved: after any number of pushes the ring is that of the list of all items pushed (`push`, clause
+//! `list`, and `specs/Recent.antt`); `get` counts from the oldest kept; `copy` has the same total and
+//! items that are alike by the trait `Keep`.
+//! Begin with `specs/Recent.antt`, then `src/ring.rt`.
+#![tactic(auto)]
+
+mod keep;
+mod ring;
+
+pub use keep::Keep;
+pub use ring::Recent;
+
+#[cfg(test)]
+mod tests;

@@ -1,0 +1,103 @@
+ghost use Rattle.std.specs.Prelude.{◌≡◌, ◌+◌, ◌-◌, ◌^◌, ◌≤◌, List, [], ◌∷◌, ◌++◌, length, min, IfOk, slice_get};
+ghost use Rattle.std.specs.List.{AllZip};
+ghost use Rattle.std.specs.Option.{option_copied};
+ghost use Rattle.recent_ring.specs.Recent.{last_items, recent, IsCopy};
+
+use crate::keep::Keep;
+use circular_buffer::HeapCircularBuffer;
+use std::alloc::Global;
+use std::marker::Model;
+use wire_io::NoMemory;
+
+// How many items are kept.
+const KEPT: usize = 1024;
+
+/// The last items of a list, oldest first, and how many the list has.
+#[derive(Drop)]
+pub struct Recent<T> {
+    items: HeapCircularBuffer<T>,
+    total: u64,
+}
+
+impl<T> Model for Recent<T> {
+    ghost use Rattle.std.specs.Prelude.{◌≡◌, length, min};
+    ghost use Rattle.recent_ring.specs.Recent.{RecentValue};
+
+    ghost Value = { RecentValue T };
+
+    ghost view = { λ r. record { total = r.total; items = r.items.items } };
+
+    ghost invariant = { λ r. (r.items.capacity ≡ 1024) × (length r.items.items ≡ min r.total 1024) };
+}
+
+impl<T: Drop> Recent<T> {
+    /// The ring of the empty list. It takes the memory for all that it will keep.
+    pub fn new(alloc: Global) -> Result<Recent<T>, NoMemory>
+        ensures { IfOk result (λ ring. ring ≡ recent []) }
+    {
+        let items = HeapCircularBuffer::with_capacity(alloc, KEPT)?;
+        Ok(Recent { items, total: 0 })
+    }
+
+    /// Appends an item, and drops the oldest where 1,024 were kept. The total ends at 2^64 - 1.
+    pub fn push(&mut self, item: T)
+        ensures items { self.new.items ≡ last_items (self.old.items ++ item ∷ []) }
+        ensures total { self.new.total ≡ min (self.old.total + 1) (2 ^ 64 - 1) }
+        ensures list { (all : List T) → self.old ≡ recent all → self.new ≡ recent (all ++ item ∷ []) }
+    {
+        self.items.push_back(item);
+        self.total = self.total.saturating_add(1);
+    }
+
+    /// How many items there were in all, at most 2^64 - 1.
+    pub fn total(&self) -> u64
+        ensures total { result ≡ self.now.total }
+        ensures kept { length self.now.items ≡ min self.now.total 1024 }
+    {
+        self.total
+    }
+
+    /// How many items are kept.
+    pub fn len(&self) -> u64
+        ensures len { result ≡ length self.now.items }
+        ensures kept { length self.now.items ≡ min self.now.total 1024 }
+    {
+        self.items.len() as u64
+    }
+
+    /// The item at a place, counted from the oldest kept; none where the place isn't below `len`.
+    pub fn get(&self, place: u64) -> Option<&T>
+        ensures { option_copied result ≡ slice_get self.now.items place }
+    {
+        self.items.get(place as usize)
+    }
+}
+
+impl<T: Keep + Drop> Recent<T> {
+    /// An equal ring: the same total, and items that are alike.
+    pub fn copy(&self) -> Result<Recent<T>, NoMemory>
+        ensures { IfOk result (IsCopy T.alike self.now) }
+    {
+        let items = copy_of(&self.items)?;
+        Ok(Recent {
+            items,
+            total: self.total,
+        })
+    }
+}
+
+// A ring of the same room, with items that are alike.
+fn copy_of<T: Keep + Drop>(items: &HeapCircularBuffer<T>) -> Result<HeapCircularBuffer<T>, NoMemory>
+    ensures items { IfOk result (λ copy. AllZip T.alike items.now.items copy.items) }
+    ensures room { IfOk result (λ copy. copy.capacity ≡ items.now.capacity) }
+{
+    let room = items.capacity();
+    let mut copy = HeapCircularBuffer::with_capacity(*items.allocator(), room)?;
+    for place in 0..items.len() {
+        if let Some(item) = items.get(place) {
+            let kept = item.keep()?;
+            copy.push_back(kept);
+        }
+    }
+    Ok(copy)
+}
