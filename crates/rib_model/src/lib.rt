@@ -5,15 +5,23 @@
 //! prefix, and a step of a lane. The attributes of a route and what a Peer Up told of a peer stand
 //! behind `Arc`s, one for all prefixes of an UPDATE.
 //!
-//! Proved: the lists are lists, and keep the order in which they were filled.
+//! Proved: an effect list keeps the order in which it was filled; the paths of a prefix are a map from
+//! path identifiers to routes, in full after every call; a step that is kept has the same value.
 //! Begin with `src/effect.rt` and `specs/Effects.antt`.
 #![tactic(auto)]
 
 mod effect;
 mod entry;
 mod list;
+mod paths;
+mod step;
 
 pub use bmp_specs::{Cause, Why};
 pub use effect::{Effect, Route};
 pub use entry::Entry;
 pub use list::EffectList;
+pub use paths::{PathOf, Paths};
+pub use step::Step;
+
+#[cfg(test)]
+mod tests;

@@ -1,0 +1,103 @@
+use crate::{Effect, EffectList, PathOf, Paths, Route, Step};
+use bmp_frames::PeerKey;
+use bmp_specs::View;
+use ip_prefix::{Addr, Nlri, Prefix};
+use path_attrs::{Attrs, Numbers, OtherList};
+use recent_ring::Keep;
+use std::alloc::Global;
+use std::sync::Arc;
+use std::test::Fail;
+use wire_io::NoMemory;
+
+// A route that is told from others by its MULTI_EXIT_DISC.
+fn route(alloc: Global, med: u32) -> Result<Route, NoMemory> {
+    let attrs = Attrs {
+        origin: Some(0),
+        path: None,
+        hop: None,
+        med: Some(med),
+        pref: None,
+        atomic: false,
+        aggregator: None,
+        communities: Numbers::new(alloc),
+        others: OtherList::new(alloc),
+    };
+    Ok(Arc::new(alloc, attrs)?)
+}
+
+fn path(alloc: Global, id: Option<u32>, med: u32) -> Result<PathOf, NoMemory> {
+    let route = route(alloc, med)?;
+    Ok(PathOf { id, route })
+}
+
+// Whether the paths have these identifiers and these values of MULTI_EXIT_DISC, in this order.
+fn are(paths: &Paths, wanted: &[(Option<u32>, u32)]) -> bool {
+    if paths.as_slice().len() != wanted.len() {
+        return false;
+    }
+    for (path, (id, med)) in paths.as_slice().iter().zip(wanted.iter()) {
+        if path.id != *id || path.route.med != Some(*med) {
+            return false;
+        }
+    }
+    true
+}
+
+fn put(effects: &mut EffectList, effect: Effect) -> Result<(), NoMemory> {
+    effects.push(effect)?;
+    Ok(())
+}
+
+#[test]
+fn paths_stand_by_identifier(rt: HostRuntime) -> Result<(), Fail> {
+    let alloc = rt.alloc();
+    let one = Paths::of(alloc, path(alloc, Some(7), 1)?)?;
+    let two = one.with(path(alloc, Some(9), 2)?)?;
+    let three = two.with(path(alloc, None, 3)?)?;
+    assert!(rt; are(&three, &[(None, 3), (Some(7), 1), (Some(9), 2)]));
+    let again = three.with(path(alloc, Some(7), 4)?)?;
+    assert!(rt; are(&again, &[(None, 3), (Some(7), 4), (Some(9), 2)]));
+    let left = again.without(Some(7))?.ok_or(NoMemory)?;
+    assert!(rt; are(&left, &[(None, 3), (Some(9), 2)]));
+    assert!(rt; are(&one, &[(Some(7), 1)]));
+    assert!(rt; one.without(Some(7))?.is_none());
+    let same = one.without(None)?;
+    assert!(rt; same.is_some_and(|paths| are(&paths, &[(Some(7), 1)])));
+    Ok(())
+}
+
+#[test]
+fn effects_and_steps_keep_their_order(rt: HostRuntime) -> Result<(), Fail> {
+    let alloc = rt.alloc();
+    let key = PeerKey {
+        kind: 0,
+        distinguisher: 0,
+        address: Addr::v4([192, 0, 2, 1]),
+    };
+    let prefix = Prefix::new(Addr::v4([10, 0, 0, 0]), 8).ok_or(NoMemory)?;
+    let nlri = Nlri { prefix, id: None };
+    let view = View::InPre;
+    let mut effects = EffectList::with_capacity(alloc, 2)?;
+    put(&mut effects, Effect::Withdraw { key, view, nlri })?;
+    put(&mut effects, Effect::Unread(3))?;
+    assert!(rt;
+        matches!(
+            effects.as_slice(),
+            [Effect::Withdraw { .. }, Effect::Unread(3)]
+        )
+    );
+    assert!(rt; matches!(effects.pop(), Some(Effect::Unread(3))));
+    assert!(rt; EffectList::new(alloc).pop().is_none());
+    let route = route(alloc, 5)?;
+    let step = Step::Announce {
+        key,
+        view,
+        nlri,
+        route,
+    };
+    let kept = step.keep()?;
+    assert!(rt;
+        matches!(&kept, Step::Announce { nlri: same, route, .. } if *same == nlri && route.med == Some(5))
+    );
+    Ok(())
+}
