@@ -1,0 +1,21 @@
+//! The lines of replies, each written by one call to any sink. No call takes memory.
+//!
+//! `query_eval` answers a query by a first line, the lines of its rows and a last line; a route line
+//! tells a route's place and its path attributes (RFC 4271, section 5).
+//!
+//! Proved: each call writes exactly the line that `bmp_specs` defines, and answers `Failed` only where a
+//! write failed, after a front of the line.
+//! Begin with `specs/Lines.antt` and `specs/RouteLine.antt` of `bmp_specs`, then `src/lines.rt`.
+#![tactic(auto)]
+
+mod hop;
+mod lines;
+mod lists;
+mod path;
+mod route;
+mod values;
+
+pub use bmp_specs::{Cause, Why};
+pub use lines::{put_at, put_end, put_stop};
+pub use route::put_route;
+pub use wire_io::{Failed, Sink};

@@ -1,0 +1,67 @@
+ghost use Rattle.std.specs.Prelude.{◌≡◌};
+ghost use Rattle.bmp_specs.specs.Lines.{at_line, end_line, further, why_text, cause_fields, stop_line};
+ghost use Rattle.wire_io.specs.Writes.{Writes};
+
+use bmp_specs::{Cause, Why};
+use itoa::Buffer;
+use wire_io::{Failed, Sink, write_all, write_pieces};
+
+/// Writes the first line of a reply: the revision of the history that it speaks of.
+pub fn put_at<O: Sink>(out: &mut O, rev: u64) -> Result<(), Failed>
+    ensures { Writes O.faults O.told O.aside out.old (at_line rev) result out.new }
+{
+    write_pieces(out, &[b"at ", Buffer::new().format(rev).as_bytes(), b"\n"])
+}
+
+/// Writes the last line of a reply: the number of its rows.
+pub fn put_end<O: Sink>(out: &mut O, rows: u64) -> Result<(), Failed>
+    ensures { Writes O.faults O.told O.aside out.old (end_line rows) result out.new }
+{
+    write_pieces(
+        out,
+        &[b"end ", Buffer::new().format(rows).as_bytes(), b"\n"],
+    )
+}
+
+/// Writes why and where the stream stopped.
+pub fn put_stop<O: Sink>(out: &mut O, cause: &Cause) -> Result<(), Failed>
+    ensures { Writes O.faults O.told O.aside out.old (stop_line cause.now) result out.new }
+{
+    write_all(out, b"stop")?;
+    put_cause(out, *cause)
+}
+
+// The word for the rule that is broken.
+fn why_word(why: Why) -> &'static [u8]
+    ensures { result.now ≡ why_text why }
+{
+    match why {
+        Why::Version => b"version",
+        Why::Length => b"length",
+        Why::Body => b"body",
+    }
+}
+
+// Writes the fields of a cause and the end of the line.
+fn put_cause<O: Sink>(out: &mut O, cause: Cause) -> Result<(), Failed>
+    ensures { Writes O.faults O.told O.aside out.old (further (cause_fields cause)) result out.new }
+{
+    let mut buffer = Buffer::new();
+    match cause {
+        Cause::Ended => write_all(out, b" ended\n"),
+        Cause::Terminated => write_all(out, b" terminated\n"),
+        Cause::CutShort { offset } => {
+            let offset = buffer.format(offset).as_bytes();
+            write_pieces(out, &[b" cutshort ", offset, b"\n"])
+        }
+        Cause::Broken { offset, why } => {
+            let offset = buffer.format(offset).as_bytes();
+            write_pieces(out, &[b" broken ", offset, b" ", why_word(why), b"\n"])
+        }
+        Cause::ReadFault { offset } => {
+            let offset = buffer.format(offset).as_bytes();
+            write_pieces(out, &[b" readfault ", offset, b"\n"])
+        }
+        Cause::Full => write_all(out, b" full\n"),
+    }
+}

@@ -1,0 +1,97 @@
+ghost use Rattle.std.specs.Prelude.{◌≡◌, ◌++◌, codes, map};
+ghost use Rattle.std.specs.List.{join_with_byte};
+ghost use Rattle.bmp_specs.specs.NumberText.{number_text};
+ghost use Rattle.bmp_specs.specs.RouteLine.{comma, comma_list, community_text, others_text};
+ghost use Rattle.reply_text.specs.Pieces.{behind};
+ghost use Rattle.wire_io.specs.Writes.{Writes};
+
+use itoa::Buffer;
+use path_attrs::Other;
+use wire_io::{Failed, Sink, write_all, write_pieces};
+
+// Writes a number behind the text before it.
+pub(crate) fn put_number<O: Sink>(out: &mut O, before: &[u8], number: u32) -> Result<(), Failed>
+    ensures { Writes O.faults O.told O.aside out.old (before.now ++ number_text number) result out.new }
+{
+    write_pieces(out, &[before, Buffer::new().format(number).as_bytes()])
+}
+
+// Writes the numbers, each behind the mark.
+pub(crate) fn put_behind<O: Sink>(out: &mut O, mark: u8, numbers: &[u32]) -> Result<(), Failed>
+    ensures { Writes O.faults O.told O.aside out.old (behind mark (map number_text numbers.now)) result out.new }
+{
+    for number in numbers {
+        put_number(out, &[mark], *number)?;
+    }
+    Ok(())
+}
+
+// Writes the numbers with the mark between them.
+pub(crate) fn put_joined<O: Sink>(out: &mut O, mark: u8, numbers: &[u32]) -> Result<(), Failed>
+    ensures { Writes O.faults O.told O.aside out.old (join_with_byte mark (map number_text numbers.now)) result out.new }
+{
+    match numbers {
+        [] => Ok(()),
+        [first, rest @ ..] => {
+            put_number(out, b"", *first)?;
+            put_behind(out, mark, rest)
+        }
+    }
+}
+
+// Writes a community behind the text before it.
+fn put_community<O: Sink>(out: &mut O, before: &[u8], community: u32) -> Result<(), Failed>
+    ensures { Writes O.faults O.told O.aside out.old (before.now ++ community_text community) result out.new }
+{
+    let mut high = Buffer::new();
+    let mut low = Buffer::new();
+    let high = high.format(community / 65536).as_bytes();
+    let low = low.format(community % 65536).as_bytes();
+    write_pieces(out, &[before, high, b":", low])
+}
+
+// Writes the communities, each behind a comma.
+fn put_further_communities<O: Sink>(out: &mut O, communities: &[u32]) -> Result<(), Failed>
+    ensures { Writes O.faults O.told O.aside out.old (behind comma (map community_text communities.now)) result out.new }
+{
+    for community in communities {
+        put_community(out, b",", *community)?;
+    }
+    Ok(())
+}
+
+// Writes the field of the communities (RFC 1997).
+pub(crate) fn put_communities<O: Sink>(out: &mut O, communities: &[u32]) -> Result<(), Failed>
+    ensures { Writes O.faults O.told O.aside out.old (codes " comm=" ++ comma_list (map community_text communities.now)) result out.new }
+{
+    match communities {
+        [] => write_all(out, b" comm=-"),
+        [first, rest @ ..] => {
+            put_community(out, b" comm=", *first)?;
+            put_further_communities(out, rest)
+        }
+    }
+}
+
+// Writes the type codes of the attributes, each behind a comma.
+fn put_further_others<O: Sink>(out: &mut O, others: &[Other]) -> Result<(), Failed>
+    ensures { Writes O.faults O.told O.aside out.old (behind comma (map (λ other. number_text other.code) others.now)) result out.new }
+{
+    for other in others {
+        put_number(out, b",", other.code as u32)?;
+    }
+    Ok(())
+}
+
+// Writes the field of the attributes that are told by their type codes alone.
+pub(crate) fn put_others<O: Sink>(out: &mut O, others: &[Other]) -> Result<(), Failed>
+    ensures { Writes O.faults O.told O.aside out.old (codes " other=" ++ others_text others.now) result out.new }
+{
+    match others {
+        [] => write_all(out, b" other=-"),
+        [first, rest @ ..] => {
+            put_number(out, b" other=", first.code as u32)?;
+            put_further_others(out, rest)
+        }
+    }
+}

@@ -1,0 +1,117 @@
+ghost use Rattle.std.specs.Prelude.{◌≡◌, ◌++◌, [], ◌∷◌, codes};
+ghost use Rattle.bmp_specs.specs.Lines.{further};
+ghost use Rattle.bmp_specs.specs.PeerText.{key_text, view_text};
+ghost use Rattle.bmp_specs.specs.PrefixText.{prefix_text};
+ghost use Rattle.bmp_specs.specs.RouteLine.{text_or_absent, origin_text, attribute_fields, id_fields, route_fields, route_line};
+ghost use Rattle.reply_text.specs.Pieces.{spaced, way_text, metrics_text, lists_text};
+ghost use Rattle.wire_io.specs.Writes.{Writes};
+
+use crate::hop::put_hop;
+use crate::lists::{put_communities, put_number, put_others};
+use crate::path::put_path;
+use crate::values::{digits_or_absent, origin_word, put_aggregator, yes_or_no};
+use bmp_frames::ViewText;
+use itoa::Buffer;
+use origin_index::OriginRow;
+use path_attrs::Attrs;
+use wire_io::{Failed, Sink, write_all, write_pieces};
+
+// Writes the fields of a place: its peer, its RIB and its prefix.
+fn put_place<O: Sink>(out: &mut O, row: &OriginRow) -> Result<(), Failed>
+    ensures { Writes O.faults O.told O.aside out.old (spaced (key_text row.now.key ∷ view_text row.now.view ∷ prefix_text row.now.nlri.prefix ∷ [])) result out.new }
+{
+    let key = row.key.text();
+    let view = row.view.text();
+    let prefix = row.prefix.text();
+    write_pieces(
+        out,
+        &[
+            b" ",
+            key.as_slice(),
+            b" ",
+            view.as_slice(),
+            b" ",
+            prefix.as_slice(),
+        ],
+    )
+}
+
+// Writes the field of ORIGIN (RFC 4271, section 5.1.1).
+fn put_origin<O: Sink>(out: &mut O, origin: Option<u8>) -> Result<(), Failed>
+    ensures { Writes O.faults O.told O.aside out.old (codes " origin=" ++ text_or_absent origin_text origin) result out.new }
+{
+    let mut buffer = Buffer::new();
+    write_pieces(out, &[b" origin=", origin_word(&mut buffer, origin)])
+}
+
+// Writes the fields of MULTI_EXIT_DISC, LOCAL_PREF and ATOMIC_AGGREGATE (RFC 4271, sections 5.1.4 to 5.1.6).
+fn put_metrics<O: Sink>(out: &mut O, attrs: &Attrs) -> Result<(), Failed>
+    ensures { Writes O.faults O.told O.aside out.old (metrics_text attrs.now) result out.new }
+{
+    let mut med = Buffer::new();
+    let mut pref = Buffer::new();
+    let med = digits_or_absent(&mut med, attrs.med);
+    let pref = digits_or_absent(&mut pref, attrs.pref);
+    let atomic = yes_or_no(attrs.atomic);
+    write_pieces(out, &[b" med=", med, b" pref=", pref, b" atomic=", atomic])
+}
+
+// Writes the fields of the next hop, ORIGIN and AS_PATH.
+fn put_way<O: Sink>(out: &mut O, attrs: &Attrs) -> Result<(), Failed>
+    ensures { Writes O.faults O.told O.aside out.old (way_text attrs.now) result out.new }
+{
+    put_hop(out, &attrs.hop)?;
+    put_origin(out, attrs.origin)?;
+    put_path(out, &attrs.path)
+}
+
+// Writes the fields of AGGREGATOR, of the communities and of the attributes that are told by their type codes alone.
+fn put_lists<O: Sink>(out: &mut O, attrs: &Attrs) -> Result<(), Failed>
+    ensures { Writes O.faults O.told O.aside out.old (lists_text attrs.now) result out.new }
+{
+    put_aggregator(out, &attrs.aggregator)?;
+    put_communities(out, attrs.communities.as_slice())?;
+    put_others(out, attrs.others.as_slice())
+}
+
+// Writes the fields of the path attributes.
+fn put_attributes<O: Sink>(out: &mut O, attrs: &Attrs) -> Result<(), Failed>
+    ensures { Writes O.faults O.told O.aside out.old (spaced (attribute_fields attrs.now)) result out.new }
+{
+    put_way(out, attrs)?;
+    put_metrics(out, attrs)?;
+    put_lists(out, attrs)
+}
+
+// Writes the field of the path identifier, where there is one (RFC 7911, section 3), and the end of the line.
+fn put_id<O: Sink>(out: &mut O, id: Option<u32>) -> Result<(), Failed>
+    ensures { Writes O.faults O.told O.aside out.old (further (id_fields id)) result out.new }
+{
+    match id {
+        None => write_all(out, b"\n"),
+        Some(id) => write_pieces(out, &[b" id=", Buffer::new().format(id).as_bytes(), b"\n"]),
+    }
+}
+
+// Writes the fields of a route from its peer on, and the end of the line.
+fn put_fields<O: Sink>(out: &mut O, row: &OriginRow, attrs: &Attrs) -> Result<(), Failed>
+    ensures { Writes O.faults O.told O.aside out.old (further (route_fields (record { place = row.now; route = attrs.now }))) result out.new }
+{
+    put_place(out, row)?;
+    put_attributes(out, attrs)?;
+    put_id(out, row.id)
+}
+
+/// Writes the line of a route of this lane: its peer, the RIB that it was seen in, its prefix, its path
+/// attributes (RFC 4271, section 5) and its path identifier where it has one (RFC 7911, section 3).
+pub fn put_route<O: Sink>(
+    out: &mut O,
+    lane: u32,
+    row: &OriginRow,
+    attrs: &Attrs,
+) -> Result<(), Failed>
+    ensures { Writes O.faults O.told O.aside out.old (route_line lane (record { place = row.now; route = attrs.now })) result out.new }
+{
+    put_number(out, b"route ", lane)?;
+    put_fields(out, row, attrs)
+}
