@@ -9,7 +9,9 @@
 //! the line `unbuilt`. Begin with `specs/Station.antt`, then `src/top.rt`.
 #![tactic(auto)]
 
+mod place;
 mod status;
+mod tables;
 mod take;
 mod top;
 

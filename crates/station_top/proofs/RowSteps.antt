@@ -1,0 +1,186 @@
+-- What one more effect makes of the peers that are up and of their rows.
+use Rattle.std.proofs.Common.{◌≡◌, ◌↔◌, ◌⊎◌, inl, inr, IsTrue, Bool, true, false, if◌then◌else◌, List, [], ◌∷◌, ◌++◌, Option, None, Some, refl, sym, ap, ◌∙◌, subst, Result, Ok, Err, OnOk}
+use Rattle.std.specs.Prelude.{is_some}
+use Rattle.std.specs.declared.sync.Arc.{Arc}
+use Rattle.std.specs.declared.alloc.Global.{Global}
+use Rattle.std.specs.BTreeMap.{get, is_at}
+use Rattle.std.specs.Map.{lookup}
+use Rattle.bmp_specs.specs.Orders.{key_cmp}
+use Rattle.bmp_specs.specs.PeerUp.{Names, IsUp}
+use Rattle.bmp_specs.specs.Rows.{PlaceValue, ReplacesRow, HasRow}
+use Rattle.bmp_specs.specs.TableRows.{place_cmp}
+use Rattle.bmp_specs.specs.Values.{NlriValue, KeyValue, PeerInfoValue, DownInfoValue, AttrsValue, EffectValue, up, down, announce, withdraw, mark, statistic, named, described, orphan, mirrored, passed, unread}
+use Rattle.bmp_specs.proofs.LatestLaws.{no_middle}
+use Rattle.bmp_specs.proofs.OrderLaws.{key_total, key_exact, place_total, place_exact, same_or_other}
+use Rattle.bmp_specs.proofs.RowLaws.{up_now, up_still, up_from, row_now, row_still, row_from, names_or_other}
+use Rattle.bmp_specs.specs.declared.peers.View.{View}
+use Rattle.rib_model.specs.declared.effect.Effect.{Effect}
+use Rattle.rib_model.specs.declared.effect.Effect.TheVariants.{Up, Down, Announce, Withdraw}
+use Rattle.rib_model.specs.Effects.{effect_value}
+use Rattle.station_top.specs.declared.place.Place.{Place}
+use Rattle.station_top.specs.Places.{place_of}
+use Rattle.station_top.specs.Tables.{Peers, has_peer, route_in, route_at, Holds, Puts, Clears}
+
+-- what a call leaves where it went well
+pub on_ok : {T E P Q : Type 0} (r : Result T E) → (P → Q) → OnOk r P → OnOk r Q
+on_ok (Ok t) f p = f p
+on_ok (Err e) f p = tt
+
+same_key : (key k : KeyValue) → (key ≡ k) ⊎ ¬ (key ≡ k)
+same_key key k = same_or_other key_cmp key_total key_exact key k
+
+at_place : (key : KeyValue) (place : Place) (p : PlaceValue) → (key ≡ p.key) × (place.view ≡ p.view) × (place.nlri ≡ p.nlri) → place_of key place ≡ p
+at_place key place p (k, v, n) = λ i. record { key = k i; view = v i; nlri = n i }
+
+of_place : (key : KeyValue) (place : Place) (p : PlaceValue) → place_of key place ≡ p → (key ≡ p.key) × (place.view ≡ p.view) × (place.nlri ≡ p.nlri)
+of_place key place p same = (ap (λ (q : PlaceValue). q.key) same, ap (λ (q : PlaceValue). q.view) same, ap (λ (q : PlaceValue). q.nlri) same)
+
+place_or_other : (key : KeyValue) (place : Place) (p : PlaceValue)
+    → ((key ≡ p.key) × (place.view ≡ p.view) × (place.nlri ≡ p.nlri)) ⊎ ¬ ((key ≡ p.key) × (place.view ≡ p.view) × (place.nlri ≡ p.nlri))
+place_or_other key place p = elim (same_or_other place_cmp place_total place_exact (place_of key place) p) [
+  | inl same ↦ inl (of_place key place p same)
+  | inr other ↦ inr (λ t. other (at_place key place p t))
+]
+
+-- an effect ends what stands at a place or not
+pub replaces_or_other : (p : PlaceValue) (e : EffectValue) → ReplacesRow p e ⊎ ¬ (ReplacesRow p e)
+replaces_or_other p (up k info) = same_key k p.key
+replaces_or_other p (down k info) = same_key k p.key
+replaces_or_other p (announce k view nlri route) = place_or_other k (record { view = view; nlri = nlri }) p
+replaces_or_other p (withdraw k view nlri) = place_or_other k (record { view = view; nlri = nlri }) p
+replaces_or_other p (mark k view family) = inr (λ n. n)
+replaces_or_other p (statistic k stat) = inr (λ n. n)
+replaces_or_other p (named name) = inr (λ n. n)
+replaces_or_other p (described text) = inr (λ n. n)
+replaces_or_other p orphan = inr (λ n. n)
+replaces_or_other p mirrored = inr (λ n. n)
+replaces_or_other p passed = inr (λ n. n)
+replaces_or_other p (unread parts) = inr (λ n. n)
+
+-- what the new peers answer where the effect names the peer or ends what stands at the place, and as before elsewhere
+pub record Follows (old new : Peers) (e : EffectValue) : Type 0 where
+  pub named : (key : KeyValue) → Names key e → IsTrue (has_peer new key) ↔ ((info : PeerInfoValue) × (e ≡ up key info))
+  pub others : (key : KeyValue) → ¬ (Names key e) → has_peer new key ≡ has_peer old key
+  pub replaced : (p : PlaceValue) (route : AttrsValue) → ReplacesRow p e → (route_at new p ≡ Some route) ↔ ((e ≡ announce p.key p.view p.nlri route) × IsTrue (has_peer old p.key))
+  pub kept : (p : PlaceValue) → ¬ (ReplacesRow p e) → route_at new p ≡ route_at old p
+
+pub holds_step : (old new : Peers) (e : EffectValue) → Follows old new e → (es : List EffectValue) → Holds old es → Holds new (es ++ e ∷ [])
+holds_step old new e f es h = record {
+  up = λ key. elim (names_or_other key e) [
+    | inl here ↦ (
+      λ t. let u = (f.named key here).0 t in subst (λ (d : EffectValue). IsUp (es ++ d ∷ []) key) (sym u.1) (up_now es key u.0),
+      λ u. elim (up_from es e key u) [ inl is ↦ (f.named key here).1 is | inr v ↦ absurd (v.1 here) ],
+    )
+    | inr other ↦ (
+      λ t. up_still es e key other ((h.up key).0 (sym (f.others key other) ∙ t)),
+      λ u. elim (up_from es e key u) [ inl is ↦ absurd (other (subst (Names key) (sym is.1) refl)) | inr v ↦ f.others key other ∙ (h.up key).1 v.0 ],
+    )
+  ];
+  rows = λ row. elim (replaces_or_other row.place e) [
+    | inl here ↦ (
+      λ t. let u = (f.replaced row.place row.route here).0 t in subst (λ (d : EffectValue). HasRow (es ++ d ∷ []) row) (sym u.0) (row_now es row ((h.up row.place.key).0 u.1)),
+      λ u. elim (row_from es e row u) [ inl is ↦ (f.replaced row.place row.route here).1 (is.0, (h.up row.place.key).1 is.1) | inr v ↦ absurd (v.1 here) ],
+    )
+    | inr other ↦ (
+      λ t. row_still es e row other ((h.rows row).0 (sym (f.kept row.place other) ∙ t)),
+      λ u. elim (row_from es e row u) [ inl is ↦ absurd (other (subst (ReplacesRow row.place) (sym is.0) (refl, refl, refl))) | inr v ↦ f.kept row.place other ∙ (h.rows row).1 v.0 ],
+    )
+  ];
+}
+
+none_some : (route : AttrsValue) (o : Option AttrsValue) → o ≡ None → o ≡ Some route → ⊥
+none_some route o n s = let e : None ≡ Some route = sym n ∙ s in cc
+
+-- a peer that comes up has no row
+pub follows_up : (old new : Peers) (k : KeyValue) (info : PeerInfoValue) → Clears old new k true → Follows old new (up k info)
+follows_up old new k info c = record {
+  named = λ key same. (λ t. (info, ap (λ (j : KeyValue). up j info) same), λ t. subst (λ (j : KeyValue). IsTrue (has_peer new j)) same c.here);
+  others = λ key other. c.peers key other;
+  replaced = λ p route same. (λ t. absurd (none_some route (route_at new p) (c.empty p same) t), λ t. let e : up k info ≡ announce p.key p.view p.nlri route = t.0 in absurd cc);
+  kept = λ p other. c.others p other;
+}
+
+-- and one that goes down is no peer
+pub follows_down : (old new : Peers) (k : KeyValue) (info : DownInfoValue) → Clears old new k false → Follows old new (down k info)
+follows_down old new k info c = record {
+  named = λ key same. (
+    λ t. let e : false ≡ true = sym (subst (λ (j : KeyValue). has_peer new j ≡ false) same c.here) ∙ t in absurd cc,
+    λ t. let e : down k info ≡ up key t.0 = t.1 in absurd cc,
+  );
+  others = λ key other. c.peers key other;
+  replaced = λ p route same. (λ t. absurd (none_some route (route_at new p) (c.empty p same) t), λ t. let e : down k info ≡ announce p.key p.view p.nlri route = t.0 in absurd cc);
+  kept = λ p other. c.others p other;
+}
+
+-- a route is at its place where its peer is up
+put_here : (b : Bool) (k : KeyValue) (place : Place) (new route : AttrsValue) (o : Option AttrsValue) → o ≡ (if b then Some new else None)
+    → (o ≡ Some route) ↔ ((announce k place.view place.nlri new ≡ announce k place.view place.nlri route) × IsTrue b)
+put_here true k place new route o is = (λ t. let e : Some new ≡ Some route = sym is ∙ t in let s : new ≡ route = cc in (ap (announce k place.view place.nlri) s, refl), λ t. let e = t.0 in let s : new ≡ route = cc in is ∙ ap Some s)
+put_here false k place new route o is = (λ t. absurd (none_some route o is t), λ t. let e : false ≡ true = t.1 in absurd cc)
+
+pub follows_announce : (old new : Peers) (k : KeyValue) (place : Place) (route : AttrsValue) → Puts old new k place (Some route) → Follows old new (announce k place.view place.nlri route)
+follows_announce old new k place route c = record {
+  named = λ key n. absurd n;
+  others = λ key other. c.peers key;
+  replaced = λ p other same. subst (λ (q : PlaceValue). (route_at new q ≡ Some other) ↔ ((announce k place.view place.nlri route ≡ announce q.key q.view q.nlri other) × IsTrue (has_peer old q.key)))
+      (at_place k place p same) (put_here (has_peer old k) k place route other (route_at new (place_of k place)) c.here);
+  kept = λ p other. c.others p (λ same. other (of_place k place p same));
+}
+
+either_none : (b : Bool) → (if b then None else None) ≡ (let n : Option AttrsValue = None in n)
+either_none true = refl
+either_none false = refl
+
+pub follows_withdraw : (old new : Peers) (k : KeyValue) (place : Place) → Puts old new k place None → Follows old new (withdraw k place.view place.nlri)
+follows_withdraw old new k place c = record {
+  named = λ key n. absurd n;
+  others = λ key other. c.peers key;
+  replaced = λ p route same. (
+    λ t. absurd (none_some route (route_at new p) (subst (λ (q : PlaceValue). route_at new q ≡ None) (at_place k place p same) (c.here ∙ either_none (has_peer old k))) t),
+    λ t. let e : withdraw k place.view place.nlri ≡ announce p.key p.view p.nlri route = t.0 in absurd cc,
+  );
+  kept = λ p other. c.others p (λ same. other (of_place k place p same));
+}
+
+-- an effect that names no peer and ends no row
+pub follows_other : (peers : Peers) (e : EffectValue) → ((key : KeyValue) → ¬ (Names key e)) → ((p : PlaceValue) → ¬ (ReplacesRow p e)) → Follows peers peers e
+follows_other peers e unnamed no_row = record {
+  named = λ key n. absurd (unnamed key n);
+  others = λ key other. refl;
+  replaced = λ p route r. absurd (no_row p r);
+  kept = λ p other. refl;
+}
+
+-- nor do effects of the other kinds
+module _ (peers : Peers) (e : Effect) (not_up : (key : KeyValue) (info : Arc PeerInfoValue Global) → e ≡ Up key info → ⊥) (not_down : (key : KeyValue) (info : DownInfoValue) → e ≡ Down key info → ⊥)
+    (not_announce : (key : KeyValue) (view : View) (nlri : NlriValue) (route : Arc AttrsValue Global) → e ≡ Announce key view nlri route → ⊥) (not_withdraw : (key : KeyValue) (view : View) (nlri : NlriValue) → e ≡ Withdraw key view nlri → ⊥) where
+  names_none : (f : Effect) → e ≡ f → (key : KeyValue) → ¬ (Names key (effect_value f))
+  names_none (Up k info) is key n = not_up k info is
+  names_none (Down k info) is key n = not_down k info is
+  names_none _ is key n = n
+
+  replaces_none : (f : Effect) → e ≡ f → (p : PlaceValue) → ¬ (ReplacesRow p (effect_value f))
+  replaces_none (Up k info) is p n = not_up k info is
+  replaces_none (Down k info) is p n = not_down k info is
+  replaces_none (Announce k view nlri route) is p n = not_announce k view nlri route is
+  replaces_none (Withdraw k view nlri) is p n = not_withdraw k view nlri is
+  replaces_none _ is p n = n
+
+  pub holds_other : (es : List EffectValue) → Holds peers es → Holds peers (es ++ effect_value e ∷ [])
+  holds_other = holds_step peers peers (effect_value e) (follows_other peers (effect_value e) (names_none e refl) (replaces_none e refl))
+
+-- without an effect there is no peer
+pub holds_nothing : (peers : Peers) → peers.entries ≡ [] → Holds peers []
+holds_nothing peers empty = record {
+  up = λ key. (
+    λ t. let e : false ≡ true = sym (ap is_some (none key)) ∙ t in absurd cc,
+    λ u. absurd (no_middle u.1.before u.1.after (up key u.0) u.1.place),
+  );
+  rows = λ row. (
+    λ t. absurd (none_some row.route (route_at peers row.place) (ap (λ o. route_in o (record { view = row.place.view; nlri = row.place.nlri })) (none row.place.key)) t),
+    λ u. absurd (no_middle u.announced.before u.announced.after (announce row.place.key row.place.view row.place.nlri row.route) u.announced.place),
+  );
+}
+  where
+    none : (key : KeyValue) → get key_cmp peers key ≡ None
+    none key = ap (lookup (is_at (key_cmp key))) empty

@@ -1,0 +1,151 @@
+ghost use Rattle.std.specs.Prelude.{◌≡◌, [], ◌∷◌, ◌++◌, List, OnOk, Some, None, true, false};
+ghost use Rattle.std.specs.Arc.{arc_value};
+ghost use Rattle.bmp_specs.specs.Values.{EffectValue, EntryValue};
+ghost use Rattle.rib_model.specs.Effects.{effect_value, effect_values};
+ghost use Rattle.rib_model.specs.Entries.{entry_value};
+ghost use Rattle.station_top.specs.Tables.{Holds, StandsFor, Puts, Clears};
+
+use crate::place::Place;
+use bmp_frames::PeerKey;
+use rib_model::{Effect, Entry, Route};
+use std::alloc::Global;
+use std::collections::BTreeMap;
+use std::sync::Arc;
+use wire_io::NoMemory;
+
+// The routes of a peer, in the order of a reply.
+pub(crate) type Rows = BTreeMap<Place, Route>;
+
+// The peers that are up, each with its routes.
+pub(crate) type Peers = BTreeMap<PeerKey, Rows>;
+
+// What one router's present session left: the peers that are up, and their routes.
+#[derive(Drop)]
+pub(crate) struct Tables {
+    alloc: Global,
+    // whether the session goes on
+    is_live: bool,
+    pub(crate) peers: Peers,
+}
+
+// The peer comes up, without a route (RFC 7854, section 4.10).
+fn bring_up(peers: &mut Peers, alloc: Global, key: PeerKey) -> Result<(), NoMemory>
+    ensures { OnOk result (Clears peers.old peers.new key true) }
+{
+    peers.insert(key, BTreeMap::new(alloc))?;
+    Ok(())
+}
+
+// The peer goes down, with all its routes (RFC 7854, section 4.9).
+fn take_down(peers: &mut Peers, key: &PeerKey)
+    ensures { Clears peers.old peers.new key.now false }
+{
+    peers.remove(key);
+}
+
+// Puts the route at its place, in place of the one before, where the peer is up.
+fn announce(peers: &mut Peers, key: &PeerKey, place: Place, route: &Route) -> Result<(), NoMemory>
+    ensures { OnOk result (Puts peers.old peers.new key.now place (Some (arc_value route.now))) }
+{
+    if let Some(rows) = peers.get_mut(key) {
+        rows.insert(place, Arc::try_clone(route)?)?;
+    }
+    Ok(())
+}
+
+// Takes out the route of this place.
+fn withdraw(peers: &mut Peers, key: &PeerKey, place: Place)
+    ensures { Puts peers.old peers.new key.now place None }
+{
+    if let Some(rows) = peers.get_mut(key) {
+        rows.remove(&place);
+    }
+}
+
+// Takes one effect.
+fn take_effect(peers: &mut Peers, alloc: Global, effect: &Effect) -> Result<(), NoMemory>
+    ensures { OnOk result ((effects : List EffectValue) → Holds peers.old effects → Holds peers.new (effects ++ effect_value effect.now ∷ [])) }
+{
+    match effect {
+        Effect::Up { key, .. } => bring_up(peers, alloc, *key),
+        Effect::Down { key, .. } => {
+            take_down(peers, key);
+            Ok(())
+        }
+        Effect::Announce {
+            key,
+            view,
+            nlri,
+            route,
+        } => {
+            let place = Place {
+                view: *view,
+                nlri: *nlri,
+            };
+            announce(peers, key, place, route)
+        }
+        Effect::Withdraw { key, view, nlri } => {
+            let place = Place {
+                view: *view,
+                nlri: *nlri,
+            };
+            withdraw(peers, key, place);
+            Ok(())
+        }
+        _ => Ok(()),
+    }
+}
+
+// Takes the effects of a message, in order.
+fn take_effects(peers: &mut Peers, alloc: Global, effects: &[Effect]) -> Result<(), NoMemory>
+    ensures { OnOk result ((before : List EffectValue) → Holds peers.old before → Holds peers.new (before ++ effect_values effects.now)) }
+{
+    for effect in effects {
+        take_effect(peers, alloc, effect)?;
+    }
+    Ok(())
+}
+
+impl Tables {
+    // The tables of no entries. They take no memory.
+    pub(crate) fn new(alloc: Global) -> Tables
+        ensures { StandsFor result [] }
+    {
+        Tables {
+            alloc,
+            is_live: false,
+            peers: BTreeMap::new(alloc),
+        }
+    }
+
+    // No peer is up, whether or not a session goes on.
+    fn start_over(&mut self, is_live: bool)
+        ensures session { self.new.is_live ≡ is_live }
+        ensures empty { self.new.peers.entries ≡ [] }
+    {
+        self.is_live = is_live;
+        self.peers = BTreeMap::new(self.alloc);
+    }
+
+    // Takes one entry. After want of memory the tables may only be dropped.
+    pub(crate) fn apply(&mut self, entry: &Entry) -> Result<(), NoMemory>
+        ensures { OnOk result ((entries : List EntryValue) → StandsFor self.old entries → StandsFor self.new (entries ++ entry_value entry.now ∷ [])) }
+    {
+        match entry {
+            Entry::Opened => {
+                self.start_over(true);
+                Ok(())
+            }
+            Entry::Message { effects, .. } => {
+                if !self.is_live {
+                    return Ok(());
+                }
+                take_effects(&mut self.peers, self.alloc, effects.as_slice())
+            }
+            Entry::Closed(_) => {
+                self.start_over(false);
+                Ok(())
+            }
+        }
+    }
+}
