@@ -6,3 +6,4 @@ pub mod RowSteps
 pub mod EntrySteps
 pub mod TableRows
 pub mod Telling
+pub mod Counting

@@ -10,10 +10,10 @@ use Rattle.bmp_specs.specs.PeerUp.{Names, IsUp}
 use Rattle.bmp_specs.specs.Rows.{PlaceValue, ReplacesRow, HasRow}
 use Rattle.bmp_specs.specs.TableRows.{place_cmp}
 use Rattle.bmp_specs.specs.Values.{NlriValue, KeyValue, PeerInfoValue, DownInfoValue, AttrsValue, EffectValue, up, down, announce, withdraw, mark, statistic, named, described, orphan, mirrored, passed, unread}
+use Rattle.bmp_specs.specs.declared.peers.View.{View}
 use Rattle.bmp_specs.proofs.LatestLaws.{no_middle}
 use Rattle.bmp_specs.proofs.OrderLaws.{key_total, key_exact, place_total, place_exact, same_or_other}
 use Rattle.bmp_specs.proofs.RowLaws.{up_now, up_still, up_from, row_now, row_still, row_from, names_or_other}
-use Rattle.bmp_specs.specs.declared.peers.View.{View}
 use Rattle.rib_model.specs.declared.effect.Effect.{Effect}
 use Rattle.rib_model.specs.declared.effect.Effect.TheVariants.{Up, Down, Announce, Withdraw}
 use Rattle.rib_model.specs.Effects.{effect_value}

@@ -30,8 +30,8 @@ use Rattle.station_top.specs.declared.place.Place.{Place}
 use Rattle.station_top.specs.declared.tables.Tables.{Tables}
 use Rattle.station_top.specs.Places.{peer_place_cmp, place_of, within_peer}
 use Rattle.station_top.specs.Tables.{Rows, Peers, route_in, route_at, Holds, StandsFor}
-use Rattle.station_top.proofs.PlaceOrder.{peer_place_total, peer_place_exact}
 use Rattle.station_top.specs.TableText.{row_of, rows_of, rows_in, AreOrdered, table_text}
+use Rattle.station_top.proofs.PlaceOrder.{peer_place_total, peer_place_exact}
 
 -- members of what a list is mapped to
 module _ {X Y : Type 0} where

@@ -10,6 +10,7 @@
 #![tactic(auto)]
 
 mod place;
+mod put_table;
 mod status;
 mod tables;
 mod take;
