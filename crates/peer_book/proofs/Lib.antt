@@ -1,0 +1,6 @@
+pub mod Firsts
+pub mod Lookups
+pub mod MarkLaws
+pub mod Marking
+pub mod OneMore
+pub mod Standings

@@ -1,0 +1,4 @@
+pub mod Marks
+pub mod Peers
+pub mod Line
+pub mod Standing
