@@ -1,1 +1,10 @@
 mod Order
+mod Sorted
+mod Cuts
+mod Rows
+mod Joining
+mod Ranges
+mod Halving
+mod Edits
+mod Firsts
+mod Whole

@@ -1,1 +1,3 @@
 pub mod Ties
+pub mod Pairs
+pub mod Parts
