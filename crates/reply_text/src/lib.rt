@@ -13,6 +13,8 @@ mod lines;
 mod lists;
 mod path;
 mod route;
+#[cfg(test)]
+mod tests;
 mod values;
 
 pub use bmp_specs::{Cause, Why};
