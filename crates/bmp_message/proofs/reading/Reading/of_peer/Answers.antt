@@ -1,0 +1,27 @@
+use Rattle.std.proofs.lemmas.Result.{IfOk-weaker}
+use Rattle.bmp_message.specs.State.{reading_state}
+use Rattle.bmp_message.proofs.Meanings.{mirrored_of, no_mirroring}
+use Rattle.bmp_message.proofs.reading.Reading.of_peer.Goals as goal
+
+pub returns-in-StatisticsReport-clause-ok : goal.returns-in-StatisticsReport-clause-ok
+returns-in-StatisticsReport-clause-ok c = rw c.in-StatisticsReport.is (c.statistics.ensures.ok c.args.head.now)
+
+pub returns-in-StatisticsReport-clause-broken : goal.returns-in-StatisticsReport-clause-broken
+returns-in-StatisticsReport-clause-broken c = rw c.in-StatisticsReport.is (c.statistics.ensures.broken c.args.head.now)
+
+pub returns-in-PeerDown-clause-ok : goal.returns-in-PeerDown-clause-ok
+returns-in-PeerDown-clause-ok c = rw c.in-PeerDown.is (c.peer_down.ensures.ok c.args.head.now)
+
+pub returns-in-PeerDown-clause-broken : goal.returns-in-PeerDown-clause-broken
+returns-in-PeerDown-clause-broken c = rw c.in-PeerDown.is (c.peer_down.ensures.broken c.args.head.now)
+
+pub returns-in-PeerUp-clause-broken : goal.returns-in-PeerUp-clause-broken
+returns-in-PeerUp-clause-broken c = rw c.in-PeerUp.is c.peer_up.ensures.broken
+
+pub returns-in-RouteMirroring-clause-ok : goal.returns-in-RouteMirroring-clause-ok
+returns-in-RouteMirroring-clause-ok c =
+    rw c.in-RouteMirroring.is (IfOk-weaker c.mirroring.result _ _ (mirrored_of (reading_state c.args.self.now) c.args.head.now c.args.key.now c.args.rest.now) c.mirroring.ensures.ok)
+
+pub returns-in-RouteMirroring-clause-broken : goal.returns-in-RouteMirroring-clause-broken
+returns-in-RouteMirroring-clause-broken c =
+    rw c.in-RouteMirroring.is (λ broken. no_mirroring (reading_state c.args.self.now) c.args.head.now c.args.key.now c.args.rest.now (c.mirroring.ensures.broken broken))

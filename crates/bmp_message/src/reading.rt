@@ -1,0 +1,228 @@
+ghost use Rattle.std.specs.Prelude.{◌≡◌, ◌≤◌, length, is_some, IfOk, OnErr, IsErrOf};
+ghost use Rattle.std.specs.List.{All};
+ghost use Rattle.bmp_specs.specs.MessageBody.{HasPeer, IsMessage, OfPeer, no_peers, peer_down_notification, peer_up_notification, route_monitoring, statistics_report};
+ghost use Rattle.bmp_specs.specs.MessageEffects.{HasViewOfKey, IsMessageEntry};
+ghost use Rattle.bmp_specs.specs.PeerHeader.{HeaderValue};
+ghost use Rattle.bmp_message.specs.State.{reading_state};
+ghost use Rattle.bmp_message.specs.Effects.{HasEffects, MeansNoEntry, MeansNothing, effects_in, message_type_of};
+ghost use Rattle.peer_events.specs.Body.{most_body};
+ghost use Rattle.rib_model.specs.Entries.{entry_value};
+
+use crate::effects::only;
+use crate::fault::EntryFault;
+use crate::{events, routes};
+use bgp_open::PeerInfo;
+use bmp_frames::{PeerHeader, PeerKey};
+use peer_events::read_peer_up;
+use rib_model::{Effect, EffectList, Entry};
+use std::alloc::Global;
+use std::collections::BTreeMap;
+use std::marker::Model;
+use std::sync::Arc;
+
+/// The bytes of the common header (RFC 7854, section 4.1).
+const COMMON_HEADER: u32 = 6;
+
+/// The types of messages (RFC 7854, section 4.1).
+const ROUTE_MONITORING: u8 = 0;
+
+const STATISTICS_REPORT: u8 = 1;
+
+const PEER_DOWN: u8 = 2;
+
+const PEER_UP: u8 = 3;
+
+const INITIATION: u8 = 4;
+
+const TERMINATION: u8 = 5;
+
+const ROUTE_MIRRORING: u8 = 6;
+
+// The messages that have a Per-Peer Header (RFC 7854, section 4.2).
+#[derive(Clone, Copy)]
+pub(crate) enum PeerMessage {
+    RouteMonitoring,
+    StatisticsReport,
+    PeerDown,
+    PeerUp,
+    RouteMirroring,
+}
+
+/// What has been read of a stream so far: which peers are up, and what their Peer Ups told.
+///
+/// A contract sees the peers that are up with their OPEN messages, in the order of keys, and as a reading
+/// state by `reading_state`. `Effect::Up` shares what is kept here; no OPEN is copied.
+#[derive(Drop)]
+pub struct Reading {
+    peers: BTreeMap<PeerKey, Arc<PeerInfo>>,
+    alloc: Global,
+}
+
+impl Model for Reading {
+    ghost use Rattle.bmp_message.specs.State.{UpPeers, up_peers};
+
+    ghost Value = { UpPeers };
+
+    ghost view = { λ r. up_peers r.peers.entries };
+}
+
+impl Reading {
+    /// Knows no peer, as at the start of a connection.
+    pub fn new(alloc: Global) -> Reading
+        ensures { reading_state result ≡ no_peers }
+    {
+        Reading {
+            peers: BTreeMap::new(alloc),
+            alloc,
+        }
+    }
+
+    /// Whether the last Peer Up or Peer Down of the key was a Peer Up.
+    pub fn is_up(&self, key: &PeerKey) -> bool
+        ensures { result ≡ is_some (reading_state self.now key.now) }
+    {
+        self.peers.contains_key(key)
+    }
+
+    // Route Monitoring (RFC 7854, section 4.6). Where the peer isn't up nothing of it is read.
+    fn routes(
+        &self,
+        head: &PeerHeader,
+        key: &PeerKey,
+        rest: &[u8],
+    ) -> Result<EffectList, EntryFault>
+        requires { length rest.now ≤ most_body }
+        ensures ok { IfOk result (λ effects. HasEffects (OfPeer route_monitoring (reading_state self.now) head.now key.now rest.now) effects (reading_state self.now)) }
+        ensures broken { IsErrOf result EntryFault.Broken → MeansNothing (OfPeer route_monitoring (reading_state self.now) head.now key.now rest.now) }
+    {
+        match self.peers.get(key) {
+            Some(peer) => routes::route_monitoring(self.alloc, peer, head, key, rest),
+            None => Ok(only(self.alloc, Effect::Orphan)?),
+        }
+    }
+
+    // A Statistics Report (RFC 7854, section 4.8). Where the peer isn't up nothing of it is read.
+    fn statistics(&self, key: &PeerKey, rest: &[u8]) -> Result<EffectList, EntryFault>
+        requires { length rest.now ≤ most_body }
+        ensures ok { (h : HeaderValue) → IfOk result (λ effects. HasEffects (OfPeer statistics_report (reading_state self.now) h key.now rest.now) effects (reading_state self.now)) }
+        ensures broken { (h : HeaderValue) → IsErrOf result EntryFault.Broken → MeansNothing (OfPeer statistics_report (reading_state self.now) h key.now rest.now) }
+    {
+        if !self.is_up(key) {
+            return Ok(only(self.alloc, Effect::Orphan)?);
+        }
+        events::statistics(self.alloc, key, rest)
+    }
+
+    // A Peer Down Notification (RFC 7854, section 4.9), after which the peer isn't up.
+    fn peer_down(&mut self, key: &PeerKey, rest: &[u8]) -> Result<EffectList, EntryFault>
+        requires { length rest.now ≤ most_body }
+        ensures ok { (h : HeaderValue) → IfOk result (λ effects. HasEffects (OfPeer peer_down_notification (reading_state self.old) h key.now rest.now) effects (reading_state self.new)) }
+        ensures broken { (h : HeaderValue) → IsErrOf result EntryFault.Broken → MeansNothing (OfPeer peer_down_notification (reading_state self.old) h key.now rest.now) }
+        ensures unchanged { OnErr result (self.new ≡ self.old) }
+    {
+        let effects = events::peer_down(self.alloc, key, rest)?;
+        self.peers.remove(key);
+        Ok(effects)
+    }
+
+    // A Peer Up Notification (RFC 7854, section 4.10), after which the peer is up with its OPENs.
+    fn peer_up(
+        &mut self,
+        head: &PeerHeader,
+        key: &PeerKey,
+        rest: &[u8],
+    ) -> Result<EffectList, EntryFault>
+        requires { length rest.now ≤ most_body }
+        ensures ok { IfOk result (λ effects. HasEffects (OfPeer peer_up_notification (reading_state self.old) head.now key.now rest.now) effects (reading_state self.new)) }
+        ensures broken { IsErrOf result EntryFault.Broken → MeansNothing (OfPeer peer_up_notification (reading_state self.old) head.now key.now rest.now) }
+        ensures unchanged { OnErr result (self.new ≡ self.old) }
+    {
+        let up = read_peer_up(self.alloc, head, rest)?;
+        let info = Arc::new(self.alloc, up.info)?;
+        let effects = events::peer_up(self.alloc, key, &info, up.unread)?;
+        self.peers.insert(*key, info)?;
+        Ok(effects)
+    }
+
+    // A message of a peer, from what follows its Per-Peer Header.
+    fn of_peer(
+        &mut self,
+        kind: PeerMessage,
+        head: &PeerHeader,
+        key: &PeerKey,
+        rest: &[u8],
+    ) -> Result<EffectList, EntryFault>
+        requires { length rest.now ≤ most_body }
+        ensures ok { IfOk result (λ effects. HasEffects (OfPeer (message_type_of kind) (reading_state self.old) head.now key.now rest.now) effects (reading_state self.new)) }
+        ensures broken { IsErrOf result EntryFault.Broken → MeansNothing (OfPeer (message_type_of kind) (reading_state self.old) head.now key.now rest.now) }
+        ensures unchanged { OnErr result (self.new ≡ self.old) }
+    {
+        match kind {
+            PeerMessage::RouteMonitoring => self.routes(head, key, rest),
+            PeerMessage::StatisticsReport => self.statistics(key, rest),
+            PeerMessage::PeerDown => self.peer_down(key, rest),
+            PeerMessage::PeerUp => self.peer_up(head, key, rest),
+            PeerMessage::RouteMirroring => events::mirroring(self.alloc, rest),
+        }
+    }
+
+    // A message with a Per-Peer Header (RFC 7854, section 4.2). Of a peer type that isn't known nothing
+    // else is read.
+    fn with_header(&mut self, kind: PeerMessage, body: &[u8]) -> Result<EffectList, EntryFault>
+        requires { length body.now ≤ most_body }
+        ensures ok { IfOk result (λ effects. HasEffects (HasPeer (message_type_of kind) (reading_state self.old) body.now) effects (reading_state self.new)) }
+        ensures broken { IsErrOf result EntryFault.Broken → MeansNothing (HasPeer (message_type_of kind) (reading_state self.old) body.now) }
+        ensures unchanged { OnErr result (self.new ≡ self.old) }
+    {
+        let Some((front, rest)) = body.split_first_chunk() else {
+            return Err(EntryFault::Broken);
+        };
+        let head = PeerHeader::read(front);
+        match head.key() {
+            Some(key) => self.of_peer(kind, &head, &key, rest),
+            None => Ok(only(self.alloc, Effect::Passed)?),
+        }
+    }
+
+    // What a message of this type does.
+    fn effects(&mut self, kind: u8, body: &[u8]) -> Result<EffectList, EntryFault>
+        requires { length body.now ≤ most_body }
+        ensures ok { IfOk result (λ effects. HasEffects (IsMessage (reading_state self.old) kind body.now) effects (reading_state self.new)) }
+        ensures broken { IsErrOf result EntryFault.Broken → MeansNothing (IsMessage (reading_state self.old) kind body.now) }
+        ensures unchanged { OnErr result (self.new ≡ self.old) }
+    {
+        match kind {
+            ROUTE_MONITORING => self.with_header(PeerMessage::RouteMonitoring, body),
+            STATISTICS_REPORT => self.with_header(PeerMessage::StatisticsReport, body),
+            PEER_DOWN => self.with_header(PeerMessage::PeerDown, body),
+            PEER_UP => self.with_header(PeerMessage::PeerUp, body),
+            INITIATION => events::initiation(self.alloc, body),
+            TERMINATION => events::termination(self.alloc, body),
+            ROUTE_MIRRORING => self.with_header(PeerMessage::RouteMirroring, body),
+            _ => Ok(only(self.alloc, Effect::Passed)?),
+        }
+    }
+
+    /// The entry of the message of this "Message Type" with this body, which follows the common header
+    /// (RFC 7854, section 4.1): its type, its whole length and its effects in order, each on a RIB that
+    /// its peer has (RFC 8671; RFC 9069).
+    ///
+    /// `EntryFault::Broken` only where the body is none of its type while these peers are up. After a
+    /// refusal the same peers are up. Time and memory are linear in the body and the effects. Nothing
+    /// after the Per-Peer Header is read of a peer type that isn't known, nor of routes and statistics of
+    /// a peer that isn't up; of a type that isn't known nothing is read.
+    pub fn entry(&mut self, kind: u8, body: &[u8]) -> Result<Entry, EntryFault>
+        requires { length body.now ≤ most_body }
+        ensures ok { IfOk result (λ entry. IsMessageEntry (reading_state self.old) kind body.now (entry_value entry) (reading_state self.new)) }
+        ensures broken { IsErrOf result EntryFault.Broken → MeansNoEntry (IsMessageEntry (reading_state self.old) kind body.now) }
+        ensures unchanged { OnErr result (self.new ≡ self.old) }
+        ensures views { IfOk result (λ entry. All HasViewOfKey (effects_in (entry_value entry))) }
+    {
+        let effects = self.effects(kind, body)?;
+        Ok(Entry::Message {
+            kind,
+            length: COMMON_HEADER + body.len() as u32,
+            effects,
+        })
+    }
+}

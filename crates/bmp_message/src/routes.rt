@@ -1,0 +1,152 @@
+ghost use Rattle.std.specs.Prelude.{◌≡◌, ℕ, List, IfOk, IfSome, IfNone, IsErrOf};
+ghost use Rattle.bmp_specs.specs.BgpMessage.{IsBgpMessage, update_type};
+ghost use Rattle.bmp_specs.specs.MessageBody.{IsRouteMonitoring, id_use as ids_of, side_of as side_in, width_of as width_in};
+ghost use Rattle.bmp_specs.specs.MessageEffects.{effects_of};
+ghost use Rattle.bmp_specs.specs.PeerHeader.{view_of};
+ghost use Rattle.bmp_specs.specs.Values.{UpdateValue, routes};
+ghost use Rattle.bmp_message.specs.State.{opens_of};
+
+use crate::effects::{add_announcements, add_mark, add_unread, add_withdrawals, one_if};
+use crate::fault::EntryFault;
+use bgp_open::{PeerInfo, Side, bgp_frame, path_ids};
+use bgp_update::{IdUse, Update, read_update};
+use bmp_frames::{PeerHeader, PeerKey};
+use bmp_specs::{Family, View, Width};
+use rib_model::EffectList;
+use std::alloc::Global;
+use wire_io::NoMemory;
+
+/// The Loc-RIB Instance Peer (RFC 9069, section 4.1).
+const LOC_RIB: u8 = 3;
+
+/// "O flag": the message reflects the Adj-RIB-Out (RFC 8671, section 4).
+const O_FLAG: u8 = 0x10;
+
+/// The type of an UPDATE message (RFC 4271, section 4.1).
+const UPDATE: u8 = 2;
+
+// The side of the peer that the header speaks of.
+fn side_of(head: &PeerHeader) -> Side
+    ensures { result ≡ side_in head.now }
+{
+    if head.kind == LOC_RIB {
+        Side::Local
+    } else if head.flags & O_FLAG == O_FLAG {
+        Side::Outward
+    } else {
+        Side::Inward
+    }
+}
+
+// The width of AS numbers.
+fn width_of(head: &PeerHeader) -> Width
+    ensures { result ≡ width_in head.now }
+{
+    if head.two_byte() {
+        Width::Two
+    } else {
+        Width::Four
+    }
+}
+
+// Which families use path identifiers, by what the peer's OPENs agreed on.
+fn id_use(peer: &PeerInfo, head: &PeerHeader) -> IdUse
+    ensures { result ≡ ids_of (opens_of peer.now) head.now }
+{
+    let side = side_of(head);
+    IdUse {
+        v4: path_ids(&peer.sent, &peer.received, Family::V4, side),
+        v6: path_ids(&peer.sent, &peer.received, Family::V6, side),
+    }
+}
+
+// The body of the UPDATE message that the bytes are, all of them (RFC 4271, section 4.1).
+fn update_body(bytes: &[u8]) -> Option<&[u8]>
+    ensures found { IfSome result (λ body. IsBgpMessage bytes.now (record { kind = update_type; body = body.now })) }
+    ensures none { IfNone result ((body : List ℕ) → IsBgpMessage bytes.now (record { kind = update_type; body = body }) → ⊥) }
+{
+    let frame = bgp_frame(bytes)?;
+    if frame.kind != UPDATE {
+        return None;
+    }
+    if frame.length as usize != bytes.len() {
+        return None;
+    }
+    Some(&bytes[19..])
+}
+
+// Reads the UPDATE of a Route Monitoring message (RFC 7854, section 4.6) of a peer that is up.
+fn read_routes(
+    alloc: Global,
+    peer: &PeerInfo,
+    head: &PeerHeader,
+    rest: &[u8],
+) -> Result<Update, EntryFault>
+    ensures ok { IfOk result (λ u. IsRouteMonitoring (opens_of peer.now) head.now rest.now u) }
+    ensures broken { IsErrOf result EntryFault.Broken → (u : UpdateValue) → IsRouteMonitoring (opens_of peer.now) head.now rest.now u → ⊥ }
+{
+    let Some(body) = update_body(rest) else {
+        return Err(EntryFault::Broken);
+    };
+    let update = read_update(alloc, body, width_of(head), id_use(peer, head))?;
+    Ok(update)
+}
+
+// How many effects the UPDATE has.
+fn count(update: &Update) -> usize {
+    let prefixes = update
+        .withdrawn
+        .as_slice()
+        .len()
+        .saturating_add(update.plain.as_slice().len())
+        .saturating_add(update.multi.as_slice().len());
+    prefixes
+        .saturating_add(one_if(update.mark.is_some()))
+        .saturating_add(one_if(update.unread > 0))
+}
+
+// The effects of the UPDATE: what is withdrawn, what is announced, and the End-of-RIB marker.
+fn effects_of_update(
+    alloc: Global,
+    key: &PeerKey,
+    view: View,
+    update: &Update,
+) -> Result<EffectList, NoMemory>
+    ensures { IfOk result (λ effects. effects ≡ effects_of (routes key.now view update.now)) }
+{
+    let mut effects = EffectList::with_capacity(alloc, count(update))?;
+    add_withdrawals(&mut effects, key, view, update.withdrawn.as_slice())?;
+    add_announcements(
+        &mut effects,
+        key,
+        view,
+        update.plain.as_slice(),
+        &update.plain_attrs,
+    )?;
+    add_announcements(
+        &mut effects,
+        key,
+        view,
+        update.multi.as_slice(),
+        &update.multi_attrs,
+    )?;
+    add_mark(&mut effects, key, view, update.mark)?;
+    add_unread(&mut effects, update.unread)?;
+    Ok(effects)
+}
+
+// The effects of a Route Monitoring message (RFC 7854, section 4.6) of a peer that is up.
+pub(crate) fn route_monitoring(
+    alloc: Global,
+    peer: &PeerInfo,
+    head: &PeerHeader,
+    key: &PeerKey,
+    rest: &[u8],
+) -> Result<EffectList, EntryFault>
+    ensures ok { IfOk result (λ effects. (u : UpdateValue) × IsRouteMonitoring (opens_of peer.now) head.now rest.now u × (effects ≡ effects_of (routes key.now (view_of head.now) u))) }
+    ensures broken { IsErrOf result EntryFault.Broken → (u : UpdateValue) → IsRouteMonitoring (opens_of peer.now) head.now rest.now u → ⊥ }
+{
+    let update = read_routes(alloc, peer, head, rest)?;
+    let effects = effects_of_update(alloc, key, head.view(), &update)?;
+    Ok(effects)
+}
