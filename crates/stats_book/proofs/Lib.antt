@@ -1,0 +1,6 @@
+pub mod Firsts
+pub mod Lookups
+pub mod KindLaws
+pub mod Standings
+pub mod Setting
+pub mod CountLaws

@@ -1,0 +1,4 @@
+pub mod Kind
+pub mod Stats
+pub mod Standing
+pub mod Sums
