@@ -8,3 +8,4 @@ mod Halving
 mod Edits
 mod Firsts
 mod Whole
+mod Listed

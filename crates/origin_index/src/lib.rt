@@ -19,3 +19,6 @@ pub use ip_prefix::Prefix;
 pub use origins::Origins;
 pub use row::OriginRow;
 pub use wire_io::NoMemory;
+
+#[cfg(test)]
+mod tests;

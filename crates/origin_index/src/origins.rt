@@ -1,7 +1,7 @@
-ghost use Rattle.std.specs.Prelude.{◌≡◌, [], IfOk, OnOk, OnErr};
+ghost use Rattle.std.specs.Prelude.{◌≡◌, [], IfOk, IsOk, OnOk, OnErr};
 ghost use Rattle.std.specs.BTreeMap.{is_at};
 ghost use Rattle.std.specs.BTreeSet.{insert_key};
-ghost use Rattle.std.specs.List.{filter, slice_get};
+ghost use Rattle.std.specs.List.{Contains, filter, slice_get};
 ghost use Rattle.std.specs.List.Sorted.{IsStrictlySortedBy};
 ghost use Rattle.std.specs.Set.{remove_key};
 ghost use Rattle.origin_index.specs.Pairs.{is_after, pair_cmp, rows_of};
@@ -50,10 +50,11 @@ impl Origins {
         }
     }
 
-    /// Puts a row of an AS in. Nothing is copied where it is there. After want of memory nothing has
-    /// changed.
+    /// Puts a row of an AS in. Where it is there already nothing is copied, and the answer is `Ok`. After
+    /// want of memory nothing has changed.
     pub fn add(&mut self, asn: u32, row: OriginRow) -> Result<(), NoMemory>
         ensures ok { OnOk result (self.new ≡ insert_key pair_cmp self.old (asn, row)) }
+        ensures there { Contains self.old (asn, row) → IsOk result }
         ensures err { OnErr result (self.new ≡ self.old) }
         ensures ordered { IsStrictlySortedBy pair_cmp self.new }
     {
@@ -71,10 +72,11 @@ impl Origins {
         add_in(alloc, parts, at, &pair)
     }
 
-    /// Takes a row of an AS out. Nothing is copied where it isn't there. After want of memory nothing has
-    /// changed.
+    /// Takes a row of an AS out. Where it isn't there nothing is copied, and the answer is `Ok`. After want
+    /// of memory nothing has changed.
     pub fn take(&mut self, asn: u32, row: &OriginRow) -> Result<(), NoMemory>
         ensures ok { OnOk result (self.new ≡ remove_key (is_at (pair_cmp (asn, row.now))) self.old) }
+        ensures absent { ¬ (Contains self.old (asn, row.now)) → IsOk result }
         ensures err { OnErr result (self.new ≡ self.old) }
         ensures ordered { IsStrictlySortedBy pair_cmp self.new }
     {
