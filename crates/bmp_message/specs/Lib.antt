@@ -1,3 +1,4 @@
 pub mod State
 pub mod Effects
 pub mod Faults
+pub mod StreamWalk

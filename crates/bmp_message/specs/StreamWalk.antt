@@ -1,0 +1,106 @@
+-- The walk of a stream (RFC 7854, section 4.1) that comes in pieces: what any run of its calls gives.
+use Rattle.std.specs.Prelude.{◌≡◌, ℕ, ◌+◌, ◌-◌, ◌<◌, ◌≤◌, ◌==◌, List, [], ◌∷◌, ◌++◌, length, Result, Ok, if◌then◌else◌}
+use Rattle.bmp_specs.specs.Frame.{IsFrame}
+use Rattle.bmp_specs.specs.MessageBody.{ReadingState, no_peers}
+use Rattle.bmp_specs.specs.MessageEffects.{IsMessageEntry}
+use Rattle.bmp_specs.specs.Values.{EntryValue}
+use Rattle.bmp_specs.specs.Walk.{Verdict, whole, more, terminated, broken, Walks, HasWalked, termination}
+use Rattle.bmp_frames.specs.Cutter.{CutterValue}
+use Rattle.rib_model.specs.Entries.{entry_value}
+use Rattle.wire_io.specs.declared.bytes.NoMemory.{NoMemory}
+use Rattle.bmp_message.specs.State.{UpPeers, reading_state}
+use Rattle.bmp_message.specs.declared.walk.Progress.{Progress}
+use Rattle.bmp_message.specs.declared.walk.Progress.TheVariants as progress
+use Rattle.bmp_message.specs.declared.walk.Stage.{Stage}
+use Rattle.bmp_message.specs.declared.walk.Stage.TheVariants as stage
+
+-- what a walk holds: the peers of the messages that were read, the bytes that were fed and not cut, the length of the
+-- messages whose entries were given, and where it stands between two calls
+pub record WalkValue : Type 0 where
+  pub peers : UpPeers
+  pub cutter : CutterValue
+  pub offset : ℕ
+  pub stage : Stage
+
+-- how many bytes were fed
+abbrev pub fed_of : WalkValue → ℕ
+fed_of w = w.cutter.offset + length w.cutter.pending
+
+-- how many bytes were fed beyond the messages whose entries were given
+abbrev pub rest_of : WalkValue → ℕ
+rest_of w = fed_of w - w.offset
+
+-- the bytes are those of messages with these entries, none of them a Termination, and then the rest
+pub record HasRead (fed : List ℕ) (given : List EntryValue) (state : ReadingState) (rest : List ℕ) (offset : ℕ) : Type 0 where
+  pub front : List ℕ
+  pub split : fed ≡ front ++ rest
+  pub place : offset ≡ length front
+  pub walked : HasWalked IsMessageEntry no_peers state front given
+
+-- a message of this type stands behind what was read, and then what is pending
+pub record HasCutNext (fed : List ℕ) (given : List EntryValue) (w : WalkValue) (kind : ℕ) : Type 0 where
+  pub frame : List ℕ
+  pub is_frame : IsFrame frame kind w.cutter.body
+  pub read : HasRead fed given (reading_state w.peers) (frame ++ w.cutter.pending) w.offset
+
+-- The walk of the bytes, whatever comes after them, gives these entries and ends so.
+abbrev pub EndsAt : List ℕ → List EntryValue → ℕ → Verdict → Type 0
+EndsAt fed given offset verdict = (after : List ℕ) → Walks IsMessageEntry no_peers (fed ++ after) given offset verdict
+
+abbrev pub Stands : List ℕ → List EntryValue → WalkValue → Stage → Type 0
+Stands fed given w stage.Between = HasRead fed given (reading_state w.peers) w.cutter.pending w.offset
+Stands fed given w (stage.Within kind) = HasCutNext fed given w kind
+Stands fed given w stage.Terminated = EndsAt fed given w.offset terminated
+Stands fed given w (stage.Broken why) = EndsAt fed given w.offset (broken why)
+
+-- a run of calls fed these bytes in all and gave these entries
+pub record HasReached (fed : List ℕ) (given : List EntryValue) (w : WalkValue) : Type 0 where
+  pub count : length fed ≡ fed_of w
+  pub stands : Stands fed given w w.stage
+
+-- the verdict where nothing more comes: whole where no byte is left over
+abbrev pub verdict_with : ℕ → Verdict
+verdict_with rest = if rest == 0 then whole else more
+
+-- The run goes on with this answer: one more entry was given; or the walk of the bytes, if nothing more comes, gives the
+-- entries given; or the walk ends here, whatever comes.
+abbrev pub GoesOn : List ℕ → List EntryValue → WalkValue → Progress → Type 0
+GoesOn fed given new (progress.Entry entry) = HasReached fed (given ++ entry_value entry ∷ []) new
+GoesOn fed given new progress.More = HasReached fed given new × Walks IsMessageEntry no_peers fed given new.offset (verdict_with (rest_of new))
+GoesOn fed given new progress.Terminated = HasReached fed given new × EndsAt fed given new.offset terminated
+GoesOn fed given new (progress.Broken why) = HasReached fed given new × EndsAt fed given new.offset (broken why)
+
+-- how a walk moves; the bytes fed stay in each case
+abbrev pub Advances : WalkValue → WalkValue → Progress → Type 0
+Advances old new (progress.Entry entry) = (fed_of new ≡ fed_of old) × (rest_of new < rest_of old)
+Advances old new progress.More = (new ≡ old) × (old.stage ≡ stage.Between)
+Advances old new progress.Terminated = (new ≡ old) × (old.stage ≡ stage.Terminated)
+Advances old new (progress.Broken why) = (fed_of new ≡ fed_of old) × (new.offset ≡ old.offset) × (new.stage ≡ stage.Broken why)
+
+-- after an end each call tells it again, and nothing moves
+abbrev pub Repeats : Stage → WalkValue → WalkValue → Result Progress NoMemory → Type 0
+Repeats stage.Between old new result = Unit {0}
+Repeats (stage.Within kind) old new result = Unit {0}
+Repeats stage.Terminated old new result = (result ≡ Ok progress.Terminated) × (new ≡ old)
+Repeats (stage.Broken why) old new result = (result ≡ Ok (progress.Broken why)) × (new ≡ old)
+
+-- nothing was given, and the run goes on as before
+pub record IsAsBefore (old new : WalkValue) : Type 0 where
+  pub fed : fed_of new ≡ fed_of old
+  pub offset : new.offset ≡ old.offset
+  pub run : (fed : List ℕ) (given : List EntryValue) → HasReached fed given old → HasReached fed given new
+
+-- what the offset is beside the bytes that were cut
+abbrev pub FitsStage : ℕ → CutterValue → Stage → Type 0
+FitsStage offset cutter stage.Between = offset ≡ cutter.offset
+FitsStage offset cutter (stage.Within kind) = (offset < cutter.offset) × (length cutter.body ≤ 1048570)
+FitsStage offset cutter stage.Terminated = offset ≤ cutter.offset
+FitsStage offset cutter (stage.Broken why) = offset ≤ cutter.offset
+
+pub record FitsWalk (offset : ℕ) (cutter : CutterValue) (at : Stage) : Type 0 where
+  pub within : offset ≤ cutter.offset
+  pub here : FitsStage offset cutter at
+
+-- where a walk stands behind a message of this type
+abbrev pub next_stage : ℕ → Stage
+next_stage kind = if kind == termination then stage.Terminated else stage.Between

@@ -1,0 +1,183 @@
+ghost use Rattle.std.specs.Prelude.{◌≡◌, ◌≤◌, ◌+◌, ◌^◌, List, ℕ, [], ◌++◌, length, IfOk, OnOk, OnErr};
+ghost use Rattle.bmp_specs.specs.Values.{EntryValue};
+ghost use Rattle.bmp_frames.specs.Cutter.{with_more};
+ghost use Rattle.bmp_message.specs.StreamWalk.{HasReached, GoesOn, Advances, Repeats, IsAsBefore, fed_of, rest_of, next_stage};
+
+use crate::{EntryFault, Reading};
+use bmp_frames::{Cutter, Next};
+use bmp_specs::Why;
+use rib_model::Entry;
+use std::alloc::Global;
+use std::marker::Model;
+use wire_io::NoMemory;
+
+/// The type of a Termination Message (RFC 7854, section 4.1).
+const TERMINATION: u8 = 5;
+
+/// What a walk gives next.
+#[derive(Drop)]
+pub enum Progress {
+    /// The entry of the next message.
+    Entry(Entry),
+    /// No further message is whole yet.
+    More,
+    /// The last entry was that of a Termination Message (RFC 7854, section 4.5): nothing is read after it.
+    Terminated,
+    /// What stands at the offset is no message: its version or its length is wrong, or its body isn't in
+    /// the grammar of its type.
+    Broken(Why),
+}
+
+/// Where a walk stands between two calls.
+#[derive(Clone, Copy, Debug, PartialEq, Eq)]
+pub enum Stage {
+    /// Behind a message whose entry was given, or at the start.
+    Between,
+    /// A message of this type was cut, and for its entry there was no memory.
+    Within(u8),
+    /// Behind a Termination Message.
+    Terminated,
+    /// Before what is no message.
+    Broken(Why),
+}
+
+/// The walk of a stream: the entries of its messages, one after another, in whatever pieces it comes.
+///
+/// With each call's clause `run` the contracts say what any run of calls gives. Where bytes were fed and
+/// entries given (`HasReached`), these are the entries of the first messages of the bytes; at `More` the
+/// walk of all bytes fed, if nothing more comes, gives just them, up to `offset`; and at `Terminated` and
+/// `Broken` the walk of the bytes fed, whatever comes after them, gives just them and ends at `offset`. A
+/// stream has one walk, so the pieces don't matter.
+///
+/// A message costs its bytes and its effects.
+#[derive(Drop)]
+pub struct StreamWalk {
+    cutter: Cutter,
+    reading: Reading,
+    offset: u64,
+    stage: Stage,
+}
+
+impl Model for StreamWalk {
+    ghost use Rattle.bmp_message.specs.StreamWalk.{WalkValue, FitsWalk};
+
+    ghost Value = { WalkValue };
+
+    ghost view = { λ w. record { peers = w.reading; cutter = w.cutter; offset = w.offset; stage = w.stage } };
+
+    ghost invariant = { λ w. FitsWalk w.offset w.cutter w.stage };
+}
+
+impl StreamWalk {
+    /// Makes a walk that has been fed nothing. It knows no peer.
+    pub fn new(alloc: Global) -> StreamWalk
+        ensures run { HasReached [] [] result }
+        ensures start { (result.offset ≡ 0) × (fed_of result ≡ 0) }
+    {
+        StreamWalk {
+            cutter: Cutter::new(alloc),
+            reading: Reading::new(alloc),
+            offset: 0,
+            stage: Stage::Between,
+        }
+    }
+
+    /// Takes the next piece of the stream. The bytes fed so far and the piece are at most 2^46 together.
+    /// After `NoMemory` the walk is as before.
+    pub fn feed(&mut self, piece: &[u8]) -> Result<(), NoMemory>
+        requires { fed_of self.old + length piece.now ≤ 2 ^ 46 }
+        ensures ok { OnOk result (self.new ≡ record self.old { cutter = with_more self.old.cutter piece.now }) }
+        ensures err { OnErr result (self.new ≡ self.old) }
+        ensures run { OnOk result ((fed : List ℕ) (given : List EntryValue) → HasReached fed given self.old → HasReached (fed ++ piece.now) given self.new) }
+    {
+        self.cutter.feed(piece)
+    }
+
+    /// Gives the next entry of the bytes fed, or says that there is none yet, or how the walk ended. The
+    /// entry of a Termination Message is given, and then `Terminated`. After an end each later call gives
+    /// the same, whatever is fed between. After `NoMemory` nothing was given, and the next call tries again.
+    pub fn next(&mut self) -> Result<Progress, NoMemory>
+        ensures run { IfOk result (λ answer. (fed : List ℕ) (given : List EntryValue) → HasReached fed given self.old → GoesOn fed given self.new answer) }
+        ensures advances { IfOk result (Advances self.old self.new) }
+        ensures repeats { Repeats self.old.stage self.old self.new result }
+        ensures err { OnErr result (IsAsBefore self.old self.new) }
+    {
+        match self.stage {
+            Stage::Between => self.cut(),
+            Stage::Within(kind) => self.judge(kind),
+            Stage::Terminated => Ok(Progress::Terminated),
+            Stage::Broken(why) => Ok(Progress::Broken(why)),
+        }
+    }
+
+    // Cuts the next message, and reads it.
+    fn cut(&mut self) -> Result<Progress, NoMemory>
+        requires { self.old.stage ≡ Stage.Between }
+        ensures run { IfOk result (λ answer. (fed : List ℕ) (given : List EntryValue) → HasReached fed given self.old → GoesOn fed given self.new answer) }
+        ensures advances { IfOk result (Advances self.old self.new) }
+        ensures err { OnErr result (IsAsBefore self.old self.new) }
+    {
+        match self.cutter.next() {
+            Next::Frame { kind, .. } => {
+                self.stage = Stage::Within(kind);
+                self.judge(kind)
+            }
+            Next::More => Ok(Progress::More),
+            Next::Bad(why) => {
+                self.stage = Stage::Broken(why);
+                Ok(Progress::Broken(why))
+            }
+        }
+    }
+
+    // Reads the message that was cut.
+    fn judge(&mut self, kind: u8) -> Result<Progress, NoMemory>
+        requires { self.old.stage ≡ Stage.Within kind }
+        ensures run { IfOk result (λ answer. (fed : List ℕ) (given : List EntryValue) → HasReached fed given self.old → GoesOn fed given self.new answer) }
+        ensures advances { IfOk result (Advances self.old self.new) }
+        ensures err { OnErr result (self.new ≡ self.old) }
+    {
+        match self.reading.entry(kind, self.cutter.body()) {
+            Ok(entry) => {
+                self.offset = self.cutter.offset();
+                self.stage = stage_after(kind);
+                Ok(Progress::Entry(entry))
+            }
+            Err(EntryFault::Broken) => {
+                self.stage = Stage::Broken(Why::Body);
+                Ok(Progress::Broken(Why::Body))
+            }
+            Err(EntryFault::NoMemory) => Err(NoMemory),
+        }
+    }
+
+    /// The sum of the lengths of the messages whose entries were given, in bytes.
+    pub fn offset(&self) -> u64
+        ensures { result ≡ self.now.offset }
+    {
+        self.offset
+    }
+
+    /// How many bytes were fed beyond these messages. With `offset` they are all bytes fed, 2^46 at most.
+    pub fn rest(&self) -> u64
+        ensures rest { result ≡ rest_of self.now }
+        ensures all { self.now.offset + result ≡ fed_of self.now }
+        ensures bound { fed_of self.now ≤ 2 ^ 46 }
+    {
+        self.cutter.offset() + self.cutter.rest() - self.offset
+    }
+}
+
+// Where a walk stands behind a message of this type.
+fn stage_after(kind: u8) -> Stage
+    ensures { result ≡ next_stage kind }
+{
+    if kind == TERMINATION {
+        Stage::Terminated
+    } else {
+        Stage::Between
+    }
+}
+
+#[cfg(test)]
+mod tests;

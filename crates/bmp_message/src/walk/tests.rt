@@ -1,0 +1,112 @@
+//! Streams that come in two pieces, cut at every place.
+
+ghost use Rattle.std.specs.Prelude.{◌≡◌, ◌+◌, ◌≤◌, length, IfOk};
+ghost use Rattle.bmp_message.specs.StreamWalk.{fed_of};
+
+use super::{Progress, StreamWalk};
+use bmp_specs::Why;
+use rib_model::Entry;
+use std::alloc::Global;
+use std::test::Fail;
+
+// sysDescr `test`, sysName `r1`.
+const INITIATION: &str = "0300000014040001000474657374000200027231";
+
+// Peer 192.0.2.1 of AS 64500 is up.
+const PEER_UP: &str =
+    "030000009a0300000000000000000000000000000000000000000000c00002010000fbf4c00002010000000000000000000000000000000000000000c00002fe00b3c350ffffffffffffffffffffffffffffffff002b0104fbf000b4c00002fe0e020c01040001000141040000fbf0ffffffffffffffffffffffffffffffff002b0104fbf400b4c00002010e020c01040001000141040000fbf4";
+
+// The same, where path identifiers are used for IPv4 unicast.
+const PEER_UP_WITH_PATHS: &str =
+    "03000000a60300000000000000000000000000000000000000000000c00002010000fbf4c00002010000000000000000000000000000000000000000c00002fe00b3c350ffffffffffffffffffffffffffffffff00310104fbf000b4c00002fe14021201040001000141040000fbf0450400010101ffffffffffffffffffffffffffffffff00310104fbf400b4c000020114021201040001000141040000fbf4450400010102";
+
+// 10.0.0.0/8 and 10.1.0.0/16, without path identifiers.
+const ROUTES: &str =
+    "03000000600000000000000000000000000000000000000000000000c00002010000fbf4c00002010000000000000000ffffffffffffffffffffffffffffffff003002000000144001010040020602010000fbf4400304c0000201080a100a01";
+
+// The reason is "Session administratively closed".
+const TERMINATION: &str = "030000000c05000100020000";
+
+// The types of the entries that are there, behind those so far, and what follows them.
+fn drain(walk: &mut StreamWalk, kinds: &mut Vec<u8>) -> Result<&'static str, Fail>
+    ensures { IfOk result (λ end. fed_of walk.new ≡ fed_of walk.old) }
+{
+    loop {
+        match walk.next()? {
+            Progress::Entry(Entry::Message { kind, .. }) => kinds.push(kind)?,
+            Progress::Entry(_) => return Ok("no message"),
+            Progress::More => return Ok("more"),
+            Progress::Terminated => return Ok("terminated"),
+            Progress::Broken(Why::Version) => return Ok("version"),
+            Progress::Broken(Why::Length) => return Ok("length"),
+            Progress::Broken(Why::Body) => return Ok("body"),
+        }
+    }
+}
+
+// The types of the entries of a stream in two pieces, the offset, the rest and the end.
+fn walked(
+    alloc: Global,
+    first: &[u8],
+    second: &[u8],
+) -> Result<(Vec<u8>, u64, u64, &'static str), Fail>
+    requires { length first.now + length second.now ≤ 1000 }
+{
+    let mut kinds = Vec::new(alloc);
+    let mut walk = StreamWalk::new(alloc);
+    walk.feed(first)?;
+    drain(&mut walk, &mut kinds)?;
+    walk.feed(second)?;
+    let end = drain(&mut walk, &mut kinds)?;
+    Ok((kinds, walk.offset(), walk.rest(), end))
+}
+
+// The bytes that these texts of hex digits spell, one after another.
+fn spelled(alloc: Global, texts: &[&str]) -> Result<Vec<u8>, Fail> {
+    let mut bytes = Vec::new(alloc);
+    for text in texts {
+        bytes.extend_from_slice(hex::decode(alloc, *text)?.as_slice())?;
+    }
+    Ok(bytes)
+}
+
+#[test]
+fn every_cut_gives_one_walk(rt: HostRuntime) -> Result<(), Fail> {
+    let alloc = rt.alloc();
+    // the stream; the types of its entries, the offset, the bytes behind it, and the end
+    let streams: [(&[&str], &[u8], u64, u64, &str); 8] = [
+        (&[], b"", 0, 0, "more"),
+        (&["040000000604"], b"", 0, 6, "version"),
+        (&["0300000006c8", "030000000504"], b"\xc8", 6, 6, "length"),
+        (&["0300000006c8", "030010000104"], b"\xc8", 6, 6, "length"),
+        (&[INITIATION, "030000"], b"\x04", 20, 3, "more"),
+        (
+            &[INITIATION, PEER_UP, ROUTES],
+            b"\x04\x03\x00",
+            270,
+            0,
+            "more",
+        ),
+        (
+            &[INITIATION, TERMINATION, "ff"],
+            b"\x04\x05",
+            32,
+            1,
+            "terminated",
+        ),
+        (&[PEER_UP_WITH_PATHS, ROUTES], b"\x03", 166, 96, "body"),
+    ];
+    for (texts, kinds, offset, rest, end) in streams {
+        let bytes = spelled(alloc, texts)?;
+        let bytes = bytes.as_slice();
+        assert!(rt; bytes.len() <= 1000);
+        for place in 0..bytes.len() + 1 {
+            let (first, second) = bytes.split_at(place);
+            let (found, at, left, what) = walked(alloc, first, second)?;
+            assert_eq!(rt; found.as_slice(), kinds);
+            assert_eq!(rt; (at, left), (offset, rest));
+            assert_eq!(rt; what, end);
+        }
+    }
+    Ok(())
+}
