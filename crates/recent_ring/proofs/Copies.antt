@@ -1,9 +1,10 @@
 -- A copy that is made item by item.
-use Rattle.std.proofs.Common.{◌≡◌, ℕ, ◌+◌, ◌-◌, ◌<◌, ◌≤◌, inl, inr, List, [], ◌∷◌, ◌++◌, length, take, drop, None, Some, sym, ap, ◌∙◌, subst, arith, length-take}
+use Rattle.std.proofs.Common.{◌≡◌, ℕ, ◌+◌, ◌-◌, ◌<◌, ◌≤◌, inl, inr, List, [], ◌∷◌, ◌++◌, length, take, drop, None, Some, sym, ap, ◌∙◌, subst, arith, length-take, map, refl}
 use Rattle.std.specs.List.{AllZip, slice_get}
 use Rattle.std.proofs.lemmas.List.Elements.{all_zip_more, length_all_zip}
 use Rattle.std.proofs.lemmas.Option.{get_or_from_slice_get, slice_get_within, slice_get_cases}
 use Rattle.circular_buffer.specs.Buffer.{Buffer, buffer, keep_last}
+use Rattle.recent_ring.specs.Recent.{RecentValue, IsCopy}
 
 -- one item more, where there is room
 pub copied_more : {T : Type 0} (R : T → T → Type 0) (items copy next : Buffer T) (place : ℕ) (x y : T) → Some x ≡ slice_get items.items place → R x y → length items.items ≤ items.capacity
@@ -25,3 +26,13 @@ item_there xs place below none = elim (slice_get_cases xs place).1 [
   | inl there ↦ let some : slice_get xs place ≡ Some there.0 = there.2 in cc
   | inr past ↦ omega (arith, past.0)
 ]
+
+-- a copy is shown as the same, where items that are alike are
+pub shown_copy : {T X : Type 0} (R : T → T → Type 0) (shows : T → X) → ((x y : T) → R x y → shows y ≡ shows x) → (r s : RecentValue T) → IsCopy R r s → map shows s.items ≡ map shows r.items
+shown_copy {T} {X} R shows same r s copy = go r.items s.items copy.items
+  where
+    go : (xs ys : List T) → AllZip R xs ys → map shows ys ≡ map shows xs
+    go [] [] a = refl
+    go [] (y ∷ ys) a = absurd a
+    go (x ∷ xs) [] a = absurd a
+    go (x ∷ xs) (y ∷ ys) a = rw (same x y a.0, go xs ys a.1) refl
