@@ -1,12 +1,13 @@
 -- Which pairs the whole lists, and the longest of them that holds an address.
 use Rattle.std.proofs.Common.{◌≡◌, ℕ, ◌<◌, ◌≤◌, ◌⊎◌, get_or, nat_lt, true, false, if◌then◌else◌, List, [], ◌∷◌, Option, None, Some, refl, ap, sym, ◌∙◌, subst, inl, inr, arith}
-use Rattle.std.specs.List.{Contains}
+use Rattle.std.specs.List.{All, Contains}
 use Rattle.std.specs.List.Sorted.{IsStrictlySortedBy}
 use Rattle.std.specs.Map.{keys_of}
 use Rattle.std.specs.Ordering.{eq_by_cmp}
 use Rattle.std.specs.Cmp.{eq_by_cmp_equiv}
 use Rattle.std.proofs.lemmas.Bool.{cases_lt}
 use Rattle.std.proofs.lemmas.Bool.Decides.{nat_tests}
+use Rattle.std.proofs.lemmas.List.Elements.{All-contains_itself, All-map}
 use Rattle.std.proofs.lemmas.Map.Keys.{IsDistinct-from_sorted}
 use Rattle.std.proofs.lemmas.Map.Views.{tells_apart, Contains-from_lookup, lookup-from_Contains}
 use Rattle.bmp_specs.specs.declared.wire.Family.{Family}
@@ -16,7 +17,7 @@ use Rattle.bmp_specs.specs.Prefix.{first_bits}
 use Rattle.bmp_specs.specs.Values.{AddressValue, PrefixValue}
 use Rattle.bmp_specs.proofs.OrderLaws.{prefix_total, prefix_exact}
 use Rattle.prefix_trie.specs.Longest.{IsLongest, IsLongestPair, NoneHolds}
-use Rattle.prefix_trie.specs.Table.{TableValue}
+use Rattle.prefix_trie.specs.Table.{TableValue, IsOfFamily}
 use Rattle.prefix_trie.proofs.FirstBits.{all_high}
 use Rattle.prefix_trie.proofs.Search.{listed_key}
 use Rattle.rib_shards.specs.Parts.{part_of, pairs_in, joined, merged, AreParts}
@@ -50,6 +51,15 @@ module _ {T : Type 0} (family : Family) (parts : List (Option (TableValue T))) (
       let at : part_of d.0 ≡ i = listed_key (λ p. part_of p ≡ i) (pairs_in (get_or parts i None)) part.own d listed in
       value_listed (merged parts) d (value_of_part family parts are d.0 (subst (λ n. n < 257) (sym at) lt)
       ∙ ap (λ n. value_at d.0 (pairs_in (get_or parts n None))) at ∙ listed_value (pairs_in (get_or parts i None)) part.ordered d listed)
+
+  of_family : (d : PrefixValue × T) → Contains (merged parts) d → IsOfFamily family d.0
+  of_family d listed =
+      let part = listed_in_part d listed in
+      listed_key (IsOfFamily family) (pairs_in (get_or parts (part_of d.0) None)) (are.each (part_of d.0) part.0).one_family d part.1
+
+  -- every prefix of the whole is of the family
+  pub all_of_family : All (IsOfFamily family) (keys_of (merged parts))
+  all_of_family = All-map (IsOfFamily family) (λ (e : PrefixValue × T). e.0) (merged parts) (λ k d lt. of_family (get_or (merged parts) k d) (All-contains_itself (merged parts) k d lt))
 
   -- ---- the longest prefix
   pub long_part : (p : PrefixValue) → 8 ≤ p.bits → part_of p ≡ get_or p.address.octets 0 0

@@ -8,7 +8,8 @@ use Rattle.std.specs.FinMap.Entries.{put, find, below_all, is_sorted, is_sorted-
 use Rattle.std.specs.List.{AllByRecursion}
 use Rattle.std.specs.List.Sorted.{IsStrictlySortedBy}
 use Rattle.std.specs.Map.{keys_of, lookup, remove_entry}
-use Rattle.std.specs.Option.{is_some}
+use Rattle.std.specs.Borrow.{Bor}
+use Rattle.std.specs.Option.{is_some, option_copied}
 use Rattle.std.proofs.lemmas.Map.Views.{tells_apart}
 use Rattle.bmp_specs.specs.Orders.{prefix_cmp}
 use Rattle.bmp_specs.specs.Values.{PrefixValue}
@@ -138,3 +139,15 @@ length-remove_entry test [] = refl
 length-remove_entry test (e ∷ es) =
     let rest = length-remove_entry test es in
     elim (test e.0) as (λ b. length (cond b es (e ∷ remove_entry test es)) + cond (is_some (cond b (Some e.1) (lookup test es))) 1 0 ≡ suc (length es)) [ true ↦ omega arith | false ↦ omega (arith, rest) ]
+
+missing_cases : {X : Type 0} (b : Bool) (e : PrefixValue × X) (es fs : List (PrefixValue × X)) (o : Option X) → cond b (Some e.1) o ≡ None → (o ≡ None → fs ≡ es) → cond b es (e ∷ fs) ≡ e ∷ es
+missing_cases true e es fs o none more = absurd cc
+missing_cases false e es fs o none more = ap (λ l. e ∷ l) (more none)
+
+pub remove_missing : {X : Type 0} (test : PrefixValue → Bool) (es : List (PrefixValue × X)) → lookup test es ≡ None → remove_entry test es ≡ es
+remove_missing test [] none = refl
+remove_missing test (e ∷ es) none = missing_cases (test e.0) e es (remove_entry test es) (lookup test es) none (remove_missing test es)
+
+pub copied_none : {X : Type 0} (o : Option (Bor X)) → is_some o ≡ false → option_copied o ≡ None
+copied_none None is = refl
+copied_none (Some x) is = absurd cc

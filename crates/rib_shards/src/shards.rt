@@ -1,4 +1,4 @@
-ghost use Rattle.std.specs.Prelude.{◌≡◌, [], length, IfOk, IfErr, OnOk, OnErr};
+ghost use Rattle.std.specs.Prelude.{◌≡◌, [], length, None, IfOk, IfErr, IsOk, OnOk, OnErr};
 ghost use Rattle.std.specs.List.{All};
 ghost use Rattle.std.specs.List.Sorted.{IsStrictlySortedBy};
 ghost use Rattle.std.specs.Option.{option_copied};
@@ -95,12 +95,13 @@ impl<T: Share + Drop> Shards<T> {
         }
     }
 
-    /// Takes out the pair of a prefix, and hands back its value, or one that is alike. After want of
-    /// memory nothing has changed.
+    /// Takes out the pair of a prefix, and hands back its value, or one that is alike. Where there is none
+    /// nothing is copied, and the answer is `Ok`. After want of memory nothing has changed.
     pub fn remove(&mut self, prefix: &Prefix) -> Result<Option<T>, NoMemory>
         requires { prefix.now.address.family ≡ self.old.family }
         ensures value { IfOk result (IsAlikeOption T.alike (lookup (is_at (prefix_cmp prefix.now)) self.old.pairs)) }
         ensures ok { OnOk result (AreAlike T.alike (remove_entry (is_at (prefix_cmp prefix.now)) self.old.pairs) self.new.pairs) }
+        ensures absent { lookup (is_at (prefix_cmp prefix.now)) self.old.pairs ≡ None → IsOk result }
         ensures err { OnErr result (self.new.pairs ≡ self.old.pairs) }
         ensures family { self.new.family ≡ self.old.family }
     {
@@ -108,6 +109,9 @@ impl<T: Share + Drop> Shards<T> {
         let family = self.family;
         let _bits = prefix.bits();
         let at = part_of(prefix);
+        if self.get(prefix).is_none() {
+            return Ok(None);
+        }
         if unshare(alloc, &mut self.parts).is_err() {
             return Err(NoMemory);
         }
@@ -138,8 +142,16 @@ impl<T: Share + Drop> Shards<T> {
     pub fn len(&self) -> u64
         ensures len { result ≡ length self.now.pairs }
         ensures ordered { IsStrictlySortedBy prefix_cmp (keys_of self.now.pairs) }
+        ensures one_family { All (IsOfFamily self.now.family) (keys_of self.now.pairs) }
     {
         self.len
+    }
+
+    /// The family.
+    pub fn family(&self) -> Family
+        ensures { result ≡ self.now.family }
+    {
+        self.family
     }
 
     /// An equal table, at the price of a counter.

@@ -1,10 +1,14 @@
 use Rattle.std.proofs.Common.{◌≡◌, ◌-◌, ◌∙◌, ap, sym, subst, cond, arith}
 use Rattle.std.specs.Arc.{arc_value}
+use Rattle.std.specs.BTreeMap.{is_at}
 use Rattle.std.specs.Option.{is_some}
+use Rattle.bmp_specs.specs.Orders.{prefix_cmp}
+use Rattle.prefix_trie.specs.Sharing.{AreAlike}
 use Rattle.rib_shards.specs.Likeness.{IsAlikeOption}
 use Rattle.rib_shards.specs.Parts.{tables, AreParts}
 use Rattle.rib_shards.specs.Whole.{IsWhole}
-use Rattle.rib_shards.proofs.Order.{value_at}
+use Rattle.rib_shards.proofs.Alikes.{alike-refl}
+use Rattle.rib_shards.proofs.Order.{copied_none, remove_missing, value_at}
 use Rattle.rib_shards.proofs.Whole.{part_family, removed, removed_some}
 use Rattle.rib_shards.proofs.shards.Shards.remove.Goals as goal
 
@@ -47,3 +51,8 @@ pub returns-in-None-clause-ok : goal.returns-in-None-clause-ok
 returns-in-None-clause-ok g c =
     let done = removed g.T.Share.alike g.met.T.Share.same c.self.inside.family (tables (arc_value c.self.inside.parts).items) (tables c.in-Some.parts.now.items) (tables c.remove_at.new.parts.items) c.self.inside.len c.self.invariant c.args.self.now c.self.view_is (ap (λ v. tables v.items) c.in-Some.ensures.value ∙ c.unshare.ensures) c.args.prefix.now c.requires c.bits-bits.ensures.valid c.part_of-at.result c.part_of-at.ensures.part c.part_of-at.ensures.within c.in_ok-value.field-0 c.in_ok-value.ensures.value c.in_ok-value.ensures.ok in
     done.alike
+
+pub returns-then-is_none-clause-ok : goal.returns-then-is_none-clause-ok
+returns-then-is_none-clause-ok g c =
+    let none = sym c.get.ensures ∙ copied_none c.get.result c.if-is_none.ensures in
+    subst (λ es. AreAlike g.T.Share.alike es c.args.self.now.pairs) (sym (remove_missing (is_at (prefix_cmp c.args.prefix.now)) c.args.self.now.pairs none)) (alike-refl g.T.Share.alike g.met.T.Share.same c.args.self.now.pairs)
