@@ -25,3 +25,6 @@ mod walk;
 pub use fault::EntryFault;
 pub use reading::Reading;
 pub use walk::{Progress, StreamWalk};
+
+#[cfg(test)]
+mod tests;
