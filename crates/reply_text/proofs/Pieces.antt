@@ -10,7 +10,7 @@ use Rattle.bmp_specs.specs.RouteLine.{joined_pieces, bracketed, segment_pieces, 
 use Rattle.bmp_specs.specs.PrefixText.{prefix_text}
 use Rattle.bmp_specs.specs.Rows.{RowValue}
 use Rattle.bmp_specs.specs.Values.{SegmentValue, AttrsValue}
-use Rattle.reply_text.specs.Pieces.{behind, spaced, has_piece, more_pieces, goes_on, empty_word, link_of, way_text, metrics_text, lists_text}
+use Rattle.reply_text.specs.Pieces.{behind, spaced, has_piece, more_pieces, goes_on, empty_word, link_of, mandatory_text, metrics_text, remaining_text}
 
 -- one more part
 pub flat_map_next : {X A : Type 0} (f : X → List A) (xs : List X) (i : ℕ) (d : X) → i < length xs → flat_map f (take (suc i) xs) ≡ flat_map f (take i xs) ++ f (get_or xs i d)
@@ -127,7 +127,7 @@ nine_fields : (next origin path med pref atomic agg comm other : List ℕ)
     ≡ (codes " next=" ++ (next ++ (codes " origin=" ++ (origin ++ (codes " path=" ++ path))))) ++ ((codes " med=" ++ (med ++ (codes " pref=" ++ (pref ++ (codes " atomic=" ++ atomic))))) ++ (codes " agg=" ++ (agg ++ (codes " comm=" ++ (comm ++ (codes " other=" ++ other))))))
 nine_fields next origin path med pref atomic agg comm other = simp (append_assoc, append-nil)
 
-pub attribute_parts : (a : AttrsValue) → spaced (attribute_fields a) ≡ way_text a ++ (metrics_text a ++ lists_text a)
+pub attribute_parts : (a : AttrsValue) → spaced (attribute_fields a) ≡ mandatory_text a ++ (metrics_text a ++ remaining_text a)
 attribute_parts a = nine_fields (text_or_absent hop_text a.hop) (text_or_absent origin_text a.origin) (text_or_absent path_text a.path) (text_or_absent number_text a.med) (text_or_absent number_text a.pref) (yes_or_no a.atomic) (text_or_absent aggregator_text a.aggregator) (comma_list (map community_text a.communities)) (others_text a.others)
 
 pub route_parts : (row : RowValue) → further (route_fields row) ≡ spaced (key_text row.place.key ∷ view_text row.place.view ∷ prefix_text row.place.nlri.prefix ∷ []) ++ (spaced (attribute_fields row.route) ++ further (id_fields row.place.nlri.id))

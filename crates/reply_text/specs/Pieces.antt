@@ -39,13 +39,13 @@ link_of true = underscore ∷ []
 link_of false = []
 
 -- the fields of the next hop, ORIGIN and AS_PATH
-abbrev pub way_text : AttrsValue → List ℕ
-way_text a = codes " next=" ++ (text_or_absent hop_text a.hop ++ (codes " origin=" ++ (text_or_absent origin_text a.origin ++ (codes " path=" ++ text_or_absent path_text a.path))))
+abbrev pub mandatory_text : AttrsValue → List ℕ
+mandatory_text a = codes " next=" ++ (text_or_absent hop_text a.hop ++ (codes " origin=" ++ (text_or_absent origin_text a.origin ++ (codes " path=" ++ text_or_absent path_text a.path))))
 
 -- the fields of MULTI_EXIT_DISC, LOCAL_PREF and ATOMIC_AGGREGATE
 abbrev pub metrics_text : AttrsValue → List ℕ
 metrics_text a = codes " med=" ++ (text_or_absent number_text a.med ++ (codes " pref=" ++ (text_or_absent number_text a.pref ++ (codes " atomic=" ++ yes_or_no a.atomic))))
 
 -- the fields of AGGREGATOR, of the communities and of the other attributes
-abbrev pub lists_text : AttrsValue → List ℕ
-lists_text a = codes " agg=" ++ (text_or_absent aggregator_text a.aggregator ++ (codes " comm=" ++ (comma_list (map community_text a.communities) ++ (codes " other=" ++ others_text a.others))))
+abbrev pub remaining_text : AttrsValue → List ℕ
+remaining_text a = codes " agg=" ++ (text_or_absent aggregator_text a.aggregator ++ (codes " comm=" ++ (comma_list (map community_text a.communities) ++ (codes " other=" ++ others_text a.others))))

@@ -1,7 +1,8 @@
 //! The lines of replies, each written by one call to any sink. No call takes memory.
 //!
-//! `query_eval` answers a query by a first line, the lines of its rows and a last line; a route line
-//! tells a route's place and its path attributes (RFC 4271, section 5).
+//! A reply is a first line, the lines of its rows and a last line; a route line tells a route's place
+//! and its path attributes (RFC 4271, section 5). Behind the reply of a replay stands the stop line. A
+//! line is some tens of small writes: lay a `BufferedSink` over a sink that is slow.
 //!
 //! Proved: each call writes exactly the line that `bmp_specs` defines, and answers `Failed` only where a
 //! write failed, after a front of the line.

@@ -6,14 +6,16 @@ use bmp_specs::{Cause, Why};
 use itoa::Buffer;
 use wire_io::{Failed, Sink, write_all, write_pieces};
 
-/// Writes the first line of a reply: the revision of the history that it speaks of.
+/// Writes the first line of a reply: the revision of the history that it speaks of. Where a write fails, a
+/// front of the line was written.
 pub fn put_at<O: Sink>(out: &mut O, rev: u64) -> Result<(), Failed>
     ensures { Writes O.faults O.told O.aside out.old (at_line rev) result out.new }
 {
     write_pieces(out, &[b"at ", Buffer::new().format(rev).as_bytes(), b"\n"])
 }
 
-/// Writes the last line of a reply: the number of its rows.
+/// Writes the last line of a reply: the number of its rows. Where a write fails, a front of the line was
+/// written.
 pub fn put_end<O: Sink>(out: &mut O, rows: u64) -> Result<(), Failed>
     ensures { Writes O.faults O.told O.aside out.old (end_line rows) result out.new }
 {
@@ -23,7 +25,8 @@ pub fn put_end<O: Sink>(out: &mut O, rows: u64) -> Result<(), Failed>
     )
 }
 
-/// Writes why and where the stream stopped.
+/// Writes the stop line: why the stream stopped, and where. Where a write fails, a front of the line was
+/// written.
 pub fn put_stop<O: Sink>(out: &mut O, cause: &Cause) -> Result<(), Failed>
     ensures { Writes O.faults O.told O.aside out.old (stop_line cause.now) result out.new }
 {

@@ -3,7 +3,7 @@ ghost use Rattle.bmp_specs.specs.Lines.{further};
 ghost use Rattle.bmp_specs.specs.PeerText.{key_text, view_text};
 ghost use Rattle.bmp_specs.specs.PrefixText.{prefix_text};
 ghost use Rattle.bmp_specs.specs.RouteLine.{text_or_absent, origin_text, attribute_fields, id_fields, route_fields, route_line};
-ghost use Rattle.reply_text.specs.Pieces.{spaced, way_text, metrics_text, lists_text};
+ghost use Rattle.reply_text.specs.Pieces.{spaced, mandatory_text, metrics_text, remaining_text};
 ghost use Rattle.wire_io.specs.Writes.{Writes};
 
 use crate::hop::put_hop;
@@ -56,9 +56,9 @@ fn put_metrics<O: Sink>(out: &mut O, attrs: &Attrs) -> Result<(), Failed>
     write_pieces(out, &[b" med=", med, b" pref=", pref, b" atomic=", atomic])
 }
 
-// Writes the fields of the next hop, ORIGIN and AS_PATH.
-fn put_way<O: Sink>(out: &mut O, attrs: &Attrs) -> Result<(), Failed>
-    ensures { Writes O.faults O.told O.aside out.old (way_text attrs.now) result out.new }
+// Writes the fields of the next hop, ORIGIN and AS_PATH, which are "well-known mandatory" (RFC 4271, section 5).
+fn put_mandatory<O: Sink>(out: &mut O, attrs: &Attrs) -> Result<(), Failed>
+    ensures { Writes O.faults O.told O.aside out.old (mandatory_text attrs.now) result out.new }
 {
     put_hop(out, &attrs.hop)?;
     put_origin(out, attrs.origin)?;
@@ -66,8 +66,8 @@ fn put_way<O: Sink>(out: &mut O, attrs: &Attrs) -> Result<(), Failed>
 }
 
 // Writes the fields of AGGREGATOR, of the communities and of the attributes that are told by their type codes alone.
-fn put_lists<O: Sink>(out: &mut O, attrs: &Attrs) -> Result<(), Failed>
-    ensures { Writes O.faults O.told O.aside out.old (lists_text attrs.now) result out.new }
+fn put_remaining<O: Sink>(out: &mut O, attrs: &Attrs) -> Result<(), Failed>
+    ensures { Writes O.faults O.told O.aside out.old (remaining_text attrs.now) result out.new }
 {
     put_aggregator(out, &attrs.aggregator)?;
     put_communities(out, attrs.communities.as_slice())?;
@@ -78,9 +78,9 @@ fn put_lists<O: Sink>(out: &mut O, attrs: &Attrs) -> Result<(), Failed>
 fn put_attributes<O: Sink>(out: &mut O, attrs: &Attrs) -> Result<(), Failed>
     ensures { Writes O.faults O.told O.aside out.old (spaced (attribute_fields attrs.now)) result out.new }
 {
-    put_way(out, attrs)?;
+    put_mandatory(out, attrs)?;
     put_metrics(out, attrs)?;
-    put_lists(out, attrs)
+    put_remaining(out, attrs)
 }
 
 // Writes the field of the path identifier, where there is one (RFC 7911, section 3), and the end of the line.
@@ -103,7 +103,8 @@ fn put_fields<O: Sink>(out: &mut O, row: &OriginRow, attrs: &Attrs) -> Result<()
 }
 
 /// Writes the line of a route of this lane: its peer, the RIB that it was seen in, its prefix, its path
-/// attributes (RFC 4271, section 5) and its path identifier where it has one (RFC 7911, section 3).
+/// attributes (RFC 4271, section 5) and its path identifier where it has one (RFC 7911, section 3). Where
+/// a write fails, a front of the line was written.
 pub fn put_route<O: Sink>(
     out: &mut O,
     lane: u32,

@@ -3,7 +3,7 @@ use Rattle.bmp_specs.specs.RouteLine.{comma_list, community_text, others_text}
 use Rattle.bmp_specs.specs.Values.{AttrsValue}
 use Rattle.reply_text.proofs.Joining.{join_three}
 use Rattle.wire_io.proofs.Joins.{join_failed, more}
-use Rattle.reply_text.proofs.route.put_lists.Goals as goal
+use Rattle.reply_text.proofs.route.put_remaining.Goals as goal
 
 pub returns-in_err-put_aggregator : goal.returns-in_err-put_aggregator
 returns-in_err-put_aggregator g c =

@@ -3,7 +3,7 @@ use Rattle.bmp_specs.specs.RouteLine.{text_or_absent, origin_text, path_text}
 use Rattle.bmp_specs.specs.Values.{AttrsValue}
 use Rattle.reply_text.proofs.Joining.{join_three}
 use Rattle.wire_io.proofs.Joins.{join_failed, more}
-use Rattle.reply_text.proofs.route.put_way.Goals as goal
+use Rattle.reply_text.proofs.route.put_mandatory.Goals as goal
 
 pub returns-in_err-put_hop : goal.returns-in_err-put_hop
 returns-in_err-put_hop g c =
