@@ -32,7 +32,8 @@ not_at cmp exact k q other = go (cmp k q) refl
 elsewhere : {K X : Type 0} (cmp : K → K → Ordering) → CmpEqualImpliesEq cmp → (m n : BTreeMap K X) (k : K) (w : Option X) → Updates cmp m n k w → (q : K) → ¬ (k ≡ q) → get cmp n q ≡ get cmp m q
 elsewhere cmp exact m n k w u q other = u.2 q (not_at cmp exact k q other)
 
-same_key : (key k : KeyValue) → (key ≡ k) ⊎ ¬ (key ≡ k)
+-- two peers are one or not
+pub same_key : (key k : KeyValue) → (key ≡ k) ⊎ ¬ (key ≡ k)
 same_key key k = same_or_other key_cmp key_total key_exact key k
 
 -- a peer's rows changed at one place

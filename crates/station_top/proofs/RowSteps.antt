@@ -12,7 +12,7 @@ use Rattle.bmp_specs.specs.TableRows.{place_cmp}
 use Rattle.bmp_specs.specs.Values.{NlriValue, KeyValue, PeerInfoValue, DownInfoValue, AttrsValue, EffectValue, up, down, announce, withdraw, mark, statistic, named, described, orphan, mirrored, passed, unread}
 use Rattle.bmp_specs.specs.declared.peers.View.{View}
 use Rattle.bmp_specs.proofs.LatestLaws.{no_middle}
-use Rattle.bmp_specs.proofs.OrderLaws.{key_total, key_exact, place_total, place_exact, same_or_other}
+use Rattle.bmp_specs.proofs.OrderLaws.{place_total, place_exact, same_or_other}
 use Rattle.bmp_specs.proofs.RowLaws.{up_now, up_still, up_from, row_now, row_still, row_from, names_or_other}
 use Rattle.rib_model.specs.declared.effect.Effect.{Effect}
 use Rattle.rib_model.specs.declared.effect.Effect.TheVariants.{Up, Down, Announce, Withdraw}
@@ -20,14 +20,12 @@ use Rattle.rib_model.specs.Effects.{effect_value}
 use Rattle.station_top.specs.declared.place.Place.{Place}
 use Rattle.station_top.specs.Places.{place_of}
 use Rattle.station_top.specs.Tables.{Peers, has_peer, route_in, route_at, Holds, Puts, Clears}
+use Rattle.station_top.proofs.MapSteps.{same_key}
 
 -- what a call leaves where it went well
 pub on_ok : {T E P Q : Type 0} (r : Result T E) → (P → Q) → OnOk r P → OnOk r Q
 on_ok (Ok t) f p = f p
 on_ok (Err e) f p = tt
-
-same_key : (key k : KeyValue) → (key ≡ k) ⊎ ¬ (key ≡ k)
-same_key key k = same_or_other key_cmp key_total key_exact key k
 
 at_place : (key : KeyValue) (place : Place) (p : PlaceValue) → (key ≡ p.key) × (place.view ≡ p.view) × (place.nlri ≡ p.nlri) → place_of key place ≡ p
 at_place key place p (k, v, n) = λ i. record { key = k i; view = v i; nlri = n i }
