@@ -17,7 +17,7 @@ use Rattle.bmp_specs.proofs.OrderLaws.{key_total, key_exact, view_total, view_ex
 use Rattle.bmp_specs.proofs.RowLaws.{up_one, up_or_down}
 use Rattle.peer_book.specs.declared.marks.Marks.{Marks}
 use Rattle.peer_book.specs.Marks.{no_marks, is_marked, marked}
-use Rattle.peer_book.specs.Peers.{Peers, PeerValue, StateValue, up_peer, down_peer, up_state, down_state, state_of, is_complete_peer, marked_peer, peer_at, state_at, is_complete_at, with_peer, with_peer_there, with_mark}
+use Rattle.peer_book.specs.Peers.{Peers, PeerValue, StateValue, up_peer, down_peer, up_state, down_state, state_of, is_up_peer, is_complete_peer, marked_peer, peer_at, state_at, is_up_at, is_complete_at, with_peer, with_peer_there, with_mark}
 use Rattle.peer_book.specs.Standing.{StandsForPeers}
 use Rattle.peer_book.proofs.Lookups.{inserted_here, inserted_elsewhere, set_here, set_elsewhere}
 use Rattle.peer_book.proofs.MarkLaws.{none_marked, marked_here, marked_other_view, marked_other_family}
@@ -214,3 +214,17 @@ stands_marked peers es k view family h = go (peer_at peers k) refl
     go (Some (down_peer info)) is =
         subst (λ (ps : Peers). StandsForPeers ps (es ++ mark k view family ∷ [])) (sym (set_value_same (is_at (key_cmp k)) peers (down_peer info) is))
         (unmarked peers es k view family (not_up (Some (down_state info)) (ap (option_map state_of) is) (λ i e. cc)) h)
+
+-- which peers are up
+pub up_stands : (peers : Peers) (es : List EffectValue) (key : KeyValue) → StandsForPeers peers es → IsTrue (is_up_at peers key) ↔ IsUp es key
+up_stands peers es key h = (forth (peer_at peers key) refl, λ u. back (peer_at peers key) u.0 ((h.up key u.0).1 u.1))
+  where
+    forth : (o : Option PeerValue) → peer_at peers key ≡ o → IsTrue (option_map_or is_up_peer o false) → IsUp es key
+    forth None is set = absurd cc
+    forth (Some (up_peer info marks)) is set = (info, (h.up key info).0 (ap (option_map state_of) is))
+    forth (Some (down_peer info)) is set = absurd cc
+
+    back : (o : Option PeerValue) (info : PeerInfoValue) → option_map state_of o ≡ Some (up_state info) → IsTrue (option_map_or is_up_peer o false)
+    back None info is = absurd cc
+    back (Some (up_peer other marks)) info is = refl
+    back (Some (down_peer other)) info is = absurd cc

@@ -85,6 +85,6 @@ abbrev pub after_place : Option (Bor KeyValue) → Peers → Peers
 after_place None peers = peers
 after_place (Some place) peers = filter (λ e. is_lt (key_cmp place.now e.0)) peers
 
--- a peer as a line tells it
-abbrev pub told : KeyValue × PeerValue → KeyValue × StateValue
-told e = (e.0, state_of e.1)
+-- a peer of the book as its key and its state
+abbrev pub keyed_state : KeyValue × PeerValue → KeyValue × StateValue
+keyed_state e = (e.0, state_of e.1)

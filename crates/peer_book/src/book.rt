@@ -1,6 +1,8 @@
-ghost use Rattle.std.specs.Prelude.{◌≡◌, [], ◌∷◌, ◌++◌, List, IfOk, OnOk, OnErr};
+ghost use Rattle.std.specs.Prelude.{◌≡◌, ◌↔◌, [], ◌∷◌, ◌++◌, List, IsTrue, IfOk, OnOk, OnErr};
 ghost use Rattle.std.specs.Bool.{OnFalse};
 ghost use Rattle.std.specs.Arc.{arc_value};
+ghost use Rattle.bmp_specs.specs.Complete.{IsComplete};
+ghost use Rattle.bmp_specs.specs.PeerUp.{IsUp};
 ghost use Rattle.bmp_specs.specs.Values.{EffectValue, up, down, mark};
 ghost use Rattle.peer_book.specs.Marks.{no_marks};
 ghost use Rattle.peer_book.specs.Peers.{up_peer, down_peer, is_up_at, is_complete_at, with_peer, with_mark};
@@ -80,7 +82,8 @@ impl PeerBook {
 
     /// Whether a peer is up.
     pub fn is_up(&self, key: &PeerKey) -> bool
-        ensures { result ≡ is_up_at self.now key.now }
+        ensures up { result ≡ is_up_at self.now key.now }
+        ensures stands { (effects : List EffectValue) → StandsForPeers self.now effects → (IsTrue result ↔ IsUp effects key.now) }
     {
         match self.peers.get(key) {
             Some(peer) => peer.is_up(),
@@ -90,7 +93,9 @@ impl PeerBook {
 
     /// Whether a table of a peer is complete: the peer is up, and the mark came since its last Peer Up.
     pub fn is_complete(&self, key: &PeerKey, view: View, family: Family) -> bool
-        ensures { result ≡ is_complete_at self.now key.now view family }
+        ensures complete { result ≡ is_complete_at self.now key.now view family }
+        ensures stands { (effects : List EffectValue) → StandsForPeers self.now effects
+            → (IsTrue result ↔ IsComplete effects key.now view family) }
     {
         match self.peers.get(key) {
             Some(peer) => peer.is_complete(view, family),

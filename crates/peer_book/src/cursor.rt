@@ -4,7 +4,7 @@ ghost use Rattle.std.specs.Map.{keys_of};
 ghost use Rattle.std.specs.Map.Iter.{deref_pair};
 ghost use Rattle.std.specs.Option.{option_map};
 ghost use Rattle.bmp_specs.specs.Orders.{key_cmp};
-ghost use Rattle.peer_book.specs.Peers.{after_place, told};
+ghost use Rattle.peer_book.specs.Peers.{after_place, keyed_state};
 ghost use Rattle.peer_book.specs.Line.{line_value};
 
 use crate::book::PeerBook;
@@ -22,7 +22,7 @@ pub struct PeerLine<'a> {
 impl PeerBook {
     /// The first peer after a place, or the first of all. One search.
     pub fn after<'a>(&'a self, place: Option<&PeerKey>) -> Option<PeerLine<'a>>
-        ensures first { option_map line_value result ≡ option_map told (slice_get (after_place place.entry self.now) 0) }
+        ensures first { option_map line_value result ≡ option_map keyed_state (slice_get (after_place place.entry self.now) 0) }
         ensures ordered { IsStrictlySortedBy key_cmp (keys_of self.now) }
     {
         match place {
@@ -38,7 +38,7 @@ impl PeerBook {
 
 // A pair of the map as a line.
 fn line_of<'a>(found: Option<(&'a PeerKey, &'a Peer)>) -> Option<PeerLine<'a>>
-    ensures { option_map line_value result ≡ option_map told (option_map deref_pair found.entry) }
+    ensures { option_map line_value result ≡ option_map keyed_state (option_map deref_pair found.entry) }
 {
     match found {
         Some((key, peer)) => Some(PeerLine {

@@ -43,5 +43,5 @@ after_place None values = values
 after_place (Some place) values = filter (λ e. is_lt (kind_cmp (kind_of place.now) e.0)) values
 
 -- a statistic as its kind and its value
-abbrev pub entry_of : StatValue → KindValue × ℕ
-entry_of stat = (kind_of stat, stat.value)
+abbrev pub kind_and_value : StatValue → KindValue × ℕ
+kind_and_value stat = (kind_of stat, stat.value)

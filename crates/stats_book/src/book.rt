@@ -6,7 +6,7 @@ ghost use Rattle.bmp_specs.specs.PeerUp.{IsUp, Names};
 ghost use Rattle.bmp_specs.specs.Values.{EffectValue, statistic};
 ghost use Rattle.stats_book.specs.Kind.{kind_cmp};
 ghost use Rattle.stats_book.specs.Standing.{StandsForStats};
-ghost use Rattle.stats_book.specs.Stats.{with_stat, without_peer, stats_at, after_place, entry_of};
+ghost use Rattle.stats_book.specs.Stats.{with_stat, without_peer, stats_at, after_place, kind_and_value};
 
 use crate::peer::PeerStats;
 use bmp_frames::PeerKey;
@@ -74,7 +74,7 @@ impl StatsBook {
     /// The peer's first statistic after that of a place's code, AFI and SAFI, or the first of all. The
     /// place's value does not matter. Two searches.
     pub fn after(&self, key: &PeerKey, place: Option<&Stat>) -> Option<Stat>
-        ensures first { option_map entry_of result ≡ slice_get (after_place place.entry (stats_at self.now key.now)) 0 }
+        ensures first { option_map kind_and_value result ≡ slice_get (after_place place.entry (stats_at self.now key.now)) 0 }
         ensures ordered { IsStrictlySortedBy kind_cmp (keys_of (stats_at self.now key.now)) }
     {
         match self.peers.get(key) {

@@ -4,7 +4,7 @@ ghost use Rattle.std.specs.Map.{keys_of};
 ghost use Rattle.std.specs.Map.Iter.{deref_pair};
 ghost use Rattle.std.specs.Option.{option_map};
 ghost use Rattle.stats_book.specs.Kind.{kind_cmp};
-ghost use Rattle.stats_book.specs.Stats.{with_value, after_place, entry_of};
+ghost use Rattle.stats_book.specs.Stats.{with_value, after_place, kind_and_value};
 
 use crate::kind::Kind;
 use std::alloc::{AllocError, Global};
@@ -46,7 +46,7 @@ impl PeerStats {
     }
 
     pub(crate) fn after(&self, place: Option<&Stat>) -> Option<Stat>
-        ensures first { option_map entry_of result ≡ slice_get (after_place place.entry self.now) 0 }
+        ensures first { option_map kind_and_value result ≡ slice_get (after_place place.entry self.now) 0 }
         ensures ordered { IsStrictlySortedBy kind_cmp (keys_of self.now) }
     {
         match place {
@@ -65,7 +65,7 @@ impl PeerStats {
 
 // A pair of the map as a statistic.
 fn stat_in(found: Option<(&Kind, &u64)>) -> Option<Stat>
-    ensures { option_map entry_of result ≡ option_map deref_pair found.entry }
+    ensures { option_map kind_and_value result ≡ option_map deref_pair found.entry }
 {
     match found {
         Some((kind, value)) => Some(kind.with(*value)),
