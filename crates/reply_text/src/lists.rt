@@ -73,12 +73,19 @@ pub(crate) fn put_communities<O: Sink>(out: &mut O, communities: &[u32]) -> Resu
     }
 }
 
+// Writes the type code of an attribute behind the text before it.
+fn put_code<O: Sink>(out: &mut O, before: &[u8], other: &Other) -> Result<(), Failed>
+    ensures { Writes O.faults O.told O.aside out.old (before.now ++ number_text other.now.code) result out.new }
+{
+    put_number(out, before, other.code as u32)
+}
+
 // Writes the type codes of the attributes, each behind a comma.
 fn put_further_others<O: Sink>(out: &mut O, others: &[Other]) -> Result<(), Failed>
     ensures { Writes O.faults O.told O.aside out.old (behind comma (map (λ other. number_text other.code) others.now)) result out.new }
 {
     for other in others {
-        put_number(out, b",", other.code as u32)?;
+        put_code(out, b",", other)?;
     }
     Ok(())
 }
@@ -90,7 +97,7 @@ pub(crate) fn put_others<O: Sink>(out: &mut O, others: &[Other]) -> Result<(), F
     match others {
         [] => write_all(out, b" other=-"),
         [first, rest @ ..] => {
-            put_number(out, b" other=", first.code as u32)?;
+            put_code(out, b" other=", first)?;
             put_further_others(out, rest)
         }
     }

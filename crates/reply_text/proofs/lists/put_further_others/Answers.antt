@@ -1,4 +1,4 @@
-use Rattle.std.proofs.Common.{◌≡◌, ◌∙◌, ap, get_or, suc, map, take, drop, Ok, add-one, arith}
+use Rattle.std.proofs.Common.{◌≡◌, ap, get_or, suc, map, take, drop, Ok, add-one, arith}
 use Rattle.bmp_specs.specs.NumberText.{number_text}
 use Rattle.bmp_specs.specs.Values.{OtherValue}
 use Rattle.reply_text.specs.Pieces.{behind}
@@ -9,14 +9,14 @@ use Rattle.reply_text.proofs.lists.put_further_others.Goals as goal
 pub loop-other-init : goal.loop-other-init
 loop-other-init g c = writes_none c.args.out.now
 
-pub returns-in_err-put_number : goal.returns-in_err-put_number
-returns-in_err-put_number g c =
-    let is : number_text c.other.inside.code ≡ number_text (get_or c.args.others.now c.loop-other.other-index c.other-item.result).code = ap (λ (v : OtherValue). number_text v.code) (c.other.view_is ∙ c.other-item.is) in
-    join_failed c.args.out.now c.loop-other.out c.put_number.new.out (behind 44 (map (λ (other : OtherValue). number_text other.code) (take c.loop-other.other-index c.args.others.now))) _ (behind 44 (map (λ (other : OtherValue). number_text other.code) (drop (suc c.loop-other.other-index) c.args.others.now))) (behind 44 (map (λ (other : OtherValue). number_text other.code) c.args.others.now)) _ c.from_residual.result
-    c.loop-other.invariant (rw is at c.in_err-put_number.ensures) c.from_residual.ensures.0 (behind_split 44 (λ (other : OtherValue). number_text other.code) c.args.others.now c.loop-other.other-index c.other-item.result (omega arith))
+pub returns-in_err-put_code : goal.returns-in_err-put_code
+returns-in_err-put_code g c =
+    let is : number_text c.other-item.result.code ≡ number_text (get_or c.args.others.now c.loop-other.other-index c.other-item.result).code = ap (λ (v : OtherValue). number_text v.code) c.other-item.is in
+    join_failed c.args.out.now c.loop-other.out c.put_code.new.out (behind 44 (map (λ (other : OtherValue). number_text other.code) (take c.loop-other.other-index c.args.others.now))) _ (behind 44 (map (λ (other : OtherValue). number_text other.code) (drop (suc c.loop-other.other-index) c.args.others.now))) (behind 44 (map (λ (other : OtherValue). number_text other.code) c.args.others.now)) _ c.from_residual.result
+    c.loop-other.invariant (rw is at c.in_err-put_code.ensures) c.from_residual.ensures.0 (behind_split 44 (λ (other : OtherValue). number_text other.code) c.args.others.now c.loop-other.other-index c.other-item.result (omega arith))
 
 pub loop-other-preserved : goal.loop-other-preserved
 loop-other-preserved g c =
-    let is : number_text c.other.inside.code ≡ number_text (get_or c.args.others.now c.loop-other.other-index c.other-item.result).code = ap (λ (v : OtherValue). number_text v.code) (c.other.view_is ∙ c.other-item.is) in
-    join c.args.out.now c.loop-other.out c.put_number.new.out (behind 44 (map (λ (other : OtherValue). number_text other.code) (take c.loop-other.other-index c.args.others.now))) _ _ tt (Ok tt) c.loop-other.invariant (rw is at c.in_ok-put_number.ensures)
+    let is : number_text c.other-item.result.code ≡ number_text (get_or c.args.others.now c.loop-other.other-index c.other-item.result).code = ap (λ (v : OtherValue). number_text v.code) c.other-item.is in
+    join c.args.out.now c.loop-other.out c.put_code.new.out (behind 44 (map (λ (other : OtherValue). number_text other.code) (take c.loop-other.other-index c.args.others.now))) _ _ tt (Ok tt) c.loop-other.invariant (rw is at c.in_ok-put_code.ensures)
     (rw add-one (behind_next 44 (λ (other : OtherValue). number_text other.code) c.args.others.now c.loop-other.other-index c.other-item.result (omega arith)))
