@@ -1,5 +1,10 @@
+pub mod Lengths
+pub mod Causes
+pub mod Drawing
 pub mod Taking
-pub mod Replaying
+pub mod Coming
+pub mod CheckCounts
+pub mod Concluding
 pub mod PlaceOrder
 pub mod MapSteps
 pub mod RowSteps

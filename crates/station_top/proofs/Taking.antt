@@ -1,21 +1,24 @@
--- A connection that is taken to its end.
-use Rattle.std.proofs.Common.{◌≡◌, ◌≢◌, ℕ, zero, suc, ◌+◌, ◌^◌, ◌<◌, ◌≤◌, length, take, List, [], ◌∷◌, ◌++◌, Option, Some, None, Bool, true, Ok, Err, refl, ap, sym, ◌∙◌, subst, append_assoc, length-append, length-take, arith, inl, inr, if◌then◌else◌}
-use Rattle.std.proofs.lemmas.List.{nil_from_length}
+-- A connection that is taken to its end, read by read.
+use Rattle.std.proofs.Common.{◌≡◌, ◌≢◌, ℕ, zero, suc, ◌+◌, ◌<◌, ◌≤◌, length, take, List, [], ◌∷◌, ◌++◌, Option, Some, None, Bool, Ok, Err, refl, ap, sym, ◌∙◌, subst, append_assoc, append-nil, length-append, length-take, arith, if◌then◌else◌}
 use Rattle.std.proofs.Math.Dec.{eqb-suc-zero}
-use Rattle.std.specs.Prelude.{IfSome, Contains}
-use Rattle.std.specs.Io.KnownBytes.{Consumes, IsAtEnd, Keeps}
+use Rattle.std.specs.Prelude.{IfSome}
+use Rattle.std.specs.Io.KnownBytes.{Consumes, Keeps}
 use Rattle.bmp_specs.specs.declared.causes.Cause.{Cause}
-use Rattle.bmp_specs.specs.declared.causes.Cause.TheVariants.{Ended, Terminated, CutShort, Broken, ReadFault, Full}
-use Rattle.bmp_specs.specs.Walk.{whole}
-use Rattle.bmp_specs.specs.Life.{LastRead, gave, gave_none, failed, Fits, IsCause, cause_rank}
+use Rattle.bmp_specs.specs.declared.causes.Cause.TheVariants.{ReadFault, Full}
+use Rattle.bmp_specs.specs.Life.{LastRead, gave, gave_none, failed, most_taken}
+use Rattle.bmp_specs.specs.MessageBody.{no_peers}
+use Rattle.bmp_specs.specs.MessageEffects.{IsMessageEntry}
+use Rattle.bmp_specs.specs.Values.{EntryValue, opened}
+use Rattle.bmp_specs.specs.Walk.{Verdict, Walks}
 use Rattle.wire_io.specs.declared.sink.Failed.{Failed}
-use Rattle.wire_io.specs.Aside.{Aside, Given, Plan, fresh}
-use Rattle.station_doors.specs.Doors.{Opens, OpensNext, GivesNext, Reads, Closes, AsPlanned, GivesBytes, given_more, read_of, untouched}
-use Rattle.station_doors.proofs.Sessions.{given_more_last}
-use Rattle.station_top.specs.Input.{HasCome, cause_of, unless_some, input_of}
-use Rattle.station_top.specs.Take.{GivesMore, IsNew, Takes, FailsBy, Comes, first_of, cause_by}
-use Rattle.station_top.specs.declared.take.Input.{Input}
-use Rattle.station_top.specs.declared.take.Input.TheVariants.{Empty, Fault, Bytes}
+use Rattle.wire_io.specs.Aside.{Aside, Given, Plan}
+use Rattle.station_doors.specs.Doors.{Reads, AsPlanned, GivesBytes, given_more, read_of}
+use Rattle.bmp_message.specs.StreamWalk.{WalkValue, HasReached, rest_of, verdict_with}
+use Rattle.station_top.specs.Ledger.{HasNoted, HasDrawn, IsDrained, IsEnded}
+use Rattle.station_top.specs.Take.{GivesMore, IsNew, Takes, FailsBy, cause_at_end}
+use Rattle.station_top.specs.declared.take.Taken.{Taken}
+use Rattle.station_top.proofs.Causes.{come_end, come_fault, come_full, come_early, come_early_here, not_early}
+use Rattle.station_top.proofs.Lengths.{walk_lengths}
 
 consumes_then : (a b c : Option (List ℕ)) (s t : List ℕ) → Consumes a b s → Consumes b c t → Consumes a c (s ++ t)
 consumes_then None b c s t p q = tt
@@ -89,154 +92,125 @@ goes_more a0 a b calls0 c d n m buf g r p some within = record {
   calls_most = calls_then a0.plan a.plan calls0 c d n m g.plan g.calls_most p some;
 }
 
-first_ended : (other : Cause) → cause_rank other < 3 → Fits 0 gave_none whole 0 other → ⊥
-first_ended Terminated h f = cc f
-first_ended (Broken at why) h f = cc (f.0)
-first_ended Full h f = omega (arith, f)
-first_ended Ended h f = omega (arith, h)
-first_ended (CutShort at) h f = omega (arith, h)
-first_ended (ReadFault at) h f = omega (arith, h)
+-- the bytes taken so far, of a connection that goes on, and what was drawn of them
+pub record Taking (Stands : List EntryValue → Type 0) (first now : Aside) (calls0 calls taken : ℕ) (walk : WalkValue) (revision : ℕ) : Type 0 where
+  pub goes : Goes first now calls0 calls taken
+  pub drained : IsDrained Stands goes.bytes walk revision
 
-first_fault : (other : Cause) → cause_rank other < 5 → Fits 0 failed whole 0 other → ⊥
-first_fault Terminated h f = cc f
-first_fault (Broken at why) h f = cc (f.0)
-first_fault Full h f = omega (arith, f)
-first_fault Ended h f = cc (f.0)
-first_fault (CutShort at) h f = cc (f.0)
-first_fault (ReadFault at) h f = omega (arith, h)
-
--- no byte came, and the connection ended, or its read failed
-pub is_ended : IsCause 0 gave_none whole 0 Ended
-is_ended = record { fits = (refl, refl); first = first_ended }
-
-pub is_fault : IsCause 0 failed whole 0 (ReadFault 0)
-is_fault = record { fits = (refl, refl); first = first_fault }
-
-some_came : (n : ℕ) (input : Input) → unless_some (suc n) input ≡ Bytes
-some_came n input = ap (λ (b : Bool). if b then input else Bytes) (eqb-suc-zero n)
-
-come_end : (n : ℕ) (bytes : List ℕ) → length bytes ≡ n → HasCome (record { bytes = bytes; last = gave_none }) (cause_of (unless_some n Empty))
-come_end zero bytes e = (nil_from_length bytes e, is_ended)
-come_end (suc n) bytes e = rw (some_came n Empty) (omega (arith, e), inl refl)
-
-come_fault : (n : ℕ) (bytes : List ℕ) → length bytes ≡ n → HasCome (record { bytes = bytes; last = failed }) (cause_of (unless_some n Fault))
-come_fault zero bytes e = (nil_from_length bytes e, is_fault)
-come_fault (suc n) bytes e = rw (some_came n Fault) (omega (arith, e), inr (inl refl))
-
--- a read gave none
-pub takes_end : (a0 a b : Aside) (calls0 c n : ℕ) (buf : List ℕ) (input : Input) → Goes a0 a calls0 c n → Reads a b (Ok 0) buf → 0 < length buf → input ≡ unless_some n Empty → Takes a0 b calls0 input
-takes_end a0 a b calls0 c n buf input g r some e = rw e (record {
-  bytes = g.bytes ++ take 0 buf;
-  last = gave_none;
-  plan = r.plan ∙ g.plan;
-  rest = consumes_then a0.rest a.rest b.rest g.bytes (take 0 buf) g.rest r.rest.0;
-  given = given_then a0.given a.given b.given g.bytes buf 0 g.given r.given;
-  refused = r.refused ∙ g.refused;
-  come = come_end n (g.bytes ++ take 0 buf) (omega (arith, length-append g.bytes (take 0 buf), length-take 0 buf, g.count));
-  end = λ _. r.rest.1 refl some;
-  fault = λ other. absurd (cc other);
-})
-
--- a read failed
-pub takes_fault : (a0 a b : Aside) (calls0 c d n : ℕ) (buf : List ℕ) (e : Failed) (input : Input) → Goes a0 a calls0 c n → Reads a b (Err e) buf → AsPlanned a.plan c d (Err e) → input ≡ unless_some n Fault → Takes a0 b calls0 input
-takes_fault a0 a b calls0 c d n buf e input g r p s = rw s (record {
-  bytes = g.bytes ++ [];
-  last = failed;
-  plan = r.plan ∙ g.plan;
-  rest = consumes_then a0.rest a.rest b.rest g.bytes [] g.rest (keeps_consumes a.rest b.rest r.rest);
-  given = given_failed a0.given a.given b.given g.bytes buf e g.given r.given;
-  refused = r.refused ∙ g.refused;
-  come = come_fault n (g.bytes ++ []) (omega (arith, length-append g.bytes [], g.count));
-  end = λ other. absurd (cc other);
-  fault = λ _. fails_by a0.plan a.plan calls0 c d n (length (g.bytes ++ [])) e g.plan g.calls_most p (omega (arith, length-append g.bytes [], g.count));
-})
-
--- the limit of one connection was reached
-pub takes_full : (a0 a : Aside) (calls0 c n : ℕ) → Goes a0 a calls0 c n → n ≡ 2 ^ 46 → Takes a0 a calls0 Bytes
-takes_full a0 a calls0 c n g e = record {
-  bytes = g.bytes;
-  last = gave;
-  plan = g.plan;
-  rest = g.rest;
-  given = g.given;
-  refused = g.refused;
-  come = (omega (arith, g.count, e), inr (inr (g.count ∙ e)));
-  end = λ other. absurd (cc other);
-  fault = λ other. absurd (cc other);
+-- nothing was taken
+pub taking_none : (Stands : List EntryValue → Type 0) (a : Aside) (calls : ℕ) (walk : WalkValue) → IsNew a → Stands (opened ∷ []) → HasReached [] [] walk → (walk.offset ≡ 0) × (walk.cutter.offset + length walk.cutter.pending ≡ 0) → Taking Stands a a calls calls 0 walk 1
+unfolding goes_none
+taking_none Stands a calls walk new first reached (place, none) = record {
+  goes = goes_none a calls new;
+  drained = record {
+    messages = [];
+    reached = reached;
+    walks = rw (place, none) (refl, refl);
+    noted = record { noted = first; count = omega arith };
+  };
 }
 
-new_given : (a b : Option (List Given)) → GivesNext a b (Ok true) → GivesMore b b [] gave
-new_given None b p = subst (λ (o : Option (List Given)). GivesMore o o [] gave) (sym p) refl
-new_given (Some gs) b p = subst (λ (o : Option (List Given)). GivesMore o o [] gave) (sym p) (ap (λ (l : List Given). Some l) (sym (given_more_last gs fresh [] gave)))
+-- as many entries as there are: fewer than 64 bits hold
+exact : (Stands : List EntryValue → Type 0) (bytes : List ℕ) (messages : List EntryValue) (offset revision : ℕ) (v : Verdict) → length bytes ≤ most_taken → Walks IsMessageEntry no_peers bytes messages offset v → HasNoted Stands messages revision
+    → revision ≡ length (opened ∷ messages)
+exact Stands bytes messages offset revision v within w noted = let long = walk_lengths no_peers bytes messages offset v w in omega (arith, within, noted.count, long.count, long.within)
 
--- a connection that was opened
-pub is_new : (a b : Aside) → Opens a b (Ok true) → IsNew b
-is_new a b o = record { none = o.taken; fresh = new_given a.given b.given o.given }
+module _ (Stands : List EntryValue → Type 0) (a0 a : Aside) (calls0 c n : ℕ) (walk : WalkValue) (revision : ℕ) (t : Taking Stands a0 a calls0 c n walk revision) where
+  -- a read gave none
+  pub takes_end : (b : Aside) (buf : List ℕ) (taken : Taken) → Reads a b (Ok 0) buf → 0 < length buf → n < most_taken → taken ≡ record { cause = cause_at_end (rest_of walk) walk.offset; revision = revision } → Takes Stands a0 b calls0 taken
+  takes_end b buf taken r some room is =
+      let g = t.goes in
+      let d = t.drained in
+      let same : g.bytes ++ take 0 buf ≡ g.bytes = append-nil g.bytes in
+      rw is (record {
+        bytes = g.bytes;
+        last = gave_none;
+        messages = d.messages;
+        plan = r.plan ∙ g.plan;
+        rest = subst (λ (l : List ℕ). Consumes a0.rest b.rest l) same (consumes_then a0.rest a.rest b.rest g.bytes (take 0 buf) g.rest r.rest.0);
+        given = subst (λ (l : List ℕ). GivesMore a0.given b.given l gave_none) same (given_then a0.given a.given b.given g.bytes buf 0 g.given r.given);
+        refused = r.refused ∙ g.refused;
+        come = come_end g.bytes d.messages walk.offset (rest_of walk) (omega (arith, g.count, room)) d.walks;
+        noted = d.noted.noted;
+        count = exact Stands g.bytes d.messages walk.offset revision (verdict_with (rest_of walk)) (omega (arith, g.count, room)) d.walks d.noted;
+        early = λ e. absurd (not_early (rest_of walk) walk.offset e);
+        end = λ _. r.rest.1 refl some;
+        fault = λ other. absurd (cc other);
+      })
 
-opens_first : (connections : List (List ℕ)) (coming : Option (List (List ℕ))) (rest : Option (List ℕ)) → OpensNext (Some connections) coming rest (Ok true) → (b : List ℕ) × (rest ≡ Some b) × (first_of connections ≡ b)
-opens_first connections None rest p = absurd p
-opens_first connections (Some after) None p = absurd p
-opens_first connections (Some after) (Some b) p = (b, refl, ap first_of p)
+  -- a read failed
+  pub takes_fault : (b : Aside) (d' : ℕ) (buf : List ℕ) (e : Failed) (taken : Taken) → Reads a b (Err e) buf → AsPlanned a.plan c d' (Err e) → n < most_taken → taken ≡ record { cause = ReadFault n; revision = revision } → Takes Stands a0 b calls0 taken
+  takes_fault b d' buf e taken r p room is =
+      let g = t.goes in
+      let d = t.drained in
+      let same : g.bytes ++ [] ≡ g.bytes = append-nil g.bytes in
+      rw (is, sym g.count) (record {
+        bytes = g.bytes;
+        last = failed;
+        messages = d.messages;
+        plan = r.plan ∙ g.plan;
+        rest = subst (λ (l : List ℕ). Consumes a0.rest b.rest l) same (consumes_then a0.rest a.rest b.rest g.bytes [] g.rest (keeps_consumes a.rest b.rest r.rest));
+        given = subst (λ (l : List ℕ). GivesMore a0.given b.given l failed) same (given_failed a0.given a.given b.given g.bytes buf e g.given r.given);
+        refused = r.refused ∙ g.refused;
+        come = come_fault g.bytes d.messages walk.offset (rest_of walk) (omega (arith, g.count, room)) d.walks;
+        noted = d.noted.noted;
+        count = exact Stands g.bytes d.messages walk.offset revision (verdict_with (rest_of walk)) (omega (arith, g.count, room)) d.walks d.noted;
+        early = λ e. absurd e;
+        end = λ other. absurd (cc other);
+        fault = λ _. fails_by a0.plan a.plan calls0 c d' n (length g.bytes) e g.plan g.calls_most p (omega (arith, g.count));
+      })
 
-front_of : (b : List ℕ) (now : Option (List ℕ)) (bytes : List ℕ) → Consumes (Some b) now bytes → (rest : List ℕ) × (b ≡ bytes ++ rest) × (IsAtEnd now → rest ≡ [])
-front_of b None bytes p = absurd p
-front_of b (Some ys) bytes p = (ys, p, λ h. h)
+  -- the limit of one connection was reached
+  pub takes_full : (taken : Taken) → n ≡ most_taken → taken ≡ record { cause = Full; revision = revision } → Takes Stands a0 a calls0 taken
+  takes_full taken full is =
+      let g = t.goes in
+      let d = t.drained in
+      rw is (record {
+        bytes = g.bytes;
+        last = gave;
+        messages = d.messages;
+        plan = g.plan;
+        rest = g.rest;
+        given = g.given;
+        refused = g.refused;
+        come = come_full g.bytes d.messages walk.offset (rest_of walk) (g.count ∙ full) d.walks;
+        noted = d.noted.noted;
+        count = exact Stands g.bytes d.messages walk.offset revision (verdict_with (rest_of walk)) (omega (arith, g.count, full)) d.walks d.noted;
+        early = λ e. absurd e;
+        end = λ other. absurd (cc other);
+        fault = λ other. absurd (cc other);
+      })
 
-given_first : (given now : Option (List Given)) (bytes : List ℕ) (last : LastRead) → given ≡ Some (fresh ∷ []) → GivesMore given now bytes last → now ≡ Some (record { bytes = bytes; last = last } ∷ [])
-given_first given now bytes last e p = subst (λ (o : Option (List Given)). GivesMore o now bytes last) e p
+  -- a piece was fed to the walk
+  pub drawn_fed : (piece : List ℕ) (fed : WalkValue) → ((bytes : List ℕ) (given : List EntryValue) → HasReached bytes given walk → HasReached (bytes ++ piece) given fed) → HasDrawn Stands (t.goes.bytes ++ piece) fed revision
+  drawn_fed piece fed run = record { messages = t.drained.messages; reached = run t.goes.bytes t.drained.messages t.drained.reached; noted = t.drained.noted }
 
-cause_by_some : (b : List ℕ) → 0 < length b → None ≡ cause_by b
-cause_by_some [] h = absurd (omega (arith, h))
-cause_by_some (x ∷ xs) h = refl
+  -- a read gave bytes, all their messages were drawn, and the walk goes on
+  pub taking_more : (Next : List EntryValue → Type 0) (b : Aside) (d' m : ℕ) (buf : List ℕ) (new : WalkValue) (now : ℕ) → Reads a b (Ok m) buf → AsPlanned a.plan c d' (Ok m) → m ≢ 0 → m ≤ length buf → IsDrained Next (t.goes.bytes ++ take m buf) new now
+      → Taking Next a0 b calls0 d' (n + m) new now
+  unfolding goes_more
+  taking_more Next b d' m buf new now r p some within drained = record { goes = goes_more a0 a b calls0 c d' n m buf t.goes r p some within; drained = drained }
 
--- the cause follows from the connection where the plan doesn't fail
-steady_cause : (input : Input) (bytes rest b : List ℕ) (last : LastRead) → HasCome (record { bytes = bytes; last = last }) (cause_of input) → b ≡ bytes ++ rest → (last ≡ gave_none → rest ≡ []) → (last ≡ failed → ⊥) → cause_of input ≡ cause_by b
-steady_cause Empty bytes rest b last h e w calm = ap cause_by (sym (e ∙ ap (λ (l : List ℕ). l ++ rest) h.0 ∙ w h.1.fits.0))
-steady_cause Fault bytes rest b last h e w calm = absurd (calm h.1.fits.0)
-steady_cause Bytes bytes rest b last h e w calm = cause_by_some b (omega (arith, h.0, ap length e, length-append bytes rest))
-
-fault_place : (input : Input) (plan : Plan) (bytes : List ℕ) (last : LastRead) (offset : ℕ) → HasCome (record { bytes = bytes; last = last }) (cause_of input) → (last ≡ failed → FailsBy (Some plan) (length bytes)) → cause_of input ≡ Some (ReadFault offset) → (k : ℕ) × (k ≤ offset) × Contains plan.fails k
-fault_place Empty plan bytes last offset h f e = absurd (cc e)
-fault_place Fault plan bytes last offset h f e = let p = f h.1.fits.0 in (p.0, omega (arith, p.1, ap length h.0), p.2)
-fault_place Bytes plan bytes last offset h f e = absurd (cc e)
-
--- the one input connection was opened, taken and closed
-pub comes : (plan : Plan) (a b c d : Aside) (calls : ℕ) (input : Input) → a ≡ untouched plan → calls ≡ 0 → Opens a b (Ok true) → Takes b c calls input → Closes c d → Comes plan d (cause_of input)
-comes plan a b c d calls input e none o t shut =
-    let o1 = subst (λ (x : Aside). Opens x b (Ok true)) e o in
-    let first = opens_first plan.connections b.coming b.rest o1.coming in
-    let front = front_of first.0 c.rest t.bytes (subst (λ (r : Option (List ℕ)). Consumes r c.rest t.bytes) first.1 t.rest) in
-    let fault : t.last ≡ failed → FailsBy (Some plan) (length t.bytes) = λ h. subst (λ (m : ℕ). FailsBy (Some plan) m) (omega (arith, none)) (subst (λ (p : Option Plan). FailsBy p (calls + length t.bytes)) o1.plan (t.fault h)) in
-    record {
-      shown = ap (λ (x : Aside). x.plan) shut.same ∙ t.plan ∙ o1.plan;
-      given = record { bytes = t.bytes; last = t.last } ∷ [];
-      given_is = ap (λ (x : Aside). x.given) shut.same ∙ given_first b.given c.given t.bytes t.last o1.given t.given;
-      one = omega arith;
-      come = t.come;
-      rest = front.0;
-      front = first.2 ∙ front.1;
-      whole = λ h. front.2 (t.end h);
-      steady = λ h. steady_cause input t.bytes front.0 (first_of plan.connections) t.last t.come (first.2 ∙ front.1) (λ w. front.2 (t.end w)) (λ w. none_fails (fault w) h);
-      fault = λ offset some w. fault_place input plan t.bytes t.last offset t.come fault w;
-    }
-  where
-    none_fails : {most : ℕ} → FailsBy (Some plan) most → plan.fails ≡ [] → ⊥
-    none_fails p h = omega (arith, p.2.1, ap length h)
-
--- no connection could be opened: an empty one whose read failed
-pub comes_unopened : (plan : Plan) (a b : Aside) (e : Failed) → a ≡ untouched plan → Opens a b (Err e) → IfSome a.plan (λ p. p.fails ≡ [] → ⊥) → Comes plan b (Some (ReadFault 0))
-comes_unopened plan a b e is o fails =
-    let o1 = subst (λ (x : Aside). Opens x b (Err e)) is o in
-    let some = subst (λ (x : Aside). IfSome x.plan (λ p. p.fails ≡ [] → ⊥)) is fails in
-    record {
-      shown = o1.plan;
-      given = [];
-      given_is = o1.given;
-      one = omega arith;
-      come = subst (λ (r : Bool). HasCome (input_of [] r) (Some (ReadFault 0))) (sym o1.refused) (refl, is_fault);
-      rest = first_of plan.connections;
-      front = subst (λ (r : Bool). first_of plan.connections ≡ (input_of [] r).bytes ++ first_of plan.connections) (sym o1.refused) refl;
-      whole = subst (λ (r : Bool). (input_of [] r).last ≡ gave_none → first_of plan.connections ≡ []) (sym o1.refused) (λ h. absurd (cc h));
-      steady = λ h. absurd (some h);
-      fault = λ offset one w. absurd (omega (arith, one));
-    }
+  -- the walk ended in the bytes of a read
+  pub takes_early : (Next : List EntryValue → Type 0) (b : Aside) (d' m : ℕ) (buf : List ℕ) (cause : Cause) (now : ℕ) (taken : Taken) → Reads a b (Ok m) buf → AsPlanned a.plan c d' (Ok m) → m ≢ 0 → m ≤ length buf → n + m ≤ most_taken
+      → IsEnded Next (t.goes.bytes ++ take m buf) now cause → taken ≡ record { cause = cause; revision = now } → Takes Next a0 b calls0 taken
+  unfolding goes_more
+  takes_early Next b d' m buf cause now taken r p some within room ended is =
+      let g = goes_more a0 a b calls0 c d' n m buf t.goes r p some within in
+      let long : length g.bytes ≤ most_taken = omega (arith, g.count, room) in
+      let come = come_early_here g.bytes ended.messages cause gave ended.ends long in
+      rw is (record {
+        bytes = g.bytes;
+        last = gave;
+        messages = ended.messages;
+        plan = g.plan;
+        rest = g.rest;
+        given = g.given;
+        refused = g.refused;
+        come = come;
+        noted = ended.noted.noted;
+        count = exact Next g.bytes ended.messages come.offset now come.verdict long come.walk ended.noted;
+        early = λ _. come_early g.bytes ended.messages cause ended.ends;
+        end = λ other. absurd (cc other);
+        fault = λ other. absurd (cc other);
+      })

@@ -1,6 +1,9 @@
 pub mod Input
+pub mod Ledger
 pub mod Take
+pub mod Check
 pub mod Status
+pub mod Words
 pub mod Station
 pub mod Places
 pub mod Tables

@@ -1,42 +1,30 @@
 -- The top call: what it writes, what its status says, and what it asks of the yard.
-use Rattle.std.specs.Prelude.{◌≡◌, ◌≢◌, ℕ, ◌⊎◌, List, [], ◌∷◌, ◌++◌, codes, Option, Some, None, Contains}
+use Rattle.std.specs.Prelude.{◌≡◌, ◌≢◌, ℕ, ◌⊎◌, List, [], ◌∷◌, ◌++◌, Option, Some, None, Contains, Result, Ok, Err, length}
 use Rattle.std.specs.Io.KnownBytes.{Appends}
 use Rattle.bmp_specs.specs.declared.causes.Cause.{Cause}
-use Rattle.bmp_specs.specs.declared.causes.Cause.TheVariants as cause
+use Rattle.bmp_specs.specs.Check.{check_lines}
 use Rattle.bmp_specs.specs.Lines.{stop_line, usage_line}
-use Rattle.bmp_specs.specs.Rows.{RowValue}
+use Rattle.bmp_specs.specs.RouteLine.{route_line}
 use Rattle.bmp_specs.specs.TableReply.{IsTableReply}
-use Rattle.bmp_specs.specs.Values.{opened}
-use Rattle.wire_io.specs.Aside.{Aside, Plan}
+use Rattle.bmp_specs.specs.Values.{EntryValue, opened}
+use Rattle.wire_io.specs.Aside.{Aside, Given, Plan}
 use Rattle.wire_io.specs.Faults.{Rose}
 use Rattle.wire_io.specs.Writes.{AppendsFront}
 use Rattle.station_doors.specs.Doors.{YardValue, one_more}
+use Rattle.station_top.specs.Input.{HasCome}
 use Rattle.station_top.specs.Take.{Comes}
+use Rattle.station_top.specs.Status.{status_of}
+use Rattle.station_top.specs.Words.{IsCommand}
 use Rattle.station_top.specs.declared.status.Status.{Status}
-use Rattle.station_top.specs.declared.status.Status.TheVariants.{Done, Stopped, Usage, ReadFault, WriteFault, NoMemory, YardFault, Unbuilt}
+use Rattle.station_top.specs.declared.status.Status.TheVariants.{Done, Stopped, Usage, ReadFault, WriteFault, NoMemory, YardFault}
+use Rattle.station_top.specs.declared.take.Taken.{Taken}
+use Rattle.station_top.specs.declared.words.Command.{Command}
+use Rattle.station_top.specs.declared.words.Command.TheVariants.{ReplayTable, Check}
 
--- the words are `replay table`
-abbrev pub IsReplayTable : List (List ℕ) → Type 0
-IsReplayTable words = words ≡ codes "replay" ∷ codes "table" ∷ []
-
--- the line that stands for every stream that isn't empty, until the messages are read
-abbrev pub unbuilt_line : List ℕ
-unbuilt_line = codes "unbuilt\n"
-
--- the status of a stream that stopped for this cause; None where its bytes are not read yet
-abbrev pub status_of : Option Cause → Status
-status_of None = Unbuilt
-status_of (Some cause.Ended) = Done
-status_of (Some cause.Terminated) = Done
-status_of (Some (cause.CutShort offset)) = Stopped
-status_of (Some (cause.Broken offset why)) = Stopped
-status_of (Some (cause.ReadFault offset)) = ReadFault
-status_of (Some cause.Full) = Stopped
-
--- What is written: the reply of `table` on the one opening, whatever the line of a route is, and then the stop line.
-abbrev pub IsReplay : Option Cause → List ℕ → Type 0
-IsReplay None text = text ≡ unbuilt_line
-IsReplay (Some cause) text = (reply : List ℕ) × ((line_of : RowValue → List ℕ) → IsTableReply line_of (opened ∷ []) reply) × (text ≡ reply ++ stop_line cause)
+-- the bytes are the reply of a command on these entries
+abbrev pub IsReply : Command → List EntryValue → List ℕ → Type 0
+IsReply ReplayTable entries bytes = IsTableReply (route_line 0) entries bytes
+IsReply Check entries bytes = bytes ≡ check_lines entries
 
 -- The yard handed out the first port that waits under the number 0, and took it back: what it showed then stands in this
 -- relation to its plan.
@@ -58,22 +46,35 @@ abbrev pub Refuses : Option YardValue → Option YardValue → ℕ → Type 0
 Refuses None new number = new ≡ None
 Refuses (Some old) new number = (Contains old.fails number ⊎ (old.ports ≡ [])) × (new ≡ Some old)
 
+-- What a command comes to by the yard, before anything is written: the status that is meant, and the text. Replies says
+-- which bytes are its reply on some entries.
+pub data Runs (Replies : List EntryValue → List ℕ → Type 0) (old new : Option YardValue) (number : ℕ) : Status → List ℕ → Type 0 where
+  -- the yard refused the port: nothing is written
+  refused : Refuses old new number → Runs Replies old new number YardFault []
+  -- the input was taken: the reply on its opening and its messages, then the stop line, and the port is given back
+  replied : (input : Given) (messages : List EntryValue) (cause : Cause) (reply : List ℕ) → HasCome input messages cause → Replies (opened ∷ messages) reply
+      → LendsWhereTold (λ plan shows. Comes plan shows input messages cause) old new → Runs Replies old new number (status_of cause) (reply ++ stop_line cause)
+  -- want of memory while the input was taken: nothing is written, and the port is given back
+  starved : LendsWhereTold (λ plan shows. Unit {0}) old new → Runs Replies old new number NoMemory []
+
 -- What a call comes to by its words and the yard, before anything is written: how many calls of the yard were made then, the
 -- status that is meant, and the text.
 pub data Means (words : List (List ℕ)) (old new : Option YardValue) (number : ℕ) : ℕ → Status → List ℕ → Type 0 where
   -- the words are no command: the usage line, and the yard is asked for nothing
-  usage : (IsReplayTable words → ⊥) → new ≡ old → Means words old new number number Usage usage_line
-  -- the yard refused the port: nothing is written
-  refused : IsReplayTable words → Refuses old new number → Means words old new number (one_more number) YardFault []
-  -- the input was taken: what it came to, and the port is given back
-  replayed : (cause : Option Cause) (text : List ℕ) → IsReplayTable words → IsReplay cause text → LendsWhereTold (λ plan shows. Comes plan shows cause) old new → Means words old new number (one_more number) (status_of cause) text
-  -- want of memory, before the port was asked for or after it was given back: nothing is written
-  starved : new ≡ old → Means words old new number number NoMemory []
-  starved_later : IsReplayTable words → LendsWhereTold (λ plan shows. Unit {0}) old new → Means words old new number (one_more number) NoMemory []
+  usage : ((command : Command) → IsCommand command words → ⊥) → new ≡ old → Means words old new number number Usage usage_line
+  -- they are this command
+  commanded : (command : Command) (status : Status) (text : List ℕ) → IsCommand command words → Runs (IsReply command) old new number status text → Means words old new number (one_more number) status text
 
 -- The text was written and the status is the one that is meant; or a write failed, and a front of the text was written.
 abbrev pub IsWritten : Option (List ℕ) → Option (List ℕ) → List ℕ → Status → Status → Type 0
 IsWritten old new text meant status = ((status ≡ meant) × Appends old new text) ⊎ ((status ≡ WriteFault) × AppendsFront old text new)
+
+-- what a command answers, and what it wrote
+pub record Concludes (Replies : List EntryValue → List ℕ → Type 0) (old new : Option YardValue) (number : ℕ) (told0 told1 : Option (List ℕ)) (status : Status) : Type 0 where
+  pub meant : Status
+  pub text : List ℕ
+  pub runs : Runs Replies old new number meant text
+  pub written : IsWritten told0 told1 text meant status
 
 -- what a call answers, and what it wrote
 pub record Answers (words : List (List ℕ)) (old new : Option YardValue) (number calls : ℕ) (told0 told1 : Option (List ℕ)) (status : Status) : Type 0 where
@@ -86,3 +87,23 @@ pub record Answers (words : List (List ℕ)) (old new : Option YardValue) (numbe
 pub record IsCause (before now : ℕ) (status fault : Status) : Type 0 where
   pub rose : status ≡ fault → Rose before now
   pub calm : status ≢ fault → now ≡ before
+
+-- What the yard and its port came to: how the input was taken, with what the ledger then stands for, or the status that says
+-- why it was not.
+pub record IsTaken (Stands : List EntryValue → Type 0) (old new : Option YardValue) (taken : Taken) : Type 0 where
+  pub input : Given
+  pub messages : List EntryValue
+  pub come : HasCome input messages taken.cause
+  pub noted : Stands (opened ∷ messages)
+  pub count : taken.revision ≡ length (opened ∷ messages)
+  pub lends : LendsWhereTold (λ plan shows. Comes plan shows input messages taken.cause) old new
+
+abbrev pub FromYard : (List EntryValue → Type 0) → Option YardValue → Option YardValue → ℕ → Result Taken Status → Type 0
+FromYard Stands old new number (Ok taken) = IsTaken Stands old new taken
+FromYard Stands old new number (Err YardFault) = Refuses old new number
+FromYard Stands old new number (Err NoMemory) = LendsWhereTold (λ plan shows. Unit {0}) old new
+FromYard Stands old new number (Err Done) = ⊥
+FromYard Stands old new number (Err Stopped) = ⊥
+FromYard Stands old new number (Err Usage) = ⊥
+FromYard Stands old new number (Err ReadFault) = ⊥
+FromYard Stands old new number (Err WriteFault) = ⊥

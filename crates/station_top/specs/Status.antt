@@ -1,7 +1,9 @@
 -- The exit statuses of the program.
 use Rattle.std.specs.Prelude.{ℕ}
+use Rattle.bmp_specs.specs.declared.causes.Cause.{Cause}
+use Rattle.bmp_specs.specs.declared.causes.Cause.TheVariants as cause
 use Rattle.station_top.specs.declared.status.Status.{Status}
-use Rattle.station_top.specs.declared.status.Status.TheVariants.{Done, Stopped, Usage, ReadFault, WriteFault, NoMemory, YardFault, Unbuilt}
+use Rattle.station_top.specs.declared.status.Status.TheVariants.{Done, Stopped, Usage, ReadFault, WriteFault, NoMemory, YardFault}
 
 abbrev pub code_of : Status → ℕ
 code_of Done = 0
@@ -11,4 +13,12 @@ code_of ReadFault = 3
 code_of WriteFault = 4
 code_of NoMemory = 5
 code_of YardFault = 6
-code_of Unbuilt = 7
+
+-- the status of a stream that stopped for this cause
+abbrev pub status_of : Cause → Status
+status_of cause.Ended = Done
+status_of cause.Terminated = Done
+status_of (cause.CutShort offset) = Stopped
+status_of (cause.Broken offset why) = Stopped
+status_of (cause.ReadFault offset) = ReadFault
+status_of cause.Full = Stopped

@@ -1,20 +1,25 @@
 //! The station itself: words and connections in, a reply and a status out.
 //!
 //! `station` is the top call: the program hands it its words, the yard and standard output, and ends with
-//! the status that it answers. Proved: which status comes, by the words and by what a yard in memory
-//! tells; which bytes were written; that a write fault and a yard's fault are answered exactly where one
-//! was counted; how many calls of the yard were made; and that the port is given back as it is.
+//! the status that it answers. It answers two commands: `replay table`, the routes that a router's stream
+//! leaves in its tables, and `check`, how many messages of each type it has.
 //!
-//! It answers `replay table` on the empty stream; every other stream is taken to its end and answered by
-//! the line `unbuilt`. Begin with `specs/Station.antt`, then `src/top.rt`.
+//! Proved: which status comes, by the words and by what a yard in memory tells; which bytes were written,
+//! by the walk of the bytes that were taken, in whatever pieces they came; that a write fault and a yard's
+//! fault are answered exactly where one was counted; how many calls of the yard were made; and that the
+//! port is given back as it is.
+//! Begin with `specs/Station.antt`, then `src/top.rt`.
 #![tactic(auto)]
 
+mod counts;
+mod ledger;
 mod place;
 mod put_table;
 mod status;
 mod tables;
 mod take;
 mod top;
+mod words;
 
 pub use status::Status;
 pub use take::{MOST_READ, MOST_TAKEN};

@@ -17,8 +17,6 @@ pub enum Status {
     NoMemory,
     /// The yard failed.
     YardFault,
-    /// The stream isn't empty, and the station reads no messages yet.
-    Unbuilt,
 }
 
 impl Status {
@@ -36,7 +34,6 @@ impl Status {
             Status::WriteFault => 4,
             Status::NoMemory => 5,
             Status::YardFault => 6,
-            Status::Unbuilt => 7,
         }
     }
 }

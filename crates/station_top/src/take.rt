@@ -1,10 +1,16 @@
-ghost use Rattle.std.specs.Prelude.{◌≡◌};
-ghost use Rattle.wire_io.specs.Aside.{Plan};
-ghost use Rattle.station_doors.specs.Doors.{untouched};
-ghost use Rattle.station_top.specs.Input.{cause_of, unless_some};
-ghost use Rattle.station_top.specs.Take.{IsNew, Takes, Comes};
+ghost use Rattle.std.specs.Prelude.{◌≡◌, ℕ, List, ◌∷◌, [], IfOk};
+ghost use Rattle.bmp_specs.specs.Values.{opened};
+ghost use Rattle.bmp_message.specs.StreamWalk.{rest_of, fed_of};
+ghost use Rattle.station_top.specs.Ledger.{HasDrawn, Draws};
+ghost use Rattle.station_top.specs.Take.{IsNew, Takes, TakesInput, cause_at_end};
 
+use crate::ledger::Ledger;
+use bmp_message::{Progress, StreamWalk};
+use bmp_specs::Cause;
+use rib_model::Entry;
 use station_doors::Port;
+use std::alloc::Global;
+use wire_io::NoMemory;
 
 /// The most bytes that are taken of one connection, 2^46.
 pub const MOST_TAKEN: u64 = 0x4000_0000_0000;
@@ -12,50 +18,116 @@ pub const MOST_TAKEN: u64 = 0x4000_0000_0000;
 /// The most bytes that one read gives.
 pub const MOST_READ: u64 = 65536;
 
-// What the one input connection comes to: no byte came, and it ended or a read failed; or bytes came.
+// How the input was taken: why it ended, and how many entries were noted, its opening among them.
 #[derive(Clone, Copy, Debug, PartialEq, Eq)]
-pub enum Input {
-    Empty,
-    Fault,
-    Bytes,
+pub struct Taken {
+    pub cause: Cause,
+    pub revision: u64,
 }
 
-// Takes the one input connection of a port to its end, and closes it. Where there is none it is an empty one.
-pub fn take_input<P: Port>(port: &mut P) -> Input
-    ensures { (plan : Plan) → P.aside port.old ≡ untouched plan → P.calls port.old ≡ 0 → Comes plan (P.aside port.new) (cause_of result) }
+// Takes the one input connection of a port, and closes it. Where there is none it is an empty one. The ledger takes its
+// opening and its messages.
+pub fn take_input<P: Port, L: Ledger>(
+    alloc: Global,
+    port: &mut P,
+    ledger: &mut L,
+) -> Result<Taken, NoMemory>
+    requires { L.stands ledger.old [] }
+    ensures { IfOk result (TakesInput (L.stands ledger.new) (P.aside port.old) (P.aside port.new) (P.calls port.old)) }
 {
+    ledger.note(&Entry::Opened)?;
     match port.next_connection() {
         Ok(true) => {
-            let input = take_bytes(port);
+            let taken = take_bytes(alloc, port, ledger);
             port.close();
-            input
+            taken
         }
-        Ok(false) => Input::Empty,
-        Err(_) => Input::Fault,
+        Ok(false) => Ok(untaken(Cause::Ended)),
+        Err(_) => Ok(untaken(Cause::ReadFault { offset: 0 })),
     }
 }
 
-// Takes the present connection to its end, or to the limit of one connection.
-fn take_bytes<P: Port>(port: &mut P) -> Input
-    requires { IsNew (P.aside port.old) }
-    ensures { Takes (P.aside port.old) (P.aside port.new) (P.calls port.old) result }
+// Of a connection of which nothing was taken.
+fn untaken(cause: Cause) -> Taken
+    ensures { result ≡ record { cause = cause; revision = 1 } }
 {
+    Taken { cause, revision: 1 }
+}
+
+// Takes the present connection to its end, to the end of its walk, or to the limit of one connection.
+fn take_bytes<P: Port, L: Ledger>(
+    alloc: Global,
+    port: &mut P,
+    ledger: &mut L,
+) -> Result<Taken, NoMemory>
+    requires new { IsNew (P.aside port.old) }
+    requires opened { L.stands ledger.old (opened ∷ []) }
+    ensures { IfOk result (Takes (L.stands ledger.new) (P.aside port.old) (P.aside port.new) (P.calls port.old)) }
+{
+    let mut walk = StreamWalk::new(alloc);
     let mut buf = [0u8; MOST_READ as usize];
     let mut taken = 0;
+    let mut revision = 1;
     while taken < MOST_TAKEN {
         let size = MOST_READ.min(MOST_TAKEN - taken) as usize;
         match port.read(&mut buf[..size]) {
-            Ok(0) => return unless_some_came(taken, Input::Empty),
-            Ok(count) => taken += count as u64,
-            Err(_) => return unless_some_came(taken, Input::Fault),
+            Ok(0) => return Ok(Taken {
+                cause: at_end(&walk),
+                revision,
+            }),
+            Ok(count) => {
+                walk.feed(&buf[..count])?;
+                taken += count as u64;
+                if let Some(cause) = drain(&mut walk, ledger, &mut revision)? {
+                    return Ok(Taken { cause, revision });
+                }
+            }
+            Err(_) => return Ok(Taken {
+                cause: Cause::ReadFault { offset: taken },
+                revision,
+            }),
         }
     }
-    Input::Bytes
+    Ok(Taken {
+        cause: Cause::Full,
+        revision,
+    })
 }
 
-// The input, unless bytes came.
-fn unless_some_came(taken: u64, input: Input) -> Input
-    ensures { result ≡ unless_some taken input }
+// Why a connection ended whose bytes the walk was fed.
+fn at_end(walk: &StreamWalk) -> Cause
+    ensures { result ≡ cause_at_end (rest_of walk.now) walk.now.offset }
 {
-    if taken == 0 { input } else { Input::Bytes }
+    if walk.rest() == 0 {
+        Cause::Ended
+    } else {
+        Cause::CutShort {
+            offset: walk.offset(),
+        }
+    }
+}
+
+// Hands the entries of all whole messages to the ledger and counts them, and tells the cause where the walk ends.
+fn drain<L: Ledger>(
+    walk: &mut StreamWalk,
+    ledger: &mut L,
+    revision: &mut u64,
+) -> Result<Option<Cause>, NoMemory>
+    ensures draws { IfOk result (λ end. (fed : List ℕ) → HasDrawn (L.stands ledger.old) fed walk.old revision.old → Draws (L.stands ledger.new) fed walk.new revision.new end) }
+    ensures fed { IfOk result (λ end. fed_of walk.new ≡ fed_of walk.old) }
+{
+    loop {
+        match walk.next()? {
+            Progress::Entry(entry) => {
+                ledger.note(&entry)?;
+                *revision = revision.saturating_add(1);
+            }
+            Progress::More => return Ok(None),
+            Progress::Terminated => return Ok(Some(Cause::Terminated)),
+            Progress::Broken(why) => return Ok(Some(Cause::Broken {
+                offset: walk.offset(),
+                why,
+            })),
+        }
+    }
 }

@@ -1,98 +1,105 @@
-ghost use Rattle.std.specs.Prelude.{◌≡◌, ◌↔◌, [], IsTrue, MatchOption, IfSome, OnOk, OnErr, IfNone, OnSome, map, codes};
+ghost use Rattle.std.specs.Prelude.{◌≡◌, ℕ, [], ◌∷◌, ◌++◌, List, OnOk, OnErr, Ok, Err, map, sum_by, ◌<◌, ◌^◌};
 ghost use Rattle.std.specs.String.{string_bytes};
 ghost use Rattle.std.specs.Io.KnownBytes.{append_known};
+ghost use Rattle.bmp_specs.specs.Lines.{stop_line};
 ghost use Rattle.wire_io.specs.Aside.{laid_over};
 ghost use Rattle.wire_io.specs.Faults.{Rose};
 ghost use Rattle.wire_io.specs.Writes.{Writes};
 ghost use Rattle.station_doors.specs.Doors.{one_more};
-ghost use Rattle.station_top.specs.Input.{cause_of, text_of};
-ghost use Rattle.station_top.specs.Take.{Comes};
-ghost use Rattle.station_top.specs.Station.{IsReplayTable, Refuses, LendsWhereTold, Answers, IsCause, status_of};
+ghost use Rattle.station_top.specs.Ledger.{RepliesBy};
+ghost use Rattle.station_top.specs.Status.{status_of};
+ghost use Rattle.station_top.specs.Station.{Answers, Concludes, FromYard, IsCause, IsTaken};
 
 use crate::Status;
-use crate::take::{Input, take_input};
+use crate::counts::Counts;
+use crate::ledger::Ledger;
+use crate::tables::Tables;
+use crate::take::{Taken, take_input};
+use crate::words::{Command, read_words};
+use bmp_specs::Cause;
 use core::mem::replace_with;
+use reply_text::put_stop;
 use station_doors::Yard;
 use std::alloc::Global;
-use wire_io::{BufferedSink, Failed, Sink, write_all, write_pieces};
+use wire_io::{BufferedSink, Failed, Sink, write_all};
 
 // The line that is written where the words are no command.
 const USAGE: &str =
     "usage: bmpstation replay QUERY, check, serve OPTIONS, or drill SEED LANES MESSAGES\n";
 
-fn are_replay_table(first: &str, second: &str) -> bool
-    ensures { IsTrue result ↔ ((first.now ≡ codes "replay") × (second.now ≡ codes "table")) }
-{
-    first == "replay" && second == "table"
-}
-
-fn is_replay_table(words: &[String]) -> bool
-    ensures { IsTrue result ↔ IsReplayTable (map string_bytes words.now) }
-{
-    match words {
-        [first, second] => are_replay_table(first.as_str(), second.as_str()),
-        _ => false,
-    }
-}
-
-// Takes the one input connection of the yard's port 0, and gives the port back. None where the yard refused the port.
-fn take_from<Y: Yard>(yard: &mut Y) -> Option<Input>
-    ensures refused { IfNone result (Refuses (Y.told yard.old) (Y.told yard.new) (Y.calls yard.old)) }
-    ensures taken { IfSome result (λ input. LendsWhereTold (λ plan shows. Comes plan shows (cause_of input)) (Y.told yard.old) (Y.told yard.new)) }
-    ensures rose { IfNone result (Rose (Y.faults yard.old) (Y.faults yard.new)) }
-    ensures calm { OnSome result (Y.faults yard.new ≡ Y.faults yard.old) }
+// Takes the one input connection of the yard's port 0, and gives the port back. YardFault where the yard refused the port,
+// NoMemory on want of memory.
+fn take_from<Y: Yard, L: Ledger>(
+    alloc: Global,
+    yard: &mut Y,
+    ledger: &mut L,
+) -> Result<Taken, Status>
+    requires { L.stands ledger.old [] }
+    ensures from { FromYard (L.stands ledger.new) (Y.told yard.old) (Y.told yard.new) (Y.calls yard.old) result }
+    ensures rose { result ≡ Err Status.YardFault → Rose (Y.faults yard.old) (Y.faults yard.new) }
+    ensures calm { (result ≡ Err Status.YardFault → ⊥) → Y.faults yard.new ≡ Y.faults yard.old }
     ensures calls { Y.calls yard.new ≡ one_more (Y.calls yard.old) }
 {
     let Ok(mut port) = yard.port(0) else {
-        return None;
+        return Err(Status::YardFault);
     };
-    let input = take_input(&mut port);
+    let taken = take_input(alloc, &mut port, ledger);
     yard.take_port(0, port);
-    Some(input)
-}
-
-// Writes the reply and then the stop line.
-fn put_replay<O: Sink>(out: &mut O, input: Input) -> Result<(), Failed>
-    ensures { Writes O.faults O.told O.aside out.old (text_of input) result out.new }
-{
-    match input {
-        Input::Empty => write_pieces(out, &[b"at 1\nend 0\n", b"stop ended\n"]),
-        Input::Fault => write_pieces(out, &[b"at 1\nend 0\n", b"stop readfault 0\n"]),
-        Input::Bytes => write_all(out, b"unbuilt\n"),
+    match taken {
+        Ok(taken) => Ok(taken),
+        Err(_) => Err(Status::NoMemory),
     }
 }
 
-// Writes them through a buffer, and hands on all that is held.
-fn put_and_flush<O: Sink>(buffer: &mut BufferedSink<O>, input: Input) -> Result<(), Failed>
-    ensures empty { OnOk result (buffer.new.held ≡ []) }
-    ensures writes { Writes (λ p. O.faults p.below) (λ p. append_known (O.told p.below) p.held) (λ p. laid_over (O.told p.first) (O.aside p.below)) buffer.old (text_of input) result buffer.new }
+// Writes the reply and then the stop line.
+fn put_all<L: Ledger, O: Sink>(out: &mut O, ledger: &L, taken: Taken) -> Result<(), Failed>
+    ensures writes { Writes O.faults O.told O.aside out.old (L.text taken.revision ledger.now ++ stop_line taken.cause) result out.new }
+    ensures reply { RepliesBy (L.stands ledger.now) L.replies taken.revision (L.text taken.revision ledger.now) }
 {
-    put_replay(buffer, input)?;
+    ledger.put_reply(out, taken.revision)?;
+    put_stop(out, &taken.cause)
+}
+
+// Writes them through a buffer, and hands on all that is held.
+fn put_and_flush<L: Ledger, O: Sink>(
+    buffer: &mut BufferedSink<O>,
+    ledger: &L,
+    taken: Taken,
+) -> Result<(), Failed>
+    ensures empty { OnOk result (buffer.new.held ≡ []) }
+    ensures writes { Writes (λ p. O.faults p.below) (λ p. append_known (O.told p.below) p.held) (λ p. laid_over (O.told p.first) (O.aside p.below)) buffer.old (L.text taken.revision ledger.now ++ stop_line taken.cause) result buffer.new }
+    ensures reply { RepliesBy (L.stands ledger.now) L.replies taken.revision (L.text taken.revision ledger.now) }
+{
+    put_all(buffer, ledger, taken)?;
     buffer.flush()
 }
 
-fn write_to<O: Sink>(out: O, input: Input) -> (O, Result<(), Failed>)
-    ensures { Writes O.faults O.told O.aside out (text_of input) result.1 result.0 }
+fn write_to<L: Ledger, O: Sink>(out: O, ledger: &L, taken: Taken) -> (O, Result<(), Failed>)
+    ensures writes { Writes O.faults O.told O.aside out (L.text taken.revision ledger.now ++ stop_line taken.cause) result.1 result.0 }
+    ensures reply { RepliesBy (L.stands ledger.now) L.replies taken.revision (L.text taken.revision ledger.now) }
 {
     let mut buffer = BufferedSink::new(out);
-    let result = put_and_flush(&mut buffer, input);
+    let result = put_and_flush(&mut buffer, ledger, taken);
     (buffer.into_inner(), result)
 }
 
-fn write_replay<O: Sink>(out: &mut O, input: Input) -> Result<(), Failed>
-    ensures { Writes O.faults O.told O.aside out.old (text_of input) result out.new }
+fn write_reply<L: Ledger, O: Sink>(out: &mut O, ledger: &L, taken: Taken) -> Result<(), Failed>
+    ensures writes { Writes O.faults O.told O.aside out.old (L.text taken.revision ledger.now ++ stop_line taken.cause) result out.new }
+    ensures reply { RepliesBy (L.stands ledger.now) L.replies taken.revision (L.text taken.revision ledger.now) }
 {
-    replace_with(out, input, |out, input| write_to(out, input))
+    replace_with(out, (ledger, taken), |out, (ledger, taken)| {
+        write_to(out, ledger, taken)
+    })
 }
 
-// The status of a stream that came to this.
-fn status_after(input: Input) -> Status
-    ensures { result ≡ status_of (cause_of input) }
+// The status of a stream that stopped for this cause.
+fn status_after(cause: Cause) -> Status
+    ensures { result ≡ status_of cause }
 {
-    match input {
-        Input::Empty => Status::Done,
-        Input::Fault => Status::ReadFault,
-        Input::Bytes => Status::Unbuilt,
+    match cause {
+        Cause::Ended | Cause::Terminated => Status::Done,
+        Cause::CutShort { .. } | Cause::Broken { .. } | Cause::Full => Status::Stopped,
+        Cause::ReadFault { .. } => Status::ReadFault,
     }
 }
 
@@ -107,12 +114,32 @@ fn unless_failed(write: Result<(), Failed>, status: Status) -> Status
     }
 }
 
+// Takes the input into the ledger, and writes its reply and the stop line.
+fn run<L: Ledger + Drop, Y: Yard, O: Sink>(
+    alloc: Global,
+    mut ledger: L,
+    yard: &mut Y,
+    out: &mut O,
+) -> Status
+    requires { L.stands ledger [] }
+    ensures concludes { Concludes L.replies (Y.told yard.old) (Y.told yard.new) (Y.calls yard.old) (O.told out.old) (O.told out.new) result }
+    ensures calls { Y.calls yard.new ≡ one_more (Y.calls yard.old) }
+    ensures out { IsCause (O.faults out.old) (O.faults out.new) result Status.WriteFault }
+    ensures yard { IsCause (Y.faults yard.old) (Y.faults yard.new) result Status.YardFault }
+    ensures aside { O.aside out.new ≡ O.aside out.old }
+{
+    match take_from(alloc, yard, &mut ledger) {
+        Ok(taken) => unless_failed(write_reply(out, &ledger, taken), status_after(taken.cause)),
+        Err(status) => status,
+    }
+}
+
 /// Runs the command that the words are: takes what it needs from the yard, writes to `out` and tells how it
 /// ended. The words don't hold the program's name.
 ///
-/// `replay table` takes the one input connection of the yard's port 0 to its end and gives the port back.
-/// Until the messages are read it answers the empty stream alone: the reply of `table`, which has no row,
-/// and the stop line. Other words are usage.
+/// `replay table` and `check` take the one input connection of the yard's port 0, up to 2^46 bytes, give the
+/// port back, and then write the reply on what the messages of the stream said and the stop line. The reply
+/// of `replay table` is on the opening and the messages, and not on the closing. Other words are usage.
 pub fn station<Y: Yard, O: Sink>(
     alloc: Global,
     words: &[String],
@@ -128,12 +155,9 @@ pub fn station<Y: Yard, O: Sink>(
 
     ensures aside { O.aside out.new ≡ O.aside out.old }
 {
-    let _ = alloc;
-    if !is_replay_table(words) {
-        return unless_failed(write_all(out, USAGE.as_bytes()), Status::Usage);
+    match read_words(words) {
+        Some(Command::ReplayTable) => run(alloc, Tables::new(alloc), yard, out),
+        Some(Command::Check) => run(alloc, Counts::new(), yard, out),
+        None => unless_failed(write_all(out, USAGE.as_bytes()), Status::Usage),
     }
-    let Some(input) = take_from(yard) else {
-        return Status::YardFault;
-    };
-    unless_failed(write_replay(out, input), status_after(input))
 }

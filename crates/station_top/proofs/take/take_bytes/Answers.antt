@@ -1,20 +1,62 @@
-use Rattle.std.proofs.Common.{◌<◌, ◌≤◌, length, drop, length-append, length-drop, length-take, arith}
-use Rattle.station_top.proofs.Taking.{goes_more, takes_end, takes_fault}
+use Rattle.std.proofs.Common.{◌≡◌, ◌<◌, ◌≤◌, ◌+◌, ◌++◌, refl, ap, length, take, drop, length-append, length-drop, length-take, arith}
+use Rattle.std.proofs.lemmas.List.{take-append-le}
+use Rattle.bmp_specs.specs.declared.causes.Cause.{Cause}
+use Rattle.station_top.specs.declared.take.Taken.{Taken}
+use Rattle.station_top.proofs.Taking.{taking_none, taking_more, takes_end, takes_early, takes_fault, takes_full, drawn_fed}
 use Rattle.station_top.proofs.take.take_bytes.Goals as goal
+
+pub loop-taken-init : goal.loop-taken-init
+loop-taken-init g c = record {
+  taking = taking_none (g.L.Ledger.stands c.args.ledger.now) (g.P.Port.aside c.args.port.now) (g.P.Port.calls c.args.port.now) c.new-walk.result c.requires.new c.requires.opened c.new-walk.ensures.run c.new-walk.ensures.start;
+  within = omega arith;
+  room = refl;
+}
 
 pub returns-in-Ok-eq0 : goal.returns-in-Ok-eq0
 returns-in-Ok-eq0 g c =
-    let some : 0 < length c.read.new.buf = omega (arith, length-take c.min-size.result c.loop-taken.buf) in
-    takes_end _ _ _ _ _ c.loop-taken.taken c.read.new.buf _ c.loop-taken.invariant.goes (rw c.in-Ok-eq0.field-0-test at c.in-Ok-eq0.ensures.reads) some c.unless_some_came.ensures
+    let l = c.loop-taken in
+    let some : 0 < length c.read.new.buf = omega (arith, length-take c.min-size.result l.buf) in
+    takes_end (g.L.Ledger.stands l.ledger) _ _ _ _ l.taken l.walk l.revision l.invariant.taking _ c.read.new.buf _ (rw c.in-Ok-eq0.field-0-test at c.in-Ok-eq0.ensures.reads) some c.loop-taken-test.true
+    (ap (λ (k : Cause). let t : Taken = record { cause = k; revision = l.revision } in t) c.at_end.ensures)
+
+pub returns-in-Err : goal.returns-in-Err
+returns-in-Err g c =
+    let l = c.loop-taken in
+    takes_fault (g.L.Ledger.stands l.ledger) _ _ _ _ l.taken l.walk l.revision l.invariant.taking _ _ c.read.new.buf _ _ c.in-Err.ensures.reads c.in-Err.ensures.planned c.loop-taken-test.true refl
+
+pub returns-in-Some : goal.returns-in-Some
+returns-in-Some g c =
+    let l = c.loop-taken in
+    let m = c.in-Ok.count in
+    let buf = c.read.new.buf in
+    let within : m ≤ length buf = omega (arith, c.in-Ok.ensures.bound.0) in
+    let room : l.taken + m ≤ 70368744177664 = omega (arith, within, length-take c.min-size.result l.buf) in
+    let piece : take m (buf ++ drop c.min-size.result l.buf) ≡ take m buf = take-append-le m buf (drop c.min-size.result l.buf) within in
+    let fed = rw piece at c.in_ok-feed-in-Ok.ensures.run in
+    let drawn = drawn_fed (g.L.Ledger.stands l.ledger) _ _ _ _ l.taken l.walk l.revision l.invariant.taking (take m buf) c.feed.new.self fed in
+    let draws = rw c.in-Some.is at c.in_ok-cause-in-Ok.ensures.draws in
+    takes_early (g.L.Ledger.stands l.ledger) _ _ _ _ l.taken l.walk l.revision l.invariant.taking (g.L.Ledger.stands c.drain.new.ledger) _ _ m buf c.in-Some.cause c.drain.new.revision _ c.in-Ok.ensures.reads c.in-Ok.ensures.planned c.in-Ok.count-test.1 within room
+    (draws _ drawn) refl
 
 pub loop-taken-preserved : goal.loop-taken-preserved
 loop-taken-preserved g c =
-    let within : c.in-Ok.count ≤ length c.read.new.buf = omega (arith, c.in-Ok.ensures.bound.0) in
+    let l = c.loop-taken in
+    let m = c.in-Ok.count in
+    let buf = c.read.new.buf in
+    let within : m ≤ length buf = omega (arith, c.in-Ok.ensures.bound.0) in
+    let piece : take m (buf ++ drop c.min-size.result l.buf) ≡ take m buf = take-append-le m buf (drop c.min-size.result l.buf) within in
+    let fed = rw piece at c.in_ok-feed-in-Ok.ensures.run in
+    let drawn = drawn_fed (g.L.Ledger.stands l.ledger) _ _ _ _ l.taken l.walk l.revision l.invariant.taking (take m buf) c.feed.new.self fed in
+    let draws = rw c.in_default.is at c.in_ok-cause-in-Ok.ensures.draws in
     record {
-      goes = goes_more _ _ _ _ _ _ c.loop-taken.taken c.in-Ok.count c.read.new.buf c.loop-taken.invariant.goes c.in-Ok.ensures.reads c.in-Ok.ensures.planned c.in-Ok.count-test.1 within;
-      within = omega (arith, within, length-take c.min-size.result c.loop-taken.buf);
-      room = omega (arith, length-append c.read.new.buf (drop c.min-size.result c.loop-taken.buf), length-take c.min-size.result c.loop-taken.buf, length-drop c.min-size.result c.loop-taken.buf, c.loop-taken.invariant.room);
+      taking = taking_more (g.L.Ledger.stands l.ledger) _ _ _ _ l.taken l.walk l.revision l.invariant.taking (g.L.Ledger.stands c.drain.new.ledger) _ _ m buf c.drain.new.walk c.drain.new.revision c.in-Ok.ensures.reads c.in-Ok.ensures.planned c.in-Ok.count-test.1 within
+          (draws _ drawn);
+      within = omega (arith, within, length-take c.min-size.result l.buf);
+      room = omega (arith, length-append buf (drop c.min-size.result l.buf), length-take c.min-size.result l.buf, length-drop c.min-size.result l.buf, l.invariant.room);
     }
 
-pub returns-in-Err : goal.returns-in-Err
-returns-in-Err g c = takes_fault _ _ _ _ _ _ c.loop-taken.taken c.read.new.buf _ _ c.loop-taken.invariant.goes c.in-Err.ensures.reads c.in-Err.ensures.planned c.unless_some_came-in-Err.ensures
+pub returns : goal.returns
+returns g c =
+    let l = c.loop-taken in
+    let full : l.taken ≡ 70368744177664 = omega (arith, l.invariant.within) in
+    takes_full (g.L.Ledger.stands l.ledger) _ _ _ _ l.taken l.walk l.revision l.invariant.taking _ full refl

@@ -1,10 +1,10 @@
 use Rattle.std.proofs.Common.{◌≡◌, ◌-◌, ◌≤◌, length}
-use Rattle.station_top.proofs.Taking.{Goes}
+use Rattle.station_top.proofs.Taking.{Taking}
 use Rattle.station_top.proofs.take.take_bytes.Given as goal
 
 abbrev pub invariant-loop-taken : goal.invariant-loop-taken
 invariant-loop-taken g l = record {
-  goes : Goes (g.P.Port.aside l.initial.port) (g.P.Port.aside l.port) (g.P.Port.calls l.initial.port) (g.P.Port.calls l.port) l.taken;
+  taking : Taking (g.L.Ledger.stands l.ledger) (g.P.Port.aside l.initial.port) (g.P.Port.aside l.port) (g.P.Port.calls l.initial.port) (g.P.Port.calls l.port) l.taken l.walk l.revision;
   within : l.taken ≤ 70368744177664;
   room : length l.buf ≡ 65536;
 }

@@ -1,13 +1,21 @@
-use Rattle.std.proofs.Common.{◌∙◌}
-use Rattle.station_top.proofs.Taking.{is_new, comes, comes_unopened}
+use Rattle.std.proofs.Common.{[]}
+use Rattle.station_top.proofs.Coming.{is_new, takes_opened_ok, takes_none, takes_unopened}
 use Rattle.station_top.proofs.take.take_input.Goals as goal
 
-pub take_bytes-input-requires : goal.take_bytes-input-requires
-take_bytes-input-requires g c = is_new (g.P.Port.aside c.args.port.now) _ (rw c.in-Ok-true.field-0-test at c.in-Ok-true.ensures.opens)
+pub take_bytes-taken-requires-clause-new : goal.take_bytes-taken-requires-clause-new
+take_bytes-taken-requires-clause-new g c = is_new (g.P.Port.aside c.args.port.now) _ (rw c.in-Ok-true.field-0-test at c.in-Ok-true.ensures.opens)
+
+pub take_bytes-taken-requires-clause-opened : goal.take_bytes-taken-requires-clause-opened
+take_bytes-taken-requires-clause-opened g c = c.in_ok-note.ensures [] c.requires
 
 pub returns-in-Ok-true : goal.returns-in-Ok-true
-returns-in-Ok-true g c plan untouched none = comes plan (g.P.Port.aside c.args.port.now) (g.P.Port.aside c.next_connection.new.self) (g.P.Port.aside c.take_bytes-input.new.port) (g.P.Port.aside c.close.new.self) (g.P.Port.calls c.next_connection.new.self) c.take_bytes-input.result
-    untouched (c.in-Ok-true.ensures.calls ∙ none) (rw c.in-Ok-true.field-0-test at c.in-Ok-true.ensures.opens) c.take_bytes-input.ensures c.close.ensures.closes
+returns-in-Ok-true g c = takes_opened_ok (g.L.Ledger.stands c.take_bytes-taken.new.ledger) (g.P.Port.aside c.args.port.now) (g.P.Port.aside c.next_connection.new.self) (g.P.Port.aside c.take_bytes-taken.new.port) (g.P.Port.aside c.close.new.self) (g.P.Port.calls c.args.port.now) _
+    c.take_bytes-taken.result c.take_bytes-taken.ensures (rw c.in-Ok-true.field-0-test at c.in-Ok-true.ensures.opens) c.close.ensures.closes c.in-Ok-true.ensures.calls
+
+pub returns-in-Ok-false : goal.returns-in-Ok-false
+returns-in-Ok-false g c = takes_none (g.L.Ledger.stands c.note.new.self) (g.P.Port.aside c.args.port.now) (g.P.Port.aside c.next_connection.new.self) (g.P.Port.calls c.args.port.now) c.untaken.result (c.in_ok-note.ensures [] c.requires)
+    (rw c.in-Ok-false.field-0-test at c.in-Ok-false.ensures.opens) c.untaken.ensures
 
 pub returns-in-Err : goal.returns-in-Err
-returns-in-Err g c plan untouched none = comes_unopened plan (g.P.Port.aside c.args.port.now) (g.P.Port.aside c.next_connection.new.self) c.in-Err.field-0 untouched c.in-Err.ensures.opens c.in-Err.ensures.planned
+returns-in-Err g c = takes_unopened (g.L.Ledger.stands c.note.new.self) (g.P.Port.aside c.args.port.now) (g.P.Port.aside c.next_connection.new.self) (g.P.Port.calls c.args.port.now) c.in-Err.field-0 c.untaken-in-Err.result (c.in_ok-note.ensures [] c.requires)
+    c.in-Err.ensures.opens c.in-Err.ensures.planned c.untaken-in-Err.ensures

@@ -1,6 +1,5 @@
-use Rattle.station_top.specs.Input.{cause_of}
-use Rattle.station_top.proofs.Replaying.{lends}
+use Rattle.station_top.proofs.Concluding.{is_taken}
 use Rattle.station_top.proofs.top.take_from.Goals as goal
 
-pub returns-clause-taken : goal.returns-clause-taken
-returns-clause-taken g c = lends g.Y.Port.Port.aside g.Y.Port.Port.calls (g.Y.Yard.told c.args.yard.now) _ (g.Y.Yard.told c.take_port.new.self) _ c.in-Ok.port _ (cause_of c.take_input-input.result) c.in-Ok.ensures.told c.take_input-input.ensures c.take_port.ensures.told
+pub returns-in-Ok-taken-clause-from : goal.returns-in-Ok-taken-clause-from
+returns-in-Ok-taken-clause-from g c = is_taken (g.L.Ledger.stands c.take_input-taken.new.ledger) g.Y.Port.Port.aside g.Y.Port.Port.calls (g.Y.Yard.told c.args.yard.now) _ (g.Y.Yard.told c.take_port.new.self) _ c.in-Ok.port _ c.in-Ok-taken.taken c.in-Ok.ensures.told c.in-Ok-taken.ensures c.take_port.ensures.told

@@ -1,0 +1,13 @@
+use Rattle.std.proofs.Common.{◌≡◌, ℕ, List}
+use Rattle.bmp_message.specs.StreamWalk.{fed_of, rest_of}
+use Rattle.station_top.specs.Ledger.{HasDrawn}
+use Rattle.station_top.proofs.take.drain.Given as goal
+
+abbrev pub invariant-loop-entry : goal.invariant-loop-entry
+invariant-loop-entry g l = record {
+  fed : fed_of l.walk ≡ fed_of l.initial.walk;
+  drawn : (fed : List ℕ) → HasDrawn (g.L.Ledger.stands l.initial.ledger) fed l.initial.walk l.initial.revision → HasDrawn (g.L.Ledger.stands l.ledger) fed l.walk l.revision;
+}
+
+abbrev pub decreases-loop-entry : goal.decreases-loop-entry
+decreases-loop-entry g l = rest_of l.walk

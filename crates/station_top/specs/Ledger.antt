@@ -1,0 +1,53 @@
+-- What the entries of the input go to, one after another.
+use Rattle.std.specs.Prelude.{◌≡◌, ℕ, ◌^◌, ◌<◌, List, ◌∷◌, length, sum_by, Option, Some, None}
+use Rattle.bmp_specs.specs.declared.causes.Cause.{Cause}
+use Rattle.bmp_specs.specs.declared.causes.Cause.TheVariants as cause
+use Rattle.bmp_specs.specs.Check.{length_of}
+use Rattle.bmp_specs.specs.MessageBody.{no_peers}
+use Rattle.bmp_specs.specs.MessageEffects.{IsMessageEntry}
+use Rattle.bmp_specs.specs.Reply.{told_count}
+use Rattle.bmp_specs.specs.Values.{EntryValue, opened}
+use Rattle.bmp_specs.specs.Walk.{Walks, terminated, broken}
+use Rattle.bmp_message.specs.StreamWalk.{WalkValue, HasReached, EndsAt, rest_of, verdict_with}
+
+-- The text is the reply on the entries that the ledger stands for, where this is their number, and fewer than 2^64 bytes came.
+abbrev pub RepliesBy : (List EntryValue → Type 0) → (List EntryValue → List ℕ → Type 0) → ℕ → List ℕ → Type 0
+RepliesBy Stands Replies revision text = (entries : List EntryValue) → Stands entries → revision ≡ length entries → sum_by length_of entries < 2 ^ 64 → Replies entries text
+
+-- the ledger stands for the opening and these messages, so many entries
+pub record HasNoted (Stands : List EntryValue → Type 0) (messages : List EntryValue) (revision : ℕ) : Type 0 where
+  pub noted : Stands (opened ∷ messages)
+  pub count : revision ≡ told_count (length (opened ∷ messages))
+
+-- a walk of these bytes gave the messages that were noted
+pub record HasDrawn (Stands : List EntryValue → Type 0) (fed : List ℕ) (walk : WalkValue) (revision : ℕ) : Type 0 where
+  pub messages : List EntryValue
+  pub reached : HasReached fed messages walk
+  pub noted : HasNoted Stands messages revision
+
+-- The walk of these bytes, whatever comes after them, has these messages and ends for this cause.
+abbrev pub EndsBy : List ℕ → List EntryValue → Cause → Type 0
+EndsBy fed messages cause.Terminated = (offset : ℕ) × EndsAt fed messages offset terminated
+EndsBy fed messages (cause.Broken offset why) = EndsAt fed messages offset (broken why)
+EndsBy fed messages cause.Ended = ⊥
+EndsBy fed messages (cause.CutShort offset) = ⊥
+EndsBy fed messages (cause.ReadFault offset) = ⊥
+EndsBy fed messages cause.Full = ⊥
+
+-- all whole messages of the bytes were noted, and the walk goes on where more comes
+pub record IsDrained (Stands : List EntryValue → Type 0) (fed : List ℕ) (walk : WalkValue) (revision : ℕ) : Type 0 where
+  pub messages : List EntryValue
+  pub reached : HasReached fed messages walk
+  pub walks : Walks IsMessageEntry no_peers fed messages walk.offset (verdict_with (rest_of walk))
+  pub noted : HasNoted Stands messages revision
+
+-- all messages of the bytes were noted, and the walk ends here
+pub record IsEnded (Stands : List EntryValue → Type 0) (fed : List ℕ) (revision : ℕ) (cause : Cause) : Type 0 where
+  pub messages : List EntryValue
+  pub ends : EndsBy fed messages cause
+  pub noted : HasNoted Stands messages revision
+
+-- what was drawn of a walk
+abbrev pub Draws : (List EntryValue → Type 0) → List ℕ → WalkValue → ℕ → Option Cause → Type 0
+Draws Stands fed walk revision None = IsDrained Stands fed walk revision
+Draws Stands fed walk revision (Some cause) = IsEnded Stands fed revision cause

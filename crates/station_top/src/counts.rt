@@ -1,0 +1,127 @@
+ghost use Rattle.std.specs.Prelude.{◌≡◌, ◌+◌, ◌-◌, ◌^◌, [], ◌++◌, List, ℕ, codes, OnOk};
+ghost use Rattle.bmp_specs.specs.Lines.{number_line};
+ghost use Rattle.bmp_specs.specs.Values.{EntryValue};
+ghost use Rattle.wire_io.specs.Writes.{Writes};
+ghost use Rattle.station_top.specs.Check.{AreCounts, counted, counts_more, number_lines};
+
+use crate::ledger::Ledger;
+use itoa::Buffer;
+use rib_model::Entry;
+use wire_io::{Failed, NoMemory, Sink, write_pieces};
+
+/// The counts of `check`: the messages, their bytes, and how many are of each type (RFC 7854, section
+/// 4.1). Each stops at the greatest number of 64 bits.
+#[derive(Drop)]
+pub struct Counts {
+    pub messages: u64,
+    pub bytes: u64,
+    pub route_monitoring: u64,
+    pub statistics_report: u64,
+    pub peer_down: u64,
+    pub peer_up: u64,
+    pub initiation: u64,
+    pub termination: u64,
+    pub route_mirroring: u64,
+    pub other: u64,
+}
+
+impl Counts {
+    /// The counts of no entries.
+    pub fn new() -> Counts
+        ensures { AreCounts result [] }
+    {
+        Counts {
+            messages: 0,
+            bytes: 0,
+            route_monitoring: 0,
+            statistics_report: 0,
+            peer_down: 0,
+            peer_up: 0,
+            initiation: 0,
+            termination: 0,
+            route_mirroring: 0,
+            other: 0,
+        }
+    }
+
+    // Counts a message of this type and length.
+    fn count(&mut self, kind: u8, length: u32)
+        ensures { self.new ≡ counts_more self.old kind length }
+    {
+        self.messages = self.messages.saturating_add(1);
+        self.bytes = self.bytes.saturating_add(length as u64);
+        self.route_monitoring = add_where(self.route_monitoring, kind == 0);
+        self.statistics_report = add_where(self.statistics_report, kind == 1);
+        self.peer_down = add_where(self.peer_down, kind == 2);
+        self.peer_up = add_where(self.peer_up, kind == 3);
+        self.initiation = add_where(self.initiation, kind == 4);
+        self.termination = add_where(self.termination, kind == 5);
+        self.route_mirroring = add_where(self.route_mirroring, kind == 6);
+        self.other = add_where(self.other, 6 < kind);
+    }
+}
+
+impl Ledger for Counts {
+    ghost use Rattle.bmp_specs.specs.Check.{check_lines};
+    ghost use Rattle.std.specs.Prelude.{◌≡◌};
+    ghost use Rattle.station_top.specs.Check.{AreCounts, lines_of};
+
+    ghost stands = { AreCounts };
+
+    ghost replies = { λ entries bytes. bytes ≡ check_lines entries };
+
+    ghost text = { λ revision counts. lines_of counts };
+
+    fn note(&mut self, entry: &Entry) -> Result<(), NoMemory> {
+        if let Entry::Message { kind, length, .. } = entry {
+            self.count(*kind, *length);
+        }
+        Ok(())
+    }
+
+    fn put_reply<O: Sink>(&self, out: &mut O, revision: u64) -> Result<(), Failed> {
+        let _ = revision;
+        put_numbers(
+            out,
+            &[
+                (b"messages", self.messages),
+                (b"bytes", self.bytes),
+                (b"route-monitoring", self.route_monitoring),
+                (b"statistics-report", self.statistics_report),
+                (b"peer-down", self.peer_down),
+                (b"peer-up", self.peer_up),
+                (b"initiation", self.initiation),
+                (b"termination", self.termination),
+                (b"route-mirroring", self.route_mirroring),
+                (b"other", self.other),
+            ],
+        )
+    }
+}
+
+// A count, and one more where it counts.
+fn add_where(count: u64, yes: bool) -> u64
+    ensures { result ≡ counted count yes }
+{
+    if yes { count.saturating_add(1) } else { count }
+}
+
+// Writes a line of a word and a number.
+fn put_number<O: Sink>(out: &mut O, word: &[u8], number: u64) -> Result<(), Failed>
+    ensures { Writes O.faults O.told O.aside out.old (number_line word.now number) result out.new }
+{
+    write_pieces(
+        out,
+        &[word, b" ", Buffer::new().format(number).as_bytes(), b"\n"],
+    )
+}
+
+// Writes these lines.
+fn put_numbers<O: Sink>(out: &mut O, lines: &[(&[u8], u64)]) -> Result<(), Failed>
+    ensures { Writes O.faults O.told O.aside out.old (number_lines lines.now) result out.new }
+{
+    for (word, number) in lines {
+        put_number(out, word, *number)?;
+    }
+    Ok(())
+}
