@@ -20,7 +20,7 @@ below_most : (n : ℕ) → n < most_taken → n ≢ most_taken
 below_most n h e = omega (arith, h, e)
 
 -- a walk that needs more, or none
-undecided : (rest : ℕ) → IsUndecided (verdict_with rest)
+pub undecided : (rest : ℕ) → IsUndecided (verdict_with rest)
 undecided zero = tt
 undecided (suc n) = subst (λ (b : Bool). IsUndecided (if b then whole else more)) (sym (eqb-suc-zero n)) tt
 

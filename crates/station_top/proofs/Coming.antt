@@ -14,6 +14,8 @@ use Rattle.station_doors.proofs.Sessions.{given_more_last}
 use Rattle.station_top.specs.Input.{HasCome, input_of}
 use Rattle.station_top.specs.Take.{GivesMore, IsNew, Takes, TakesInput, FailsBy, Comes, first_of}
 use Rattle.station_top.specs.declared.take.Taken.{Taken}
+use Rattle.bmp_specs.specs.Walk.{whole}
+use Rattle.station_top.proofs.Fronts.{read_no_further}
 use Rattle.station_top.proofs.Causes.{come_of, come_none, come_unopened}
 
 new_given : (a b : Option (List Given)) → GivesNext a b (Ok true) → GivesMore b b [] gave
@@ -77,6 +79,7 @@ takes_opened Stands a b c d calls0 calls taken t o shut same = record {
   come = t.come;
   noted = t.noted;
   count = t.count;
+  no_further = t.no_further;
   shows = λ plan e none. comes Stands plan a b c d calls taken t e (same ∙ none) o shut;
 }
 
@@ -97,6 +100,7 @@ takes_none Stands a b calls0 taken stands o is = rw is (record {
   come = come_none;
   noted = stands;
   count = refl;
+  no_further = read_no_further [] [] 0 whole (refl, refl) tt [] (omega arith);
   shows = shows;
 })
   where
@@ -125,6 +129,7 @@ takes_unopened Stands a b calls0 e taken stands o fails is = rw is (record {
   come = come_unopened;
   noted = stands;
   count = refl;
+  no_further = read_no_further [] [] 0 whole (refl, refl) tt [] (omega arith);
   shows = shows;
 })
   where

@@ -38,6 +38,7 @@ is_taken Stands shows calls old mid new number port after taken h t back = recor
   come = t.come;
   noted = t.noted;
   count = t.count;
+  no_further = t.no_further;
   lends = lends _ shows calls old mid new number port after h t.shows back;
 }
 
@@ -59,7 +60,7 @@ module _ {O : Type 0} {faults : O → ℕ} {told : O → Option (List ℕ)} {asi
   concludes_replied Stands Replies old new number taken reply a b r status t replies w fine fault = record {
     meant = status_of taken.cause;
     text = reply ++ stop_line taken.cause;
-    runs = replied t.input t.messages taken.cause reply t.come (replies (opened ∷ t.messages) t.noted t.count (short Stands old new taken t)) t.lends;
+    runs = replied t.input t.messages taken.cause reply t.come t.no_further (replies (opened ∷ t.messages) t.noted t.count (short Stands old new taken t)) t.lends;
     written = is_written a b (reply ++ stop_line taken.cause) r (status_of taken.cause) status w fine fault;
   }
 

@@ -1,4 +1,5 @@
 pub mod Lengths
+pub mod Fronts
 pub mod Causes
 pub mod Drawing
 pub mod Taking

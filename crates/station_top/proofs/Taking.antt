@@ -5,7 +5,7 @@ use Rattle.std.specs.Prelude.{IfSome}
 use Rattle.std.specs.Io.KnownBytes.{Consumes, Keeps}
 use Rattle.bmp_specs.specs.declared.causes.Cause.{Cause}
 use Rattle.bmp_specs.specs.declared.causes.Cause.TheVariants.{ReadFault, Full}
-use Rattle.bmp_specs.specs.Life.{LastRead, gave, gave_none, failed, most_taken}
+use Rattle.bmp_specs.specs.Life.{LastRead, gave, gave_none, failed, most_taken, most_read, IsReadNoFurther}
 use Rattle.bmp_specs.specs.MessageBody.{no_peers}
 use Rattle.bmp_specs.specs.MessageEffects.{IsMessageEntry}
 use Rattle.bmp_specs.specs.Values.{EntryValue, opened}
@@ -17,7 +17,8 @@ use Rattle.bmp_message.specs.StreamWalk.{WalkValue, HasReached, rest_of, verdict
 use Rattle.station_top.specs.Ledger.{HasNoted, HasDrawn, IsDrained, IsEnded}
 use Rattle.station_top.specs.Take.{GivesMore, IsNew, Takes, FailsBy, cause_at_end}
 use Rattle.station_top.specs.declared.take.Taken.{Taken}
-use Rattle.station_top.proofs.Causes.{come_end, come_fault, come_full, come_early, come_early_here, not_early}
+use Rattle.station_top.proofs.Causes.{come_end, come_fault, come_full, come_early, come_early_here, not_early, undecided}
+use Rattle.station_top.proofs.Fronts.{read_no_further}
 use Rattle.station_top.proofs.Lengths.{walk_lengths}
 
 consumes_then : (a b c : Option (List ℕ)) (s t : List ℕ) → Consumes a b s → Consumes b c t → Consumes a c (s ++ t)
@@ -115,6 +116,10 @@ exact : (Stands : List EntryValue → Type 0) (bytes : List ℕ) (messages : Lis
     → revision ≡ length (opened ∷ messages)
 exact Stands bytes messages offset revision v within w noted = let long = walk_lengths no_peers bytes messages offset v w in omega (arith, within, noted.count, long.count, long.within)
 
+-- a walk that waits was read no further
+waits : (bytes : List ℕ) (messages : List EntryValue) (offset rest : ℕ) → Walks IsMessageEntry no_peers bytes messages offset (verdict_with rest) → IsReadNoFurther IsMessageEntry no_peers bytes
+waits bytes messages offset rest w = subst (λ (l : List ℕ). IsReadNoFurther IsMessageEntry no_peers l) (append-nil bytes) (read_no_further bytes messages offset (verdict_with rest) w (undecided rest) [] (omega arith))
+
 module _ (Stands : List EntryValue → Type 0) (a0 a : Aside) (calls0 c n : ℕ) (walk : WalkValue) (revision : ℕ) (t : Taking Stands a0 a calls0 c n walk revision) where
   -- a read gave none
   pub takes_end : (b : Aside) (buf : List ℕ) (taken : Taken) → Reads a b (Ok 0) buf → 0 < length buf → n < most_taken → taken ≡ record { cause = cause_at_end (rest_of walk) walk.offset; revision = revision } → Takes Stands a0 b calls0 taken
@@ -133,6 +138,7 @@ module _ (Stands : List EntryValue → Type 0) (a0 a : Aside) (calls0 c n : ℕ)
         come = come_end g.bytes d.messages walk.offset (rest_of walk) (omega (arith, g.count, room)) d.walks;
         noted = d.noted.noted;
         count = exact Stands g.bytes d.messages walk.offset revision (verdict_with (rest_of walk)) (omega (arith, g.count, room)) d.walks d.noted;
+        no_further = waits g.bytes d.messages walk.offset (rest_of walk) d.walks;
         early = λ e. absurd (not_early (rest_of walk) walk.offset e);
         end = λ _. r.rest.1 refl some;
         fault = λ other. absurd (cc other);
@@ -155,6 +161,7 @@ module _ (Stands : List EntryValue → Type 0) (a0 a : Aside) (calls0 c n : ℕ)
         come = come_fault g.bytes d.messages walk.offset (rest_of walk) (omega (arith, g.count, room)) d.walks;
         noted = d.noted.noted;
         count = exact Stands g.bytes d.messages walk.offset revision (verdict_with (rest_of walk)) (omega (arith, g.count, room)) d.walks d.noted;
+        no_further = waits g.bytes d.messages walk.offset (rest_of walk) d.walks;
         early = λ e. absurd e;
         end = λ other. absurd (cc other);
         fault = λ _. fails_by a0.plan a.plan calls0 c d' n (length g.bytes) e g.plan g.calls_most p (omega (arith, g.count));
@@ -176,6 +183,7 @@ module _ (Stands : List EntryValue → Type 0) (a0 a : Aside) (calls0 c n : ℕ)
         come = come_full g.bytes d.messages walk.offset (rest_of walk) (g.count ∙ full) d.walks;
         noted = d.noted.noted;
         count = exact Stands g.bytes d.messages walk.offset revision (verdict_with (rest_of walk)) (omega (arith, g.count, full)) d.walks d.noted;
+        no_further = waits g.bytes d.messages walk.offset (rest_of walk) d.walks;
         early = λ e. absurd e;
         end = λ other. absurd (cc other);
         fault = λ other. absurd (cc other);
@@ -192,10 +200,10 @@ module _ (Stands : List EntryValue → Type 0) (a0 a : Aside) (calls0 c n : ℕ)
   taking_more Next b d' m buf new now r p some within drained = record { goes = goes_more a0 a b calls0 c d' n m buf t.goes r p some within; drained = drained }
 
   -- the walk ended in the bytes of a read
-  pub takes_early : (Next : List EntryValue → Type 0) (b : Aside) (d' m : ℕ) (buf : List ℕ) (cause : Cause) (now : ℕ) (taken : Taken) → Reads a b (Ok m) buf → AsPlanned a.plan c d' (Ok m) → m ≢ 0 → m ≤ length buf → n + m ≤ most_taken
+  pub takes_early : (Next : List EntryValue → Type 0) (b : Aside) (d' m : ℕ) (buf : List ℕ) (cause : Cause) (now : ℕ) (taken : Taken) → Reads a b (Ok m) buf → AsPlanned a.plan c d' (Ok m) → m ≢ 0 → m ≤ length buf → n + m ≤ most_taken → m ≤ most_read
       → IsEnded Next (t.goes.bytes ++ take m buf) now cause → taken ≡ record { cause = cause; revision = now } → Takes Next a0 b calls0 taken
   unfolding goes_more
-  takes_early Next b d' m buf cause now taken r p some within room ended is =
+  takes_early Next b d' m buf cause now taken r p some within room size ended is =
       let g = goes_more a0 a b calls0 c d' n m buf t.goes r p some within in
       let long : length g.bytes ≤ most_taken = omega (arith, g.count, room) in
       let come = come_early_here g.bytes ended.messages cause gave ended.ends long in
@@ -210,6 +218,7 @@ module _ (Stands : List EntryValue → Type 0) (a0 a : Aside) (calls0 c n : ℕ)
         come = come;
         noted = ended.noted.noted;
         count = exact Next g.bytes ended.messages come.offset now come.verdict long come.walk ended.noted;
+        no_further = read_no_further t.goes.bytes t.drained.messages walk.offset (verdict_with (rest_of walk)) t.drained.walks (undecided (rest_of walk)) (take m buf) (omega (arith, size, length-take m buf));
         early = λ _. come_early g.bytes ended.messages cause ended.ends;
         end = λ other. absurd (cc other);
         fault = λ other. absurd (cc other);

@@ -3,7 +3,9 @@ use Rattle.std.specs.Prelude.{◌≡◌, ℕ, ◌+◌, ◌<◌, ◌≤◌, ◌==
 use Rattle.std.specs.Io.KnownBytes.{Consumes, IsAtEnd}
 use Rattle.bmp_specs.specs.declared.causes.Cause.{Cause}
 use Rattle.bmp_specs.specs.declared.causes.Cause.TheVariants.{Ended, Terminated, CutShort, Broken, ReadFault, Full}
-use Rattle.bmp_specs.specs.Life.{LastRead, gave, gave_none, failed, most_taken}
+use Rattle.bmp_specs.specs.Life.{LastRead, gave, gave_none, failed, most_taken, IsReadNoFurther}
+use Rattle.bmp_specs.specs.MessageBody.{no_peers}
+use Rattle.bmp_specs.specs.MessageEffects.{IsMessageEntry}
 use Rattle.bmp_specs.specs.Values.{EntryValue, opened}
 use Rattle.wire_io.specs.Aside.{Aside, Given, Plan}
 use Rattle.station_doors.specs.Doors.{given_more, untouched}
@@ -49,6 +51,7 @@ pub record Takes (Stands : List EntryValue → Type 0) (old new : Aside) (calls 
   pub come : HasCome (record { bytes = bytes; last = last }) messages taken.cause
   pub noted : Stands (opened ∷ messages)
   pub count : taken.revision ≡ length (opened ∷ messages)
+  pub no_further : IsReadNoFurther IsMessageEntry no_peers bytes
   pub early : IsEarly taken.cause → (after : List ℕ) (at : LastRead) → length (bytes ++ after) ≤ most_taken → HasCome (record { bytes = bytes ++ after; last = at }) messages taken.cause
   pub end : last ≡ gave_none → IsAtEnd new.rest
   pub fault : last ≡ failed → FailsBy old.plan (calls + length bytes)
@@ -81,4 +84,5 @@ pub record TakesInput (Stands : List EntryValue → Type 0) (old new : Aside) (c
   pub come : HasCome input messages taken.cause
   pub noted : Stands (opened ∷ messages)
   pub count : taken.revision ≡ length (opened ∷ messages)
+  pub no_further : IsReadNoFurther IsMessageEntry no_peers input.bytes
   pub shows : (plan : Plan) → old ≡ untouched plan → calls ≡ 0 → Comes plan new input messages taken.cause

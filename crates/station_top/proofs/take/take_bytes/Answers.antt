@@ -30,12 +30,13 @@ returns-in-Some g c =
     let m = c.in-Ok.count in
     let buf = c.read.new.buf in
     let within : m ≤ length buf = omega (arith, c.in-Ok.ensures.bound.0) in
+    let size : m ≤ 65536 = omega (arith, within, length-take c.min-size.result l.buf) in
     let room : l.taken + m ≤ 70368744177664 = omega (arith, within, length-take c.min-size.result l.buf) in
     let piece : take m (buf ++ drop c.min-size.result l.buf) ≡ take m buf = take-append-le m buf (drop c.min-size.result l.buf) within in
     let fed = rw piece at c.in_ok-feed-in-Ok.ensures.run in
     let drawn = drawn_fed (g.L.Ledger.stands l.ledger) _ _ _ _ l.taken l.walk l.revision l.invariant.taking (take m buf) c.feed.new.self fed in
     let draws = rw c.in-Some.is at c.in_ok-cause-in-Ok.ensures.draws in
-    takes_early (g.L.Ledger.stands l.ledger) _ _ _ _ l.taken l.walk l.revision l.invariant.taking (g.L.Ledger.stands c.drain.new.ledger) _ _ m buf c.in-Some.cause c.drain.new.revision _ c.in-Ok.ensures.reads c.in-Ok.ensures.planned c.in-Ok.count-test.1 within room
+    takes_early (g.L.Ledger.stands l.ledger) _ _ _ _ l.taken l.walk l.revision l.invariant.taking (g.L.Ledger.stands c.drain.new.ledger) _ _ m buf c.in-Some.cause c.drain.new.revision _ c.in-Ok.ensures.reads c.in-Ok.ensures.planned c.in-Ok.count-test.1 within room size
     (draws _ drawn) refl
 
 pub loop-taken-preserved : goal.loop-taken-preserved
