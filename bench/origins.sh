@@ -11,22 +11,7 @@ set -euo pipefail
 
 rows=${1:-1000000}
 rounds=${ROUNDS:-7}
-top=$(cd "$(dirname "$0")/.." && pwd)
-ours=$top/crates/bench/out/bench
-[ -x "$ours" ] || (cd "$top/crates/bench" && rt run >/dev/null 2>&1)
-
-work=$(mktemp -d)
-trap 'rm -rf "$work"' EXIT
-
-# Runs the words, and appends the processor time in milliseconds and the peak memory in KiB.
-TIMEFORMAT='%U %S'
-run() {
-    local name=$1
-    shift
-    { time /usr/bin/time -f %M -o "$work/peak" "$ours" "$@" >"$work/$name.said"; } 2>"$work/time"
-    paste -d ' ' "$work/time" "$work/peak" |
-        awk '{ printf "%d %d\n", ($1 + $2) * 1000 + 0.5, $3 }' >>"$work/$name"
-}
+. "$(dirname "$0")/measure.sh"
 
 for _ in $(seq "$rounds"); do
     run none origins 0
@@ -34,9 +19,6 @@ for _ in $(seq "$rounds"); do
     run map origins_map "$rows"
     diff "$work/index.said" "$work/map.said"
 done
-
-least() { sort -n "$work/$1" | awk 'NR == 1 { print $1 }'; }
-peak() { awk '$2 > most { most = $2 } END { print most }' "$work/$1"; }
 
 echo "rows $rows"
 a=$(least index)

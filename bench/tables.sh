@@ -13,22 +13,7 @@ set -euo pipefail
 
 prefixes=${1:-1000000}
 rounds=${ROUNDS:-7}
-top=$(cd "$(dirname "$0")/.." && pwd)
-ours=$top/crates/bench/out/bench
-[ -x "$ours" ] || (cd "$top/crates/bench" && rt run >/dev/null 2>&1)
-
-work=$(mktemp -d)
-trap 'rm -rf "$work"' EXIT
-
-# Runs the words, and appends the processor time in milliseconds and the peak memory in KiB.
-TIMEFORMAT='%U %S'
-run() {
-    local name=$1
-    shift
-    { time /usr/bin/time -f %M -o "$work/peak" "$ours" "$@" >"$work/$name.said"; } 2>"$work/time"
-    paste -d ' ' "$work/time" "$work/peak" |
-        awk '{ printf "%d %d\n", ($1 + $2) * 1000 + 0.5, $3 }' >>"$work/$name"
-}
+. "$(dirname "$0")/measure.sh"
 
 for _ in $(seq "$rounds"); do
     run none trie 0 0
@@ -41,9 +26,6 @@ for _ in $(seq "$rounds"); do
         diff <(head -n 3 "$work/$trie.said") "$work/${order#*:}.said"
     done
 done
-
-least() { sort -n "$work/$1" | awk 'NR == 1 { print $1 }'; }
-peak() { awk '$2 > most { most = $2 } END { print most }' "$work/$1"; }
 
 echo "prefixes $prefixes"
 empty=$(peak none)
