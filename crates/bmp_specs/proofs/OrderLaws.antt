@@ -18,7 +18,7 @@ use Rattle.bmp_specs.specs.Orders.{family_number, family_cmp, view_number, view_
 use Rattle.bmp_specs.specs.TableRows.{place_cmp}
 
 -- two comparisons in a row tie exactly where both do
-both_tie : (a b : Ordering) → ordering_then a b ≡ Equal → (a ≡ Equal) × (b ≡ Equal)
+pub both_tie : (a b : Ordering) → ordering_then a b ≡ Equal → (a ≡ Equal) × (b ≡ Equal)
 both_tie Less b e = absurd cc
 both_tie Equal b e = (refl, e)
 both_tie Greater b e = absurd cc
@@ -72,7 +72,7 @@ prefix_exact p q e =
     let bits = exact_unsigned p.bits q.bits tie.1 in
     λ i. record { address = address i; bits = bits i }
 
-one_id : (a b : Option ℕ) → option_cmp nat_cmp a b ≡ Equal → a ≡ b
+pub one_id : (a b : Option ℕ) → option_cmp nat_cmp a b ≡ Equal → a ≡ b
 one_id None None e = refl
 one_id None (Some n) e = absurd cc
 one_id (Some m) None e = absurd cc

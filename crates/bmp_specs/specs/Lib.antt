@@ -44,6 +44,8 @@ pub mod PeerUp
 pub mod Rows
 pub mod Complete
 pub mod TableRows
+pub mod Selection
+pub mod Query
 pub mod TableReply
 pub mod Life
 pub mod MessageBody
