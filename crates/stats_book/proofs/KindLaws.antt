@@ -1,20 +1,13 @@
 -- The order of kinds is total and tells all kinds apart.
-use Rattle.std.proofs.Common.{◌≡◌, refl}
-use Rattle.std.specs.declared.cmp.Ordering.{Ordering}
-use Rattle.std.specs.declared.cmp.Ordering.TheVariants.{Less, Equal, Greater}
 use Rattle.std.specs.Ordering.{nat_cmp, ordering_then}
 use Rattle.std.specs.Cmp.{IsTotalOrder}
 use Rattle.std.proofs.lemmas.Cmp.{nat_cmp_total, on_total, then_total}
 use Rattle.std.proofs.lemmas.Map.Lookups.{CmpEqualImpliesEq, exact_unsigned}
+use Rattle.bmp_specs.proofs.OrderLaws.{both_tie}
 use Rattle.stats_book.specs.Kind.{KindValue, kind_cmp}
 
 pub kind_total : IsTotalOrder kind_cmp
 kind_total = then_total (on_total (λ (k : KindValue). k.code) nat_cmp_total) (then_total (on_total (λ (k : KindValue). k.afi) nat_cmp_total) (on_total (λ (k : KindValue). k.safi) nat_cmp_total))
-
-both_tie : (a b : Ordering) → ordering_then a b ≡ Equal → (a ≡ Equal) × (b ≡ Equal)
-both_tie Less b e = absurd cc
-both_tie Equal b e = (refl, e)
-both_tie Greater b e = absurd cc
 
 pub kind_exact : CmpEqualImpliesEq kind_cmp
 kind_exact a b e =

@@ -1,5 +1,3 @@
-pub mod Firsts
-pub mod Lookups
 pub mod KindLaws
 pub mod Standings
 pub mod Setting

@@ -9,9 +9,9 @@ use Rattle.bmp_specs.specs.Orders.{key_cmp}
 use Rattle.bmp_specs.specs.PeerUp.{IsUp}
 use Rattle.bmp_specs.specs.Values.{KeyValue, StatValue, EffectValue, statistic}
 use Rattle.bmp_specs.proofs.OrderLaws.{key_total, key_exact}
+use Rattle.bmp_specs.proofs.PairLookups.{inserted_there}
 use Rattle.stats_book.specs.Stats.{Stats, PeerStats, with_value, with_stat}
 use Rattle.stats_book.specs.Standing.{StandsForStats}
-use Rattle.stats_book.proofs.Lookups.{inserted_there}
 use Rattle.stats_book.proofs.Standings.{stands_set}
 
 module _ (stats next : Stats) (key : KeyValue) (stat : StatValue) (before after : PeerStats) where

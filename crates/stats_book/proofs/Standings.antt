@@ -4,20 +4,18 @@ use Rattle.std.specs.Prelude.{◌↔◌, unwrap_or}
 use Rattle.std.specs.BTreeMap.{is_at}
 use Rattle.std.specs.List.{AllByRecursion}
 use Rattle.std.specs.Map.{lookup}
+use mathlib.Core.Logic.Iff.{trans as then_iff}
 use Rattle.bmp_specs.specs.Orders.{key_cmp}
 use Rattle.bmp_specs.specs.PeerUp.{Names, IsUp}
 use Rattle.bmp_specs.specs.Rows.{ReplacesStatistic, HasStatistic}
 use Rattle.bmp_specs.specs.Values.{KeyValue, StatValue, EffectValue, up, down, announce, withdraw, mark, statistic, named, described, orphan, mirrored, passed, unread}
 use Rattle.bmp_specs.proofs.OrderLaws.{key_total, key_exact, same_or_other}
+use Rattle.bmp_specs.proofs.PairLookups.{at_other, inserted_here, inserted_elsewhere}
 use Rattle.bmp_specs.proofs.StatisticLaws.{statistic_now, statistic_still, statistic_from, statistic_one}
 use Rattle.stats_book.specs.Kind.{KindValue, kind_cmp, kind_of}
 use Rattle.stats_book.specs.Stats.{Stats, PeerStats, stats_at, value_at, with_value, with_stat}
 use Rattle.stats_book.specs.Standing.{StandsForStats}
 use Rattle.stats_book.proofs.KindLaws.{kind_total, kind_exact}
-use Rattle.stats_book.proofs.Lookups.{at_other, inserted_here, inserted_elsewhere}
-
-then_iff : {A B C : Type 0} → A ↔ B → B ↔ C → A ↔ C
-then_iff f g = (λ a. g.0 (f.0 a), λ c. f.1 (g.1 c))
 
 -- a statistic that the effect neither replaces nor reports
 kept : (es : List EffectValue) (e : EffectValue) (key : KeyValue) (stat : StatValue) → ¬ (ReplacesStatistic key stat e) → HasStatistic es key stat ↔ HasStatistic (es ++ e ∷ []) key stat
