@@ -1,5 +1,3 @@
-pub mod Firsts
-pub mod Lookups
 pub mod MarkLaws
 pub mod Marking
 pub mod OneMore

@@ -14,9 +14,6 @@ use Rattle.bmp_specs.proofs.LatestLaws.{latest_still, latest_from, latest_one}
 use Rattle.bmp_specs.proofs.CompleteLaws.{complete_still, complete_from}
 use Rattle.bmp_specs.proofs.RowLaws.{peer_cases}
 
-pub then_iff : {A B C : Type 0} → A ↔ B → B ↔ C → A ↔ C
-then_iff f g = (λ a. g.0 (f.0 a), λ c. f.1 (g.1 c))
-
 module _ (es : List EffectValue) (e : EffectValue) (key : KeyValue) (other : ¬ (Names key e)) where
   pub up_kept : (info : PeerInfoValue) → IsUpWith es key info ↔ IsUpWith (es ++ e ∷ []) key info
   up_kept info = (

@@ -5,6 +5,7 @@ use Rattle.std.specs.BTreeMap.{is_at}
 use Rattle.std.specs.Map.{set_value}
 use Rattle.std.specs.Option.{option_map, option_map_or}
 use Rattle.std.proofs.lemmas.Map.Steps.{set_value_same}
+use mathlib.Core.Logic.Iff.{trans as then_iff}
 use Rattle.bmp_specs.specs.declared.wire.Family.{Family}
 use Rattle.bmp_specs.specs.declared.peers.View.{View}
 use Rattle.bmp_specs.specs.Orders.{key_cmp, view_cmp, family_cmp}
@@ -14,14 +15,14 @@ use Rattle.bmp_specs.specs.PeerUp.{Names, IsNamed, IsUpWith, IsDownWith, IsUp}
 use Rattle.bmp_specs.proofs.LatestLaws.{latest_now}
 use Rattle.bmp_specs.proofs.CompleteLaws.{complete_now, complete_from}
 use Rattle.bmp_specs.proofs.OrderLaws.{key_total, key_exact, view_total, view_exact, family_total, family_exact, same_or_other}
+use Rattle.bmp_specs.proofs.PairLookups.{inserted_here, inserted_elsewhere, set_here, set_elsewhere}
 use Rattle.bmp_specs.proofs.RowLaws.{up_one, up_or_down}
 use Rattle.peer_book.specs.declared.marks.Marks.{Marks}
 use Rattle.peer_book.specs.Marks.{no_marks, is_marked, marked}
 use Rattle.peer_book.specs.Peers.{Peers, PeerValue, StateValue, up_peer, down_peer, up_state, down_state, state_of, is_up_peer, is_complete_peer, marked_peer, peer_at, state_at, is_up_at, is_complete_at, with_peer, with_peer_there, with_mark}
 use Rattle.peer_book.specs.Standing.{StandsForPeers}
-use Rattle.peer_book.proofs.Lookups.{inserted_here, inserted_elsewhere, set_here, set_elsewhere}
 use Rattle.peer_book.proofs.MarkLaws.{none_marked, marked_here, marked_other_view, marked_other_family}
-use Rattle.peer_book.proofs.OneMore.{then_iff, up_kept, down_kept, complete_kept, named_up, named_down, named_cases, down_one}
+use Rattle.peer_book.proofs.OneMore.{up_kept, down_kept, complete_kept, named_up, named_down, named_cases, down_one}
 
 -- a key is named where it is up or down
 named_by : (peers : Peers) (es : List EffectValue) → ((key : KeyValue) (info : PeerInfoValue) → (state_at peers key ≡ Some (up_state info)) ↔ IsUpWith es key info)
@@ -157,7 +158,7 @@ mark_set peers es k view family info marks is h = stands_by next after to_up to_
     here = set_here key_cmp key_total key_exact peers k (up_peer info marks) (up_peer info (marked marks view family)) is
 
     elsewhere : (key : KeyValue) → ¬ (key ≡ k) → peer_at next key ≡ peer_at peers key
-    elsewhere key other = set_elsewhere key_cmp key_total key_exact peers k (up_peer info (marked marks view family)) key other
+    elsewhere key other = set_elsewhere key_cmp key_total key_exact peers k (up_peer info marks) (up_peer info (marked marks view family)) is key other
 
     same_state : (key : KeyValue) → state_at next key ≡ state_at peers key
     same_state key = elim (same_or_other key_cmp key_total key_exact key k) [

@@ -3,8 +3,8 @@ use Rattle.std.specs.List.{slice_get}
 use Rattle.std.specs.Map.Iter.{deref_pair}
 use Rattle.std.specs.Option.{option_map}
 use Rattle.bmp_specs.specs.Orders.{key_cmp}
+use Rattle.bmp_specs.proofs.FirstInRange.{first_shown, between-after}
 use Rattle.peer_book.specs.Peers.{keyed_state, after_place}
-use Rattle.peer_book.proofs.Firsts.{first_shown, between-after}
 use Rattle.peer_book.proofs.book.PeerBook.after.Goals as goal
 
 pub returns-in-Some-clause-first : goal.returns-in-Some-clause-first
