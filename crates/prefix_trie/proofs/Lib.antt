@@ -1,4 +1,3 @@
-pub mod Firsts
 pub mod Alike
 pub mod FirstBits
 pub mod SharedBits

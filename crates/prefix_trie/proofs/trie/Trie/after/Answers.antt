@@ -2,8 +2,8 @@ use Rattle.std.proofs.Common.{◌∙◌, ap}
 use Rattle.std.specs.List.{slice_get}
 use Rattle.std.specs.Map.Iter.{deref_pair}
 use Rattle.bmp_specs.specs.Orders.{prefix_cmp}
+use Rattle.bmp_specs.proofs.FirstInRange.{first_shown, between-after}
 use Rattle.prefix_trie.specs.Cursor.{pairs_after}
-use Rattle.prefix_trie.proofs.Firsts.{first_shown, between-after}
 use Rattle.prefix_trie.proofs.trie.Trie.after.Goals as goal
 
 pub returns-in-Some-clause-first : goal.returns-in-Some-clause-first
