@@ -9,12 +9,14 @@ use Rattle.std.proofs.lemmas.Slice.Zip.{AllZip-long}
 use Rattle.bmp_specs.specs.declared.wire.Family.{Family}
 use Rattle.bmp_specs.specs.Orders.{prefix_cmp}
 use Rattle.bmp_specs.specs.Values.{PrefixValue}
+use Rattle.bmp_specs.proofs.OrderLaws.{prefix_total}
+use Rattle.bmp_specs.proofs.SortedPairs.{sorted-insert, sorted-remove, length-insert}
 use Rattle.prefix_trie.specs.Sharing.{AreAlike}
 use Rattle.prefix_trie.specs.Table.{TableValue, IsOfFamily}
 use Rattle.prefix_trie.proofs.Alike.{keys-alike}
 use Rattle.rib_shards.specs.Likeness.{IsAlikeOption, HasPairs}
 use Rattle.rib_shards.specs.Parts.{part_of, pairs_in, joined, merged, IsPart, AreParts}
-use Rattle.rib_shards.proofs.Order.{value_at, is_sorted-sorted_pairs, is_sorted-insert, is_sorted-remove, sorted_to, sorted_from, length-insert_entry, length-remove_entry}
+use Rattle.rib_shards.proofs.Order.{value_at, sorted-sorted_pairs, length-remove_entry}
 use Rattle.rib_shards.proofs.Merging.{value_of_part, still_parts, merged-insert, merged-remove, alike-merged}
 
 -- a part with these pairs
@@ -58,7 +60,7 @@ module _ {T : Type 0} (R : T → T → Type 0) (same : (x : T) → R x x) (famil
     exact_part = record {
       same = refl;
       own = own_wanted;
-      ordered = sorted_from _ (is_sorted-insert k v (pairs_in (get_or old i None)) (sorted_to _ the_part.ordered));
+      ordered = sorted-insert prefix_cmp prefix_total (pairs_in (get_or old i None)) k v the_part.ordered;
       one_family = of_wanted;
     }
 
@@ -73,7 +75,7 @@ module _ {T : Type 0} (R : T → T → Type 0) (same : (x : T) → R x x) (famil
         let there : value_at k (merged old) ≡ value_at k (pairs_in (get_or old i None)) =
         value_of_part family old are k (subst (λ n. n < 257) at here) ∙ ap (λ n. value_at k (pairs_in (get_or old n None))) (sym at) in
         let long : length (merged new) ≡ length (insert_entry prefix_cmp (merged old) k v) = AllZip-long _ _ _ inserted_alike in
-        counted (is_some before) _ _ (long ∙ length-insert_entry k v (merged old) (is_sorted-sorted_pairs (joined old))
+        counted (is_some before) _ _ (long ∙ length-insert prefix_cmp prefix_total (merged old) k v (sorted-sorted_pairs (joined old))
         ∙ ap (λ b. cond b (length (merged old)) (length (merged old) + 1)) (ap is_some there ∙ same_some R _ _ likes))
 
   module _ (has : HasPairs R family (remove_entry (is_at (prefix_cmp k)) (pairs_in (get_or old i None))) p) where
@@ -90,7 +92,7 @@ module _ {T : Type 0} (R : T → T → Type 0) (same : (x : T) → R x x) (famil
     left_part = record {
       same = refl;
       own = own_left;
-      ordered = sorted_from _ (is_sorted-remove (is_at (prefix_cmp k)) (pairs_in (get_or old i None)) (sorted_to _ the_part.ordered));
+      ordered = sorted-remove prefix_cmp (is_at (prefix_cmp k)) (pairs_in (get_or old i None)) the_part.ordered;
       one_family = of_left;
     }
 

@@ -7,6 +7,7 @@ use Rattle.std.specs.Ordering.{is_lt, is_le, ordering_reverse}
 use Rattle.std.specs.List.{Contains, slice_get}
 use Rattle.std.specs.List.Sorted.{IsStrictlySortedBy}
 use Rattle.std.specs.Map.{keys_of}
+use Rattle.std.proofs.lemmas.Bool.{false_from_ne_true}
 use Rattle.bmp_specs.specs.declared.wire.Family.{Family}
 use Rattle.bmp_specs.specs.Orders.{prefix_cmp}
 use Rattle.bmp_specs.specs.Values.{PrefixValue}
@@ -17,17 +18,13 @@ use Rattle.rib_shards.specs.Cursor.{is_after, IsFirst, InLongPart, earlier_of}
 use Rattle.rib_shards.specs.Parts.{pairs_in, joined, merged, AreParts}
 use Rattle.rib_shards.proofs.Firsts.{first_passing, one_first}
 use Rattle.rib_shards.proofs.Members.{listed_value, value_listed}
-use Rattle.rib_shards.proofs.Order.{value_at, sorted_from, is_sorted-sorted_pairs}
+use Rattle.rib_shards.proofs.Order.{value_at, sorted-sorted_pairs}
 use Rattle.rib_shards.proofs.Places.{after_is, whole_pair, whole_none, short_in_whole, long_in_whole}
 
 less_is : (o : Ordering) → is_lt o ≡ true → o ≡ Less
 less_is Less e = refl
 less_is Equal e = absurd cc
 less_is Greater e = absurd cc
-
-no_less : (b : Bool) → (b ≡ true → ⊥) → b ≡ false
-no_less true h = absurd (h refl)
-no_less false h = refl
 
 clash : (b : Bool) → b ≡ false → b ≡ true → ⊥
 clash b e f = let no : true ≡ false = sym f ∙ e in absurd cc
@@ -54,13 +51,13 @@ module _ {T : Type 0} (family : Family) (parts : List (Option (TableValue T))) (
     where
       by_test : (t : Bool) → is_lt (prefix_cmp f.0 e.0) ≡ t → IsFirst (is_after place) (Contains (merged parts)) (if t then Some f else Some e)
       by_test true less = whole_pair family parts are place f (long_in_whole family parts are place f b.listed) b.passes
-          (λ d listed pass. no_less _ (λ h. clash _ (a.first d listed pass) (ap is_lt (prefix_total.trans d.0 f.0 e.0 (less_is _ h) (less_is _ less))))) b.first
+          (λ d listed pass. false_from_ne_true _ (λ h. clash _ (a.first d listed pass) (ap is_lt (prefix_total.trans d.0 f.0 e.0 (less_is _ h) (less_is _ less))))) b.first
       by_test false up = whole_pair family parts are place e (short_in_whole family parts are place e a.listed) a.passes a.first
-          (λ d listed pass. no_less _ (λ h. clash _ (b.first d listed pass) (before_both d.0 e.0 f.0 h up)))
+          (λ d listed pass. false_from_ne_true _ (λ h. clash _ (b.first d listed pass) (before_both d.0 e.0 f.0 h up)))
 
   pub after_all : (r : Option (PrefixValue × T)) → IsFirst (is_after place) (Contains (merged parts)) r → r ≡ slice_get (after_place place (merged parts)) 0
   after_all r is =
-      let sorted = sorted_from (merged parts) (is_sorted-sorted_pairs (joined parts)) in
+      let sorted = sorted-sorted_pairs (joined parts) in
       one_first (is_after place) (merged parts) sorted r _ is (first_passing (is_after place) (merged parts) sorted) ∙ ap (λ l. slice_get l 0) (sym (after_is place (merged parts)))
 
 -- ---- at a place, or after it
@@ -121,7 +118,7 @@ pub second_first : {T : Type 0} (a b : PrefixValue × T) → prefix_cmp b.0 a.0 
 second_first a b e = sym (ap (λ t. if t then Some b else Some a) (ap is_lt e))
 
 pub first_stays : {T : Type 0} (a b : PrefixValue × T) → (prefix_cmp b.0 a.0 ≡ Less → ⊥) → Some a ≡ earlier_of (Some a) (Some b)
-first_stays a b apart = sym (ap (λ t. if t then Some b else Some a) (no_less _ (λ h. apart (less_is _ h))))
+first_stays a b apart = sym (ap (λ t. if t then Some b else Some a) (false_from_ne_true _ (λ h. apart (less_is _ h))))
 
 -- what `after` answers
 pub after_told : {T : Type 0} (family : Family) (ps parts : List (Option (TableValue T))) → ps ≡ parts → AreParts family parts → (place : Option (Bor PrefixValue)) (told : TableValue T)

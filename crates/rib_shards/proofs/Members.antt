@@ -21,7 +21,7 @@ use Rattle.prefix_trie.specs.Table.{TableValue, IsOfFamily}
 use Rattle.prefix_trie.proofs.FirstBits.{all_high}
 use Rattle.prefix_trie.proofs.Search.{listed_key}
 use Rattle.rib_shards.specs.Parts.{part_of, pairs_in, joined, merged, AreParts}
-use Rattle.rib_shards.proofs.Order.{value_at, sorted_from, is_sorted-sorted_pairs}
+use Rattle.rib_shards.proofs.Order.{value_at, sorted-sorted_pairs}
 use Rattle.rib_shards.proofs.Merging.{value_of_part, value_beyond}
 
 pub listed_value : {T : Type 0} (es : List (PrefixValue × T)) → IsStrictlySortedBy prefix_cmp (keys_of es) → (d : PrefixValue × T) → Contains es d → value_at d.0 es ≡ Some d.1
@@ -35,7 +35,7 @@ none_some o x e f = let clash : None ≡ Some x = sym e ∙ f in absurd cc
 
 module _ {T : Type 0} (family : Family) (parts : List (Option (TableValue T))) (are : AreParts family parts) where
   whole_value : (d : PrefixValue × T) → Contains (merged parts) d → value_at d.0 (merged parts) ≡ Some d.1
-  whole_value d listed = listed_value (merged parts) (sorted_from _ (is_sorted-sorted_pairs (joined parts))) d listed
+  whole_value d listed = listed_value (merged parts) (sorted-sorted_pairs (joined parts)) d listed
 
   -- a pair of the whole stands in its part
   pub listed_in_part : (d : PrefixValue × T) → Contains (merged parts) d → (part_of d.0 < 257) × Contains (pairs_in (get_or parts (part_of d.0) None)) d

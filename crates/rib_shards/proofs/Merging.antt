@@ -2,20 +2,20 @@
 use Rattle.std.proofs.Common.{◌≡◌, ◌≢◌, ℕ, zero, suc, ◌+◌, ◌<◌, ◌≤◌, length, get_or, Bool, true, false, cond, List, [], ◌∷◌, ◌++◌, Option, None, Some, set, length-set, get_or-set_same, get_or-set_other, refl, ap, sym, ◌∙◌, subst, inl, inr, arith}
 use Rattle.std.specs.Ordering.{eq_by_cmp}
 use Rattle.std.specs.BTreeMap.{insert_entry, is_at}
-use Rattle.std.specs.FinMap.Entries.{find}
 use Rattle.std.specs.List.{All}
 use Rattle.std.specs.Map.{keys_of, remove_entry}
-use Rattle.std.proofs.lemmas.Bool.{cases_lt, cases_eq}
+use Rattle.std.proofs.lemmas.Bool.{cases_lt, cases_eq, false_from_ne_true}
 use Rattle.std.proofs.lemmas.Map.Views.{tells_apart}
 use Rattle.bmp_specs.specs.declared.wire.Family.{Family}
 use Rattle.bmp_specs.specs.Orders.{prefix_cmp}
 use Rattle.bmp_specs.specs.Values.{PrefixValue}
-use Rattle.bmp_specs.proofs.OrderLaws.{prefix_exact}
+use Rattle.bmp_specs.proofs.OrderLaws.{prefix_total, prefix_exact}
+use Rattle.bmp_specs.proofs.SortedPairs.{sorted-insert, sorted-remove, lookup-insert, lookup-remove, one_list}
 use Rattle.prefix_trie.specs.Sharing.{AreAlike}
 use Rattle.prefix_trie.specs.Table.{TableValue}
 use Rattle.rib_shards.specs.Parts.{part_of, pairs_in, joined, sorted_pairs, merged, IsPart, AreParts}
 use Rattle.rib_shards.proofs.Alikes.{alike-append, alike-insert, alike-refl}
-use Rattle.rib_shards.proofs.Order.{value_at, find_is, find-sorted_pairs, is_sorted-sorted_pairs, one_list, find-insert, is_sorted-insert, find-remove, is_sorted-remove, sorted_to}
+use Rattle.rib_shards.proofs.Order.{value_at, sorted-sorted_pairs, value-sorted_pairs}
 
 -- the first that is there
 abbrev pub or_else : {X : Type 0} → Option X → Option X → Option X
@@ -38,16 +38,12 @@ missed : {X : Type 0} (b : Bool) (v : X) (o : Option X) → b ≡ false → o �
 missed true v o e f = absurd cc
 missed false v o e f = f
 
-not_true : (b : Bool) → (b ≡ true → ⊥) → b ≡ false
-not_true true h = absurd (h refl)
-not_true false h = refl
-
 -- a prefix of another part isn't there
 pub value_elsewhere : {X : Type 0} (i : ℕ) (q : PrefixValue) (es : List (PrefixValue × X)) → All (λ p. part_of p ≡ i) (keys_of es) → part_of q ≢ i → value_at q es ≡ None
 value_elsewhere i q [] all other = refl
 value_elsewhere i q (e ∷ es) all other =
     missed (is_at (prefix_cmp q) e.0) e.1 (value_at q es)
-    (not_true _ (λ b. let same : q ≡ e.0 = tells_apart prefix_exact q e.0 b in other (ap part_of same ∙ all 0 e.0 (omega arith))))
+    (false_from_ne_true _ (λ b. let same : q ≡ e.0 = tells_apart prefix_exact q e.0 b in other (ap part_of same ∙ all 0 e.0 (omega arith))))
     (value_elsewhere i q es (λ k d h. all (suc k) d (omega (arith, h))) other)
 
 -- the parts from a number on
@@ -75,7 +71,7 @@ value-joined base (suc i) q (part ∷ parts) own is lt =
     ∙ value-joined (suc base) i q parts (own_rest base part parts own) (omega (arith, is)) (omega (arith, lt))
 
 pub value-merged : {X : Type 0} (q : PrefixValue) (parts : List (Option (TableValue X))) → value_at q (merged parts) ≡ value_at q (joined parts)
-value-merged q parts = sym (find_is q (merged parts)) ∙ find-sorted_pairs q (joined parts) ∙ find_is q (joined parts)
+value-merged q parts = value-sorted_pairs q (joined parts)
 
 owned : {X : Type 0} (family : Family) (parts : List (Option (TableValue X))) → AreParts family parts → Own 0 parts
 owned family parts are j lt k d h = (are.each j (omega (arith, lt, are.count))).own k d h ∙ omega arith
@@ -117,29 +113,26 @@ module _ {X : Type 0} (family : Family) (parts : List (Option (TableValue X))) (
     ],
   )
 
-  find_joined : (q : PrefixValue) (ps : List (Option (TableValue X))) → find prefix_cmp q (merged ps) ≡ value_at q (joined ps)
-  find_joined q ps = find-sorted_pairs q (joined ps) ∙ find_is q (joined ps)
-
   own_value : (q : PrefixValue) → part_of q ≡ i → value_at q (joined parts) ≡ value_at q (pairs_in (get_or parts i None))
   own_value q e = value-joined 0 i q parts (owned family parts are) (e ∙ omega arith) (omega (arith, here, are.count))
 
   pub merged-insert : (k : PrefixValue) (v : X) → part_of k ≡ i → pairs_in part ≡ insert_entry prefix_cmp (pairs_in (get_or parts i None)) k v → merged (set parts i part) ≡ insert_entry prefix_cmp (merged parts) k v
-  merged-insert k v at e = one_list _ _ (is_sorted-sorted_pairs (joined (set parts i part))) (is_sorted-insert k v (merged parts) (is_sorted-sorted_pairs (joined parts))) (λ q.
-      find_joined q (set parts i part) ∙ elim (cases_eq (part_of q) i) [
-        | inl same ↦ (value_changed q).0 same ∙ ap (value_at q) e ∙ sym (find_is q _) ∙ find-insert q k v (pairs_in (get_or parts i None))
-            ∙ ap (cond (eq_by_cmp prefix_cmp q k) (Some v)) (find_is q _ ∙ sym (own_value q same) ∙ sym (find_joined q parts)) ∙ sym (find-insert q k v (merged parts))
-        | inr other ↦ (value_changed q).1 other ∙ sym (find_joined q parts)
-            ∙ ap (λ b. cond b (Some v) (find prefix_cmp q (merged parts))) {x = false} {y = eq_by_cmp prefix_cmp q k} (sym (not_true _ (λ b. other (ap part_of (tells_apart prefix_exact q k b) ∙ at)))) ∙ sym (find-insert q k v (merged parts))
-      ])
+  merged-insert k v at e = one_list prefix_cmp prefix_total prefix_exact _ _ (sorted-sorted_pairs (joined (set parts i part))) (sorted-insert prefix_cmp prefix_total (merged parts) k v (sorted-sorted_pairs (joined parts))) (λ q.
+      value-merged q (set parts i part) ∙ elim (cases_eq (part_of q) i) [
+        | inl same ↦ (value_changed q).0 same ∙ ap (value_at q) e ∙ lookup-insert prefix_cmp prefix_total q k v (pairs_in (get_or parts i None))
+            ∙ ap (cond (eq_by_cmp prefix_cmp q k) (Some v)) (sym (own_value q same) ∙ sym (value-merged q parts))
+        | inr other ↦ (value_changed q).1 other ∙ sym (value-merged q parts)
+            ∙ ap (λ b. cond b (Some v) (value_at q (merged parts))) {x = false} {y = eq_by_cmp prefix_cmp q k} (sym (false_from_ne_true _ (λ b. other (ap part_of (tells_apart prefix_exact q k b) ∙ at))))
+      ] ∙ sym (lookup-insert prefix_cmp prefix_total q k v (merged parts)))
 
   pub merged-remove : (k : PrefixValue) → part_of k ≡ i → pairs_in part ≡ remove_entry (is_at (prefix_cmp k)) (pairs_in (get_or parts i None)) → merged (set parts i part) ≡ remove_entry (is_at (prefix_cmp k)) (merged parts)
-  merged-remove k at e = one_list _ _ (is_sorted-sorted_pairs (joined (set parts i part))) (is_sorted-remove (is_at (prefix_cmp k)) (merged parts) (is_sorted-sorted_pairs (joined parts))) (λ q.
-      find_joined q (set parts i part) ∙ elim (cases_eq (part_of q) i) [
-        | inl same ↦ (value_changed q).0 same ∙ ap (value_at q) e ∙ sym (find_is q _) ∙ find-remove k q (pairs_in (get_or parts i None)) (sorted_to _ (are.each i here).ordered)
-            ∙ ap (cond (eq_by_cmp prefix_cmp q k) None) (find_is q _ ∙ sym (own_value q same) ∙ sym (find_joined q parts)) ∙ sym (find-remove k q (merged parts) (is_sorted-sorted_pairs (joined parts)))
-        | inr other ↦ (value_changed q).1 other ∙ sym (find_joined q parts)
-            ∙ ap (λ b. cond b None (find prefix_cmp q (merged parts))) {x = false} {y = eq_by_cmp prefix_cmp q k} (sym (not_true _ (λ b. other (ap part_of (tells_apart prefix_exact q k b) ∙ at)))) ∙ sym (find-remove k q (merged parts) (is_sorted-sorted_pairs (joined parts)))
-      ])
+  merged-remove k at e = one_list prefix_cmp prefix_total prefix_exact _ _ (sorted-sorted_pairs (joined (set parts i part))) (sorted-remove prefix_cmp (is_at (prefix_cmp k)) (merged parts) (sorted-sorted_pairs (joined parts))) (λ q.
+      value-merged q (set parts i part) ∙ elim (cases_eq (part_of q) i) [
+        | inl same ↦ (value_changed q).0 same ∙ ap (value_at q) e ∙ lookup-remove prefix_cmp prefix_total q k (pairs_in (get_or parts i None)) (are.each i here).ordered
+            ∙ ap (cond (eq_by_cmp prefix_cmp q k) None) (sym (own_value q same) ∙ sym (value-merged q parts))
+        | inr other ↦ (value_changed q).1 other ∙ sym (value-merged q parts)
+            ∙ ap (λ b. cond b None (value_at q (merged parts))) {x = false} {y = eq_by_cmp prefix_cmp q k} (sym (false_from_ne_true _ (λ b. other (ap part_of (tells_apart prefix_exact q k b) ∙ at))))
+      ] ∙ sym (lookup-remove prefix_cmp prefix_total q k (merged parts) (sorted-sorted_pairs (joined parts))))
 
 -- ---- parts that are alike
 module _ {X : Type 0} (R : X → X → Type 0) (same : (x : X) → R x x) where
