@@ -3,7 +3,7 @@ mod Sorted
 mod Cuts
 mod Rows
 mod Joining
-mod Ranges
+mod FirstKeys
 mod Halving
 mod Edits
 mod Firsts

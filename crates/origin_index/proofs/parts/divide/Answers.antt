@@ -1,7 +1,7 @@
 use Rattle.std.proofs.Common.{◌+◌, ◌<◌, length, subst, refl, set, cond, ◌∙◌, ap, sym, arith}
 use Rattle.std.specs.List.{insert}
 use Rattle.origin_index.specs.Parts.{joined}
-use Rattle.origin_index.proofs.Ranges.{on_ok}
+use Rattle.origin_index.proofs.FirstKeys.{on_ok}
 use Rattle.origin_index.proofs.Edits.{divided}
 use Rattle.origin_index.proofs.parts.divide.Goals as goal
 

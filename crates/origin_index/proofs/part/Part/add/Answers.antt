@@ -2,7 +2,7 @@ use Rattle.std.proofs.Common.{◌∙◌, ap, sym}
 use Rattle.std.specs.List.{slice_get}
 use Rattle.std.specs.Ordering.{is_lt}
 use Rattle.origin_index.specs.Pairs.{pair_cmp}
-use Rattle.origin_index.proofs.Ranges.{insert_least, insert_later, on_ok}
+use Rattle.origin_index.proofs.FirstKeys.{insert_least, insert_later, on_ok}
 use Rattle.origin_index.proofs.part.Part.add.Goals as goal
 
 pub invariant_of-self-then-is_lt : goal.invariant_of-self-then-is_lt

@@ -1,9 +1,9 @@
 use Rattle.std.proofs.Common.{◌∙◌, ap, true, false}
 use Rattle.std.specs.List.{filter, slice_get}
 use Rattle.std.specs.Map.Iter.{deref}
+use Rattle.bmp_specs.proofs.FirstInRange.{first_shown, range_after, range_from}
 use Rattle.origin_index.specs.Pairs.{pair_cmp}
 use Rattle.origin_index.specs.Parts.{is_past}
-use Rattle.origin_index.proofs.Ranges.{first_shown, range_after, range_from}
 use Rattle.origin_index.proofs.part.Part.after.Goals as goal
 
 pub returns-then-itself : goal.returns-then-itself

@@ -4,7 +4,7 @@ use Rattle.std.specs.List.{slice_get}
 use Rattle.std.specs.Ordering.{is_lt}
 use Rattle.origin_index.specs.Pairs.{pair_cmp}
 use Rattle.origin_index.proofs.Rows.{pair_total}
-use Rattle.origin_index.proofs.Ranges.{below_first, if_none, no_first}
+use Rattle.origin_index.proofs.FirstKeys.{below_first, if_none, no_first}
 use Rattle.origin_index.proofs.part.Part.split.Goals as goal
 
 pub returns-in_err-first-clause-none : goal.returns-in_err-first-clause-none

@@ -1,34 +1,12 @@
--- The first key of a set, and of what a range of it gives.
-use Rattle.std.proofs.Common.{◌≡◌, ◌<◌, ◌↔◌, length, Bool, true, false, ◌&&◌, cond, List, [], ◌∷◌, Option, None, Some, IsSome, IfNone, Result, Ok, Err, OnOk, refl, ap, sym, ◌∙◌, subst, arith}
+-- The first key of a set, and of a part of it.
+use Rattle.std.proofs.Common.{◌≡◌, ◌<◌, ◌↔◌, length, true, false, cond, List, [], ◌∷◌, Option, None, Some, IsSome, IfNone, Result, Ok, Err, OnOk, refl, ap, sym, ◌∙◌, subst, arith}
 use Rattle.std.specs.declared.cmp.Ordering.{Ordering}
 use Rattle.std.specs.declared.cmp.Ordering.TheVariants.{Less, Equal, Greater}
-use Rattle.std.specs.declared.ops.Bound.TheVariants.{Excluded, Included, Unbounded}
-use Rattle.std.specs.Ordering.{is_gt, is_lt, is_le, match_ordering, ordering_reverse}
+use Rattle.std.specs.Ordering.{is_gt, is_lt, match_ordering, ordering_reverse}
 use Rattle.std.specs.Cmp.{IsTotalOrder}
 use Rattle.std.specs.List.{filter, slice_get}
-use Rattle.std.specs.Option.{option_map}
 use Rattle.std.specs.Result.{is_err}
-use Rattle.std.specs.Map.Iter.{TakesFirst}
-use Rattle.std.specs.BTreeMap.Range.{range_contains}
 use Rattle.std.specs.BTreeSet.{insert_key}
-
--- the first item that `next` gives is the first of the list
-pub first_shown : {A X : Type 0} (shows : A → X) (s t : List X) (r : Option A) → TakesFirst shows s r t → option_map shows r ≡ slice_get s 0
-first_shown shows s t None h = rw h.0
-first_shown shows s t (Some x) h = rw h
-
-and_true : (b : Bool) → (b && true) ≡ b
-and_true true = refl
-and_true false = refl
-
--- a range with no end
-pub range_after : {K : Type 0} (cmp : K → K → Ordering) (k : K) (ks : List K) → filter (range_contains cmp (Excluded k) Unbounded) ks ≡ filter (λ e. is_lt (cmp k e)) ks
-range_after cmp k [] = refl
-range_after cmp k (e ∷ ks) = rw (and_true, range_after cmp k ks)
-
-pub range_from : {K : Type 0} (cmp : K → K → Ordering) (k : K) (ks : List K) → filter (range_contains cmp (Included k) Unbounded) ks ≡ filter (λ e. is_le (cmp k e)) ks
-range_from cmp k [] = refl
-range_from cmp k (e ∷ ks) = rw (and_true, range_from cmp k ks)
 
 pub if_none : {A P : Type 0} (r : Option A) → P → IfNone r P
 if_none None p = p
