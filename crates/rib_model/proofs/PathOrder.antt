@@ -1,21 +1,20 @@
 -- Lists of paths in the order of their identifiers.
-use Rattle.std.proofs.Common.{◌≡◌, ℕ, suc, ◌+◌, ◌<◌, ◌≤◌, length, take, drop, Bool, true, false, cond, ◌&&◌, List, [], ◌∷◌, ◌++◌, Option, None, Some, zero, get_or, map, refl, ap, sym, ◌∙◌, subst, T, arith, append_assoc}
+use Rattle.std.proofs.Common.{◌≡◌, ℕ, suc, ◌+◌, ◌<◌, ◌≤◌, length, take, drop, Bool, true, false, cond, List, [], ◌∷◌, ◌++◌, Option, zero, get_or, map, ap, sym, ◌∙◌, subst, arith, append_assoc}
 use Rattle.std.specs.declared.cmp.Ordering.{Ordering}
 use Rattle.std.specs.declared.cmp.Ordering.TheVariants.{Less, Equal, Greater}
-use Rattle.std.specs.Ordering.{is_lt, is_eq, match_ordering}
+use Rattle.std.specs.Ordering.{is_eq, match_ordering}
 use Rattle.std.specs.Cmp.{IsTotalOrder}
 use Rattle.std.specs.Cmp.Lexicographic.{options_total}
 use Rattle.std.specs.BTreeMap.{insert_entry, is_at}
-use Rattle.std.specs.FinMap.Entries.{put, by_order, below_all, is_sorted, is_sorted-put}
 use Rattle.std.proofs.lemmas.Cmp.{nat_cmp_total}
 use Rattle.std.proofs.lemmas.List.{drop-map, drop_more, length-map, map-append}
 use Rattle.std.specs.List.{take-map}
 use Rattle.std.specs.Arc.{arc_value}
-use Rattle.std.proofs.lemmas.Map.Lookups.{exact_unsigned}
-use Rattle.std.specs.List.{AllByRecursion}
 use Rattle.std.specs.List.Sorted.{IsStrictlySortedBy}
 use Rattle.std.specs.Map.{keys_of, remove_entry}
 use Rattle.bmp_specs.specs.Values.{AttrsValue}
+use Rattle.bmp_specs.proofs.OrderLaws.{one_id}
+use Rattle.bmp_specs.proofs.SortedPairs.{sorted-insert, sorted-remove}
 use Rattle.rib_model.specs.Paths.{id_cmp, path_value, path_values, GoesTo, StandsAt}
 use Rattle.rib_model.specs.declared.paths.PathOf.{PathOf}
 
@@ -32,79 +31,13 @@ pub record StandsBehind (id : Option ℕ) (paths : List Path) (n : ℕ) : Type 0
   pub within : n ≤ length paths
   pub taken : remove_entry (is_at (id_cmp id)) paths ≡ take n paths ++ remove_entry (is_at (id_cmp id)) (drop n paths)
 
--- ---- one order
-one_id : (a b : Option ℕ) → id_cmp a b ≡ Equal → a ≡ b
-one_id None None e = refl
-one_id None (Some n) e = absurd cc
-one_id (Some m) None e = absurd cc
-one_id (Some m) (Some n) e = ap Some (exact_unsigned m n e)
-
+-- ---- lists in the order of their identifiers
 id_total : IsTotalOrder id_cmp
 id_total = options_total nat_cmp_total
 
--- ---- lists in that order stay so
-put_cases : (o : Ordering) (a b c d : List Path) → c ≡ d → match_ordering o a b c ≡ by_order o a b d
-put_cases Less a b c d e = refl
-put_cases Equal a b c d e = refl
-put_cases Greater a b c d e = e
-
-put_is : (es : List Path) (k : Option ℕ) (v : AttrsValue) → insert_entry id_cmp es k v ≡ put id_cmp k v es
-put_is [] k v = refl
-put_is (e ∷ es) k v = put_cases (id_cmp k e.0) _ _ _ _ (ap (λ l. e ∷ l) (put_is es k v))
-
-both : (a b : Bool) → T a → T b → T (a && b)
-both true b p q = q
-both false b p q = p
-
-first : (a b : Bool) → T (a && b) → T a
-first true b p = tt
-first false b p = p
-
-second : (a b : Bool) → T (a && b) → T b
-second true b p = p
-second false b p = absurd p
-
-less_is : (o : Ordering) → T (is_lt o) → o ≡ Less
-less_is Less p = refl
-less_is Equal p = absurd p
-less_is Greater p = absurd p
-
-below_to : (x : Option ℕ) (es : List Path) → AllByRecursion (λ y. id_cmp x y ≡ Less) (keys_of es) → T (below_all id_cmp x es)
-below_to x [] a = tt
-below_to x (e ∷ es) a = both _ _ (subst (λ o. T (is_lt o)) (sym a.0) tt) (below_to x es a.1)
-
-below_from : (x : Option ℕ) (es : List Path) → T (below_all id_cmp x es) → AllByRecursion (λ y. id_cmp x y ≡ Less) (keys_of es)
-below_from x [] a = tt
-below_from x (e ∷ es) a = (less_is _ (first _ _ a), below_from x es (second _ _ a))
-
-sorted_to : (es : List Path) → IsStrictlySortedBy id_cmp (keys_of es) → T (is_sorted id_cmp es)
-unfolding IsStrictlySortedBy
-sorted_to [] s = tt
-sorted_to (e ∷ es) s = both _ _ (below_to e.0 es s.0) (sorted_to es s.1)
-
-sorted_from : (es : List Path) → T (is_sorted id_cmp es) → IsStrictlySortedBy id_cmp (keys_of es)
-unfolding IsStrictlySortedBy
-sorted_from [] s = tt
-sorted_from (e ∷ es) s = (below_from e.0 es (first _ _ s), sorted_from es (second _ _ s))
-
 pub sorted_one : (e : Path) → IsStrictlySortedBy id_cmp (keys_of (e ∷ []))
-sorted_one e = sorted_from (e ∷ []) tt
-
-pub sorted-insert : (es : List Path) (k : Option ℕ) (v : AttrsValue) → IsStrictlySortedBy id_cmp (keys_of es) → IsStrictlySortedBy id_cmp (keys_of (insert_entry id_cmp es k v))
-sorted-insert es k v s = sorted_from _ (subst (λ l. T (is_sorted id_cmp l)) (sym (put_is es k v)) (is_sorted-put id_cmp id_total k v es (sorted_to es s)))
-
-below_rest : (x : Option ℕ) (test : Option ℕ → Bool) (es : List Path) → T (below_all id_cmp x es) → T (below_all id_cmp x (remove_entry test es))
-below_rest x test [] a = tt
-below_rest x test (e ∷ es) a =
-    elim (test e.0) as (λ b. T (below_all id_cmp x (cond b es (e ∷ remove_entry test es)))) [ true ↦ second _ _ a | false ↦ both _ _ (first _ _ a) (below_rest x test es (second _ _ a)) ]
-
-is_sorted-remove : (test : Option ℕ → Bool) (es : List Path) → T (is_sorted id_cmp es) → T (is_sorted id_cmp (remove_entry test es))
-is_sorted-remove test [] s = tt
-is_sorted-remove test (e ∷ es) s =
-    elim (test e.0) as (λ b. T (is_sorted id_cmp (cond b es (e ∷ remove_entry test es)))) [ true ↦ second _ _ s | false ↦ both _ _ (below_rest e.0 test es (first _ _ s)) (is_sorted-remove test es (second _ _ s)) ]
-
-pub sorted-remove : (test : Option ℕ → Bool) (es : List Path) → IsStrictlySortedBy id_cmp (keys_of es) → IsStrictlySortedBy id_cmp (keys_of (remove_entry test es))
-sorted-remove test es s = sorted_from _ (is_sorted-remove test es (sorted_to es s))
+unfolding IsStrictlySortedBy
+sorted_one e = (tt, tt)
 
 -- ---- where an identifier stands
 next_path : (paths : List PathOf) (n : ℕ) (path : PathOf) → n < length paths → path ≡ get_or paths n path → drop n (path_values paths) ≡ path_value path ∷ drop (n + 1) (path_values paths)
@@ -212,7 +145,7 @@ pub kept_with : (paths items : List PathOf) (k : Option ℕ) (v : AttrsValue) �
 kept_with paths items k v e kept =
     let long = some_put (path_values items) k v in
     let same : length paths ≡ length (insert_entry id_cmp (path_values items) k v) = sym (length-map paths path_value) ∙ ap length e in
-    (omega (arith, long, same), subst (λ l. IsStrictlySortedBy id_cmp (keys_of l)) (sym e) (sorted-insert (path_values items) k v kept.1))
+    (omega (arith, long, same), subst (λ l. IsStrictlySortedBy id_cmp (keys_of l)) (sym e) (sorted-insert id_cmp id_total (path_values items) k v kept.1))
 
 pub kept_without : (paths items : List PathOf) (id : Option ℕ) → 0 < length paths → path_values paths ≡ remove_entry (is_at (id_cmp id)) (path_values items) → AreKept items → AreKept paths
-kept_without paths items id some e kept = (some, subst (λ l. IsStrictlySortedBy id_cmp (keys_of l)) (sym e) (sorted-remove (is_at (id_cmp id)) (path_values items) kept.1))
+kept_without paths items id some e kept = (some, subst (λ l. IsStrictlySortedBy id_cmp (keys_of l)) (sym e) (sorted-remove id_cmp (is_at (id_cmp id)) (path_values items) kept.1))
