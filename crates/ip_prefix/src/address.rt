@@ -1,8 +1,10 @@
-ghost use Rattle.std.specs.Prelude.{◌≡◌};
+ghost use Rattle.std.specs.Prelude.{◌≡◌, ◌≤◌, take, drop};
 ghost use Rattle.std.proofs.Common.{rules};
 ghost use Rattle.std.specs.Cmp.{partial_order_from_own_ties};
 ghost use Rattle.std.specs.Cmp.Rules.{comparing};
-ghost use Rattle.std.specs.Ordering.{as_partial_cmp};
+ghost use Rattle.std.specs.Cmp.Lexicographic.{slice_cmp};
+ghost use Rattle.std.specs.Ordering.{as_partial_cmp, nat_cmp};
+ghost use Rattle.std.specs.Slice.Scan.{big_endian};
 ghost use Rattle.bmp_specs.specs.Address.{IsAddress, FitsFamily};
 ghost use Rattle.bmp_specs.specs.Orders.{address_cmp};
 ghost use Rattle.bmp_specs.specs.Prefix.{width_of, padded};
@@ -90,9 +92,11 @@ impl Ord for Addr {
 
     // IPv4 comes before IPv6; then the bytes decide.
     fn cmp(&self, other: &Addr) -> Ordering {
-        self.family
-            .cmp(&other.family)
-            .then(self.octets.cmp(&other.octets))
+        let families = self.family.cmp(&other.family);
+        if families.is_ne() {
+            return families;
+        }
+        octets_cmp(&self.octets, &other.octets)
     }
 }
 
@@ -104,6 +108,34 @@ impl PartialOrd for Addr {
     fn partial_cmp(&self, other: &Addr) -> Option<Ordering> {
         Some(self.cmp(other))
     }
+}
+
+// The eight bytes from a place on, as one number.
+fn word_at(octets: &[u8; 16], at: usize) -> u64
+    requires { at ≤ 8 }
+    ensures { result ≡ big_endian 0 (take 8 (drop at octets.now)) }
+{
+    u64::from_be_bytes([
+        octets[at],
+        octets[at + 1],
+        octets[at + 2],
+        octets[at + 3],
+        octets[at + 4],
+        octets[at + 5],
+        octets[at + 6],
+        octets[at + 7],
+    ])
+}
+
+// The order of the bytes. It is that of two numbers, which is found at once.
+fn octets_cmp(a: &[u8; 16], b: &[u8; 16]) -> Ordering
+    ensures { result ≡ slice_cmp nat_cmp a.now b.now }
+{
+    let (x, y) = (word_at(a, 0), word_at(b, 0));
+    if x != y {
+        return x.cmp(&y);
+    }
+    word_at(a, 8).cmp(&word_at(b, 8))
 }
 
 /// How many bits an address of the family has.

@@ -1,4 +1,4 @@
-ghost use Rattle.std.specs.Prelude.{◌≡◌, ◌+◌, ◌<◌, ◌≤◌, [], ◌∷◌, ◌++◌, length};
+ghost use Rattle.std.specs.Prelude.{◌≡◌, ◌+◌, ◌/◌, ◌%◌, ◌<◌, ◌≤◌, [], ◌∷◌, ◌++◌, length};
 ghost use Rattle.bmp_specs.specs.NumberText.{number_text};
 
 use std::marker::Model;
@@ -60,10 +60,34 @@ impl ShortText {
     {
         if number < 10 {
             self.push(b'0' + number as u8);
+        } else if number < 100 {
+            self.put_pair(number as u8);
+        } else if number < 1000 {
+            self.put_three(number as u16);
         } else {
-            self.put_number(number / 10);
-            self.push(b'0' + (number % 10) as u8);
+            self.put_number(number / 1000);
+            self.put_three((number % 1000) as u16);
         }
+    }
+
+    // Appends a number below 100 as two digits.
+    fn put_pair(&mut self, pair: u8)
+        requires room { length self.old + 2 ≤ 64 }
+        requires pair { pair < 100 }
+        ensures { self.new ≡ self.old ++ (48 + pair / 10) ∷ (48 + pair % 10) ∷ [] }
+    {
+        self.push(b'0' + pair / 10);
+        self.push(b'0' + pair % 10);
+    }
+
+    // Appends a number below 1000 as three digits.
+    fn put_three(&mut self, three: u16)
+        requires room { length self.old + 3 ≤ 64 }
+        requires three { three < 1000 }
+        ensures { self.new ≡ self.old ++ (48 + three / 100) ∷ (48 + three % 100 / 10) ∷ (48 + three % 100 % 10) ∷ [] }
+    {
+        self.push(b'0' + (three / 100) as u8);
+        self.put_pair((three % 100) as u8);
     }
 
     /// The bytes.
