@@ -5,9 +5,10 @@
 //! with this crate and merges those of two attributes.
 //!
 //! Proved: `AsPath::read` gives the path that the bytes are, and `Broken` exactly where they are none;
-//! `AsPath::merge` gives the path of RFC 6793, section 4.2.3; `AsPath::count` and `AsPath::origin` say
-//! how many AS numbers it has and which AS it begins from. The words are in `bmp_specs`,
-//! `specs/AsPath.antt` and `specs/MergedPath.antt`. Begin there, then with `src/path.rt`.
+//! `AsPath::is_path` tells whether they are one, and makes none; `AsPath::merge` gives the path of
+//! RFC 6793, section 4.2.3; `AsPath::count` and `AsPath::origin` say how many AS numbers it has and which
+//! AS it begins from. The words are in `bmp_specs`, `specs/AsPath.antt` and `specs/MergedPath.antt`. Begin
+//! there, then with `src/path.rt`.
 #![tactic(auto)]
 
 mod faults;

@@ -1,6 +1,5 @@
 use crate::{AsPath, Numbers, PathFault, Segment, SegmentKind, Width};
 use std::alloc::{AllocError, Global};
-use std::process::Abort;
 use std::test::Fail;
 
 // The path as its segments' types, counts and AS numbers, in the order of the wire.
@@ -66,10 +65,6 @@ fn read_back(alloc: Global, bytes: &[u8], width: Width) -> Result<Option<u32>, P
     Ok(AsPath::read(alloc, bytes, width)?.origin())
 }
 
-fn expect_broken(rt: &impl Abort, alloc: Global, bytes: &[u8], width: Width) {
-    assert!(rt; matches!(read_back(alloc, bytes, width), Err(PathFault::Broken)));
-}
-
 #[test]
 fn path_that_ends_in_a_set_has_no_origin(rt: HostRuntime) -> Result<(), Fail> {
     let alloc = rt.alloc();
@@ -78,13 +73,43 @@ fn path_that_ends_in_a_set_has_no_origin(rt: HostRuntime) -> Result<(), Fail> {
     assert_eq!(rt; read_back(alloc, &set[..6], Width::Four)?, Some(64500));
     assert_eq!(rt; read_back(alloc, b"\x02\x00", Width::Two)?, None);
     assert_eq!(rt; read_back(alloc, b"", Width::Two)?, None);
-
-    // no such type of segment; a number short of a byte; a path of two bytes a number read as four
-    expect_broken(&rt, alloc, b"\x05\x00", Width::Two);
-    expect_broken(&rt, alloc, b"\x02", Width::Two);
-    expect_broken(&rt, alloc, b"\x02\x01\x00", Width::Two);
-    expect_broken(&rt, alloc, b"\x02\x01\xfb\xf4", Width::Four);
     Ok(())
+}
+
+#[test]
+fn what_is_judged_a_path_is_read(rt: HostRuntime) {
+    let alloc = rt.alloc();
+    for (bytes, width, is_path) in [
+        (b"".as_slice(), Width::Two, true),
+        // a segment of each type, the last without numbers
+        (
+            b"\x01\x01\xfb\xf4\x02\x01\xfb\xf5\x03\x01\xfd\xe8\x04\x00",
+            Width::Two,
+            true,
+        ),
+        (
+            b"\x02\x01\x00\x00\xfb\xf4\x01\x01\x00\x00\xfb\xf5",
+            Width::Four,
+            true,
+        ),
+        // two numbers of two bytes, read in either width
+        (b"\x02\x02\x5b\xa0\xfb\xf4", Width::Two, true),
+        (b"\x02\x02\x5b\xa0\xfb\xf4", Width::Four, false),
+        // no such type of segment, at the front and behind another segment
+        (b"\x00\x00", Width::Two, false),
+        (b"\x05\x00", Width::Two, false),
+        (b"\x02\x01\xfb\xf4\x05\x00", Width::Two, false),
+        // half a header, at the front and behind another segment
+        (b"\x02", Width::Two, false),
+        (b"\x02\x01\xfb\xf4\x02", Width::Two, false),
+        // a number short of a byte
+        (b"\x02\x01\x00", Width::Two, false),
+        (b"\x02\x01\x00\x00\xfb", Width::Four, false),
+    ] {
+        assert_eq!(rt; AsPath::is_path(bytes, width), is_path);
+        let broken = matches!(read_back(alloc, bytes, width), Err(PathFault::Broken));
+        assert_eq!(rt; !broken, is_path);
+    }
 }
 
 #[test]

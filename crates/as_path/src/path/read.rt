@@ -1,4 +1,4 @@
-ghost use Rattle.std.specs.Prelude.{◌≡◌, ◌≤◌, ◌*◌, ℕ, List, length, IfSome, IfNone, IfOk, IsErrOf};
+ghost use Rattle.std.specs.Prelude.{◌≡◌, ◌≤◌, ◌*◌, ◌↔◌, ℕ, List, length, IsTrue, IfSome, IfNone, IfOk, IsErrOf};
 ghost use Rattle.bmp_specs.specs.AsPath.{as_width, IsAsNumber, AreAsNumbers, ArePath};
 ghost use Rattle.bmp_specs.specs.Values.{SegmentValue};
 ghost use Rattle.as_path.specs.Reading.{HasHeader};
@@ -120,5 +120,25 @@ impl AsPath {
             }
         }
         Ok(AsPath { segments })
+    }
+
+    /// Whether the bytes are the value of an AS_PATH attribute (RFC 4271, section 4.3), or of AS4_PATH in
+    /// four bytes (RFC 6793, section 3): a list of segments. `read` gives their path exactly there, want of
+    /// memory aside. Takes no memory, and looks at the header of each segment once.
+    pub fn is_path(value: &[u8], width: Width) -> bool
+        ensures { IsTrue result ↔ ((path : List SegmentValue) × ArePath width value.now path) }
+    {
+        let mut rest = value;
+        while !rest.is_empty() {
+            match header(width, rest) {
+                Some((_, count)) => {
+                    let (_, asns) = rest.split_at(HEADER_LEN);
+                    let (_, after) = asns.split_at(width_bytes(width) * count as usize);
+                    rest = after;
+                }
+                None => return false,
+            }
+        }
+        true
     }
 }
