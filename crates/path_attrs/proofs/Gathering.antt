@@ -33,7 +33,7 @@ pub gathers_first : (field : List ℕ) → Gathers field field (replicate 256 fa
 gathers_first field = record { counts = counts_first field; stand = λ k lt. nothing 19 k; wide = refl }
 
 -- an attribute of another type changes nothing
-value_of_other : (k : ℕ) (parts : List OtherValue) (a : OtherValue) → eqb a.code k ≡ false → value_of k (parts ++ a ∷ []) ≡ value_of k parts
+pub value_of_other : (k : ℕ) (parts : List OtherValue) (a : OtherValue) → eqb a.code k ≡ false → value_of k (parts ++ a ∷ []) ≡ value_of k parts
 value_of_other k [] a e = ap (λ (b : Bool). option_map (λ (d : OtherValue). d.value) (cond b (Some a) None)) e
 value_of_other k (p ∷ parts) a e = go (eqb p.code k) (value_of_other k parts a e)
   where
@@ -41,16 +41,16 @@ value_of_other k (p ∷ parts) a e = go (eqb p.code k) (value_of_other k parts a
     go true later = refl
     go false later = later
 
--- the first of its type has the value of the type
-value_of_first : (k : ℕ) (parts : List OtherValue) (a : OtherValue) → list_any (eqb k) (codes_of parts) ≡ false → eqb a.code k ≡ true → value_of k (parts ++ a ∷ []) ≡ Some a.value
-value_of_first k [] a none e = ap (λ (b : Bool). option_map (λ (d : OtherValue). d.value) (cond b (Some a) None)) e
-value_of_first k (p ∷ parts) a none e = go (eqb k p.code) refl none (λ h. value_of_first k parts a h e)
+-- the first of its type has the value of the type, whatever follows
+pub value_of_first : (k : ℕ) (parts others : List OtherValue) (a : OtherValue) → list_any (eqb k) (codes_of parts) ≡ false → eqb a.code k ≡ true → value_of k (parts ++ a ∷ others) ≡ Some a.value
+value_of_first k [] others a none e = ap (λ (b : Bool). option_map (λ (d : OtherValue). d.value) (cond b (Some a) (find (λ d. d.code == k) others))) e
+value_of_first k (p ∷ parts) others a none e = go (eqb k p.code) refl none (λ h. value_of_first k parts others a h e)
   where
-    go : (b : Bool) → eqb k p.code ≡ b → (b || list_any (eqb k) (codes_of parts)) ≡ false → (list_any (eqb k) (codes_of parts) ≡ false → value_of k (parts ++ a ∷ []) ≡ Some a.value) → value_of k (p ∷ parts ++ a ∷ []) ≡ Some a.value
+    go : (b : Bool) → eqb k p.code ≡ b → (b || list_any (eqb k) (codes_of parts)) ≡ false → (list_any (eqb k) (codes_of parts) ≡ false → value_of k (parts ++ a ∷ others) ≡ Some a.value) → value_of k (p ∷ parts ++ a ∷ others) ≡ Some a.value
     go true q h later = absurd cc
     go false q h later =
         let other : eqb p.code k ≡ false = nat_eq_equiv.symm p.code k ∙ q in
-        ap (λ (b : Bool). option_map (λ (d : OtherValue). d.value) (cond b (Some p) (find (λ d. d.code == k) (parts ++ a ∷ [])))) other ∙ later h
+        ap (λ (b : Bool). option_map (λ (d : OtherValue). d.value) (cond b (Some p) (find (λ d. d.code == k) (parts ++ a ∷ others)))) other ∙ later h
 
 -- an attribute of one of the first types is put at its type
 pub gathers_more : (field rest after : List ℕ) (seen : List Bool) (count : ℕ) (values : List (Option (Bor (List ℕ)))) (a : OtherValue) (v : Option (Bor (List ℕ))) → Gathers field rest seen count values
@@ -68,7 +68,7 @@ gathers_more field rest after seen count values a v g here octet fresh is low =
     go k lt none true e =
         let same : k ≡ a.code = grind (arith, nat_tests) in
         let here : list_any (eqb k) (codes_of g.counts.parts) ≡ false = subst (λ (j : ℕ). list_any (eqb j) (codes_of g.counts.parts) ≡ false) (sym same) none in
-        ap option_copied (get_or-set_at values a.code k v None same (omega (arith, low, g.wide))) ∙ is ∙ sym (value_of_first k g.counts.parts a here e)
+        ap option_copied (get_or-set_at values a.code k v None same (omega (arith, low, g.wide))) ∙ is ∙ sym (value_of_first k g.counts.parts [] a here e)
     go k lt none false e =
         let apart : k ≢ a.code = grind (arith, nat_tests) in
         ap option_copied (get_or-set_other values a.code k v None apart) ∙ g.stand k lt ∙ sym (value_of_other k g.counts.parts a e)

@@ -1,6 +1,5 @@
 -- The attributes that are kept, one after another, and the numbers of COMMUNITIES.
 use Rattle.std.proofs.Common.{◌≡◌, ◌*◌, ◌%◌, ◌<◌, ℕ, Bool, true, false, cond, List, [], ◌∷◌, ◌++◌, length, take, drop, take-append-drop, map, filter, not, Option, Some, None, refl, sym, ap, subst, ◌∙◌, append_assoc, append-nil, arith, length-append}
-use Rattle.std.specs.Prelude.{IsErrOf, Err}
 use Rattle.byteorder.specs.Endian.{big_number}
 use Rattle.bmp_specs.specs.Attribute.{IsAttribute}
 use Rattle.bmp_specs.specs.Attributes.{AreCommunities, Optional, is_read, kept}
@@ -45,7 +44,7 @@ keeps_end field rest others k none parts are = let q = k.go parts are in at q.0 
     at (a ∷ later) (front, after, split, is, _) p = absurd (none a after (front, split, is))
 
 -- numbers of four bytes fill a multiple of four bytes
-length-AreNumbers : (bytes values : List ℕ) → AreParts (IsNumber 4) bytes values → length bytes ≡ 4 * length values
+pub length-AreNumbers : (bytes values : List ℕ) → AreParts (IsNumber 4) bytes values → length bytes ≡ 4 * length values
 length-AreNumbers bytes [] p = ap (λ (l : List ℕ). length l) p
 length-AreNumbers bytes (v ∷ values) (front, rest, split, is, p) = omega (arith, ap length split.joined, length-append front rest, is.len, length-AreNumbers rest values p)
 
@@ -70,7 +69,3 @@ optional_broken {V} Is o bytes e none v p = at v (subst (λ (q : Option (List �
     at : (w : Option V) → Optional Is (Some bytes) w → ⊥
     at None h = h
     at (Some w) h = none w h
-
--- one error, whatever the value would have been
-pub same_error : {T U E : Type 0} (e f : E) → IsErrOf {T = T} (Err e) f → IsErrOf {T = U} (Err e) f
-same_error {T} {U} {E} e f h = let s : e ≡ f = cc in ap (λ (x : E). Err x) s

@@ -3,3 +3,4 @@ pub mod Counting
 pub mod Gathering
 pub mod Keeping
 pub mod AsStated
+pub mod Judging

@@ -1,3 +1,4 @@
 pub mod Field
 pub mod Kept
 pub mod AsInfo
+pub mod Judged

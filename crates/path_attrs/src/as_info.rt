@@ -13,7 +13,7 @@ use byteorder::{BigEndian, ByteOrder};
 use std::alloc::Global;
 
 // How many bytes an AS number has.
-fn width_bytes(width: Width) -> usize
+pub(crate) fn width_bytes(width: Width) -> usize
     ensures { result ≡ as_width width }
 {
     match width {

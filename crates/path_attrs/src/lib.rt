@@ -7,9 +7,11 @@
 //! Proved: `read_attrs` gives the attributes that a field has, and `Broken` exactly where it has none:
 //! where it is no list of attributes, two are of one type, or a value isn't of the form of its type
 //! (RFC 4271, section 4.3; RFC 4760; RFC 1997). In two-octet form AS4_PATH and AS4_AGGREGATOR are put
-//! back (RFC 6793, section 4.2.3). A copy of attributes is equal to them. The words are in `bmp_specs`,
+//! back (RFC 6793, section 4.2.3). `judge_attrs` tells whether a field has attributes and makes none, and
+//! lends the multiprotocol ones. A copy of attributes is equal to them. The words are in `bmp_specs`,
 //! `specs/Attributes.antt` and `specs/FourOctetAs.antt`. Begin with `src/read.rt`; `src/found.rt` finds
-//! the value of each type in one pass, and each further file reads the value of its type.
+//! the value of each type in one pass, and each further file reads the value of its type. `src/judge.rt`
+//! judges a field where it stands.
 #![tactic(auto)]
 
 mod as4;
@@ -20,6 +22,7 @@ mod codes;
 mod communities;
 mod fault;
 mod found;
+mod judge;
 mod keep;
 mod mp;
 mod others;
@@ -32,7 +35,8 @@ mod values;
 pub use as_path::{AsPath, Numbers, Width};
 pub use attrs::{Aggregator, Attrs};
 pub use fault::AttrFault;
-pub use mp::MpPart;
+pub use judge::{Judged, judge_attrs};
+pub use mp::{MpPart, MpSlice};
 pub use others::{Other, OtherList};
 pub use read::{AttrsRead, read_attrs};
 pub use wire_io::{ByteList, NoMemory};

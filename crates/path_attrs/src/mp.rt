@@ -1,11 +1,13 @@
-ghost use Rattle.std.specs.Prelude.{IfOk, IsErrOf, option_copied};
+ghost use Rattle.std.specs.Prelude.{◌≡◌, IfOk, IfErr, OnErr, IsErrOf, option_copied};
+ghost use Rattle.std.specs.Option.{option_map};
 ghost use Rattle.bmp_specs.specs.Attributes.{Optional};
 ghost use Rattle.bmp_specs.specs.MpNlri.{IsMpReach, IsMpUnreach};
 ghost use Rattle.bmp_specs.specs.Values.{MpValue};
 ghost use Rattle.path_attrs.specs.Field.{Breaks};
+ghost use Rattle.path_attrs.specs.Judged.{mp_value};
 
 use crate::bytes::bytes_of;
-use crate::fault::AttrFault;
+use crate::fault::{AttrFault, Broken};
 use byteorder::{BigEndian, ByteOrder};
 use std::alloc::Global;
 use std::marker::Model;
@@ -35,43 +37,100 @@ impl Model for MpPart {
     ghost view = { λ m. record { afi = m.afi; safi = m.safi; hop = m.hop; prefixes = m.prefixes } };
 }
 
+/// MP_REACH_NLRI or MP_UNREACH_NLRI (RFC 4760, sections 3 and 4), in the bytes of its field.
+#[derive(Clone, Copy)]
+pub struct MpSlice<'a> {
+    /// "Address Family Identifier".
+    pub afi: u16,
+
+    /// "Subsequent Address Family Identifier".
+    pub safi: u8,
+
+    /// "Network Address of Next Hop"; empty in a withdrawal.
+    pub hop: &'a [u8],
+
+    /// "Network Layer Reachability Information" or "Withdrawn Routes".
+    pub prefixes: &'a [u8],
+}
+
 // The value of MP_REACH_NLRI (RFC 4760, section 3). Its reserved octet isn't judged.
-fn reach_of(alloc: Global, value: &[u8]) -> Result<MpPart, AttrFault>
-    ensures ok { IfOk result (IsMpReach value.now) }
-    ensures broken { IsErrOf result AttrFault.Broken → (m : MpValue) → IsMpReach value.now m → ⊥ }
+fn reach_in(value: &[u8]) -> Result<MpSlice<'_>, Broken>
+    ensures ok { IfOk result (λ m. IsMpReach value.now (mp_value m)) }
+    ensures broken { OnErr result ((m : MpValue) → IsMpReach value.now m → ⊥) }
 {
     if value.len() < 5 {
-        return Err(AttrFault::Broken);
+        return Err(Broken);
     }
     let size = value[3] as usize;
     if value.len() < size + 5 {
-        return Err(AttrFault::Broken);
+        return Err(Broken);
     }
     let (_, after) = value.split_at(4);
     let (hop, _) = after.split_at(size);
     let (_, prefixes) = value.split_at(size + 5);
-    Ok(MpPart {
+    Ok(MpSlice {
         afi: BigEndian::read_u16(value),
         safi: value[2],
-        hop: bytes_of(alloc, hop)?,
-        prefixes: bytes_of(alloc, prefixes)?,
+        hop,
+        prefixes,
     })
 }
 
 // The value of MP_UNREACH_NLRI (RFC 4760, section 4).
-fn unreach_of(alloc: Global, value: &[u8]) -> Result<MpPart, AttrFault>
-    ensures ok { IfOk result (IsMpUnreach value.now) }
-    ensures broken { IsErrOf result AttrFault.Broken → (m : MpValue) → IsMpUnreach value.now m → ⊥ }
+fn unreach_in(value: &[u8]) -> Result<MpSlice<'_>, Broken>
+    ensures ok { IfOk result (λ m. IsMpUnreach value.now (mp_value m)) }
+    ensures broken { OnErr result ((m : MpValue) → IsMpUnreach value.now m → ⊥) }
 {
     if value.len() < 3 {
-        return Err(AttrFault::Broken);
+        return Err(Broken);
     }
     let (_, prefixes) = value.split_at(3);
-    Ok(MpPart {
+    Ok(MpSlice {
         afi: BigEndian::read_u16(value),
         safi: value[2],
-        hop: ByteList::new(alloc),
-        prefixes: bytes_of(alloc, prefixes)?,
+        hop: &[],
+        prefixes,
+    })
+}
+
+// MP_REACH_NLRI where it stands, where its value is there.
+pub(crate) fn slice_reach<'a>(value: Option<&'a [u8]>) -> Result<Option<MpSlice<'a>>, Broken>
+    ensures ok { IfOk result (λ m. Optional IsMpReach (option_copied value.entry) (option_map mp_value m)) }
+    ensures broken { OnErr result (Breaks IsMpReach (option_copied value.entry)) }
+{
+    match value {
+        None => Ok(None),
+        Some(value) => match reach_in(value) {
+            Ok(slice) => Ok(Some(slice)),
+            Err(fault) => Err(fault),
+        },
+    }
+}
+
+// MP_UNREACH_NLRI where it stands, where its value is there.
+pub(crate) fn slice_unreach<'a>(value: Option<&'a [u8]>) -> Result<Option<MpSlice<'a>>, Broken>
+    ensures ok { IfOk result (λ m. Optional IsMpUnreach (option_copied value.entry) (option_map mp_value m)) }
+    ensures broken { OnErr result (Breaks IsMpUnreach (option_copied value.entry)) }
+{
+    match value {
+        None => Ok(None),
+        Some(value) => match unreach_in(value) {
+            Ok(slice) => Ok(Some(slice)),
+            Err(fault) => Err(fault),
+        },
+    }
+}
+
+// A copy of the attribute.
+fn part_of(alloc: Global, slice: &MpSlice<'_>) -> Result<MpPart, AttrFault>
+    ensures ok { IfOk result (λ part. part ≡ mp_value slice.now) }
+    ensures fault { IfErr result (λ fault. fault ≡ AttrFault.NoMemory) }
+{
+    Ok(MpPart {
+        afi: slice.afi,
+        safi: slice.safi,
+        hop: bytes_of(alloc, slice.hop)?,
+        prefixes: bytes_of(alloc, slice.prefixes)?,
     })
 }
 
@@ -80,12 +139,10 @@ pub(crate) fn read_reach(alloc: Global, value: Option<&[u8]>) -> Result<Option<M
     ensures ok { IfOk result (Optional IsMpReach (option_copied value.entry)) }
     ensures broken { IsErrOf result AttrFault.Broken → Breaks IsMpReach (option_copied value.entry) }
 {
-    match value {
-        None => Ok(None),
-        Some(value) => match reach_of(alloc, value) {
-            Ok(part) => Ok(Some(part)),
-            Err(fault) => Err(fault),
-        },
+    match slice_reach(value) {
+        Ok(None) => Ok(None),
+        Ok(Some(slice)) => Ok(Some(part_of(alloc, &slice)?)),
+        Err(_) => Err(AttrFault::Broken),
     }
 }
 
@@ -94,11 +151,9 @@ pub(crate) fn read_unreach(alloc: Global, value: Option<&[u8]>) -> Result<Option
     ensures ok { IfOk result (Optional IsMpUnreach (option_copied value.entry)) }
     ensures broken { IsErrOf result AttrFault.Broken → Breaks IsMpUnreach (option_copied value.entry) }
 {
-    match value {
-        None => Ok(None),
-        Some(value) => match unreach_of(alloc, value) {
-            Ok(part) => Ok(Some(part)),
-            Err(fault) => Err(fault),
-        },
+    match slice_unreach(value) {
+        Ok(None) => Ok(None),
+        Ok(Some(slice)) => Ok(Some(part_of(alloc, &slice)?)),
+        Err(_) => Err(AttrFault::Broken),
     }
 }

@@ -1,4 +1,4 @@
-use crate::{AttrFault, AttrsRead, Width, read_attrs};
+use crate::{AttrFault, AttrsRead, MpPart, MpSlice, Width, judge_attrs, read_attrs};
 use std::alloc::Global;
 use std::test::Fail;
 
@@ -121,15 +121,86 @@ fn one_attribute_of_each_type(rt: HostRuntime) {
     }
 }
 
-fn is_broken(alloc: Global, field: &[u8]) -> bool {
-    matches!(read_attrs(alloc, field, Width::Two), Err(AttrFault::Broken))
+// Whether what is lent of a multiprotocol attribute is what is read of it.
+fn is_read(lent: Option<MpSlice<'_>>, read: &Option<MpPart>) -> bool {
+    match (lent, read) {
+        (None, None) => true,
+        (Some(lent), Some(read)) => {
+            lent.afi == read.afi
+                && lent.safi == read.safi
+                && lent.hop == read.hop.as_slice()
+                && lent.prefixes == read.prefixes.as_slice()
+        }
+        _ => false,
+    }
+}
+
+// Whether the field has MP_REACH_NLRI and MP_UNREACH_NLRI, where it is one of attributes. `judge_attrs` and `read_attrs` have to
+// say the same.
+fn judged(alloc: Global, field: &[u8], width: Width) -> Result<Option<(bool, bool)>, Fail> {
+    match (judge_attrs(field, width), read_attrs(alloc, field, width)) {
+        (Some(lent), Ok(read)) => {
+            if !is_read(lent.reach, &read.reach) || !is_read(lent.unreach, &read.unreach) {
+                return Err("another attribute is lent".into());
+            }
+            Ok(Some((lent.reach.is_some(), lent.unreach.is_some())))
+        }
+        (None, Err(AttrFault::Broken)) => Ok(None),
+        _ => Err("judged and read differ".into()),
+    }
 }
 
 #[test]
-fn fields_that_are_no_attributes(rt: HostRuntime) {
+fn what_is_judged_attributes_is_read(rt: HostRuntime) -> Result<(), Fail> {
     let alloc = rt.alloc();
-    // a second ORIGIN; an ORIGIN of two bytes; half an attribute
-    assert!(rt; is_broken(alloc, b"\x40\x01\x01\x00\x40\x01\x01\x00"));
-    assert!(rt; is_broken(alloc, b"\x40\x01\x02\x00\x00"));
-    assert!(rt; is_broken(alloc, b"\x40\x01"));
+    for (field, width, lent) in [
+        (b"".as_slice(), Width::Two, Some((false, false))),
+        (TWO_BYTE, Width::Two, Some((false, false))),
+        (&AS_PATH, Width::Four, Some((false, false))),
+        (&NEXT_HOP, Width::Four, Some((false, false))),
+        (&MULTI_EXIT_DISC, Width::Four, Some((false, false))),
+        (&LOCAL_PREF, Width::Four, Some((false, false))),
+        (&ATOMIC_AGGREGATE, Width::Four, Some((false, false))),
+        (&AGGREGATOR, Width::Four, Some((false, false))),
+        (&COMMUNITIES, Width::Four, Some((false, false))),
+        (&LARGE_COMMUNITY, Width::Four, Some((false, false))),
+        (&MP_REACH_NLRI, Width::Four, Some((true, false))),
+        (&MP_UNREACH_NLRI, Width::Four, Some((false, true))),
+        // MP_UNREACH_NLRI of IPv4 multicast, and MP_REACH_NLRI of IPv4 unicast with a next hop of 4
+        (
+            b"\x80\x0f\x04\x00\x01\x02\x00\x80\x0e\x09\x00\x01\x01\x04\xc0\x00\x02\x01\x00",
+            Width::Two,
+            Some((true, true)),
+        ),
+        // AS_PATH, and AS4_PATH and AS4_AGGREGATOR that are none
+        (
+            b"\x40\x02\x00\xc0\x11\x01\x02\xc0\x12\x01\x00",
+            Width::Two,
+            Some((false, false)),
+        ),
+        // a second ORIGIN, and a second attribute of a type that isn't read
+        (b"\x40\x01\x01\x00\x40\x01\x01\x00", Width::Two, None),
+        (b"\xc0\x20\x00\xc0\x20\x00", Width::Two, None),
+        // half an attribute, and a value that ends past the field
+        (b"\x40\x01", Width::Two, None),
+        (b"\x40\x01\x02\x00", Width::Two, None),
+        (b"\x50\x01\x00", Width::Two, None),
+        // a path and an aggregator in the other width
+        (TWO_BYTE, Width::Four, None),
+        (&AS_PATH, Width::Two, None),
+        (&AGGREGATOR, Width::Two, None),
+        // one octet more than the type has, or one fewer
+        (b"\x40\x01\x02\x00\x00", Width::Two, None),
+        (b"\x40\x03\x05\xc0\x00\x02\x01\x00", Width::Two, None),
+        (b"\x80\x04\x03\x00\x00\x01", Width::Two, None),
+        (b"\x40\x05\x03\x00\x00\x64", Width::Two, None),
+        (b"\x40\x06\x01\x00", Width::Two, None),
+        (b"\xc0\x08\x03\xfb\xf0\x00", Width::Two, None),
+        // a next hop that ends past MP_REACH_NLRI, and half an MP_UNREACH_NLRI
+        (b"\x80\x0e\x05\x00\x01\x01\x01\xc0", Width::Two, None),
+        (b"\x80\x0f\x02\x00\x01", Width::Two, None),
+    ] {
+        assert_eq!(rt; judged(alloc, field, width)?, lent);
+    }
+    Ok(())
 }

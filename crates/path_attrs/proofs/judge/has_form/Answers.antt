@@ -1,0 +1,13 @@
+use Rattle.std.proofs.Common.{arith, refl}
+use Rattle.path_attrs.proofs.Judging.{aggregator_form, other_form}
+use Rattle.path_attrs.proofs.judge.has_form.Goals as goal
+
+pub returns-in-2 : goal.returns-in-2
+returns-in-2 c = rw c.in-2.is c.is_path.ensures
+
+pub returns-in-7 : goal.returns-in-7
+returns-in-7 c = rw c.in-7.is (aggregator_form _ _ _ c.width_bytes.ensures)
+
+pub returns-in_default : goal.returns-in_default
+returns-in_default c =
+    (λ _. other_form c.args.width c.args.code c.args.value.now (omega arith) (omega arith) (omega arith) (omega arith) (omega arith) (omega arith) (omega arith) (omega arith), λ _. refl)
