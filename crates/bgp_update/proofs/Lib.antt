@@ -2,3 +2,5 @@ pub mod Fields
 pub mod Reading
 pub mod Multiprotocol
 pub mod OneBody
+pub mod Counting
+pub mod Judging

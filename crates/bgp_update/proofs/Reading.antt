@@ -1,12 +1,11 @@
--- One item of a list of prefixes after another, as the loops read them and count them.
-use Rattle.std.proofs.Common.{◌≡◌, ◌+◌, ◌<◌, ◌≤◌, ℕ, Bool, true, false, List, [], ◌∷◌, ◌++◌, length, take, drop, Option, Some, None, sym, ap, subst, ◌∙◌, append_assoc, append-nil, arith, take-append-drop, length-append, length-drop}
+-- One item of a list of prefixes after another, as the loop reads them.
+use Rattle.std.proofs.Common.{◌≡◌, ◌+◌, ◌<◌, ◌≤◌, ℕ, Bool, true, false, List, [], ◌∷◌, ◌++◌, length, take, drop, Some, sym, ap, subst, ◌∙◌, append_assoc, append-nil, arith, take-append-drop, length-append, length-drop}
 use Rattle.std.proofs.lemmas.List.{drop-append-le, drop-take, length-take-le}
-use Rattle.std.proofs.Math.Seq.{drop-append_seam, take-append_seam}
+use Rattle.std.proofs.Math.Seq.{take-append_seam}
 use Rattle.byteorder.specs.Endian.{big_number}
 use Rattle.byteorder.specs.Numbers.{big_from-append}
 use Rattle.bmp_specs.specs.declared.wire.Family.{Family}
 use Rattle.bmp_specs.specs.Nlri.{AreNlri, IsNlri}
-use Rattle.bmp_specs.specs.Parts.{Split}
 use Rattle.bmp_specs.specs.Prefix.{IsPrefix, StandsAtFront}
 use Rattle.bmp_specs.specs.Sequence.{HasFront}
 use Rattle.bmp_specs.specs.Values.{NlriValue, PrefixValue}
@@ -77,41 +76,3 @@ items_stuck family identified bytes rest first now r left none ns are = HasRead-
 pub items_end : (family : Family) (identified : Bool) (bytes rest : List ℕ) (first now : List NlriValue) → ReadsItems family identified bytes rest first now → length rest ≡ 0
     → (ns : List NlriValue) × AreNlri family identified bytes ns × (now ≡ first ++ ns)
 items_end family identified bytes rest first now r empty = (r.out, HasRead-end (IsNlri family identified) bytes r.out rest r.read empty, r.is)
-
--- so many items were counted, and those of the rest are the others
-pub record CountsItems (identified : Bool) (bytes rest : List ℕ) (count : ℕ) : Type 0 where
-  pub go : (family : Family) (ns : List NlriValue) → AreNlri family identified bytes ns → (ms : List NlriValue) × AreNlri family identified rest ms × (length ns ≡ count + length ms)
-  pub room : count + length rest ≤ length bytes
-
-pub counts_first : (identified : Bool) (bytes : List ℕ) → CountsItems identified bytes bytes 0
-counts_first identified bytes = record { go = λ family ns are. (ns, are, omega arith); room = omega arith }
-
--- the size of the item at the front, where there is one
-abbrev pub HasSize : Bool → List ℕ → Option ℕ → Type 0
-HasSize identified input size = (family : Family) (n : NlriValue) (front rest : List ℕ) → Split input front rest → IsNlri family identified front n → size ≡ Some (length front)
-
-pub counts_more : (identified : Bool) (bytes rest after : List ℕ) (count size : ℕ) → CountsItems identified bytes rest count → HasSize identified rest (Some size) → 0 < size → size ≤ length rest
-    → after ≡ drop size rest → CountsItems identified bytes after (count + 1)
-counts_more identified bytes rest after count size c sized some within others = record {
-  go = λ family ns are. let q = c.go family ns are in next family q.0 q.1 (length ns) q.2;
-  room = omega (arith, c.room, some, within, ap length others, length-drop size rest);
-}
-  where
-    next : (family : Family) (ms : List NlriValue) → AreNlri family identified rest ms → (total : ℕ) → total ≡ count + length ms
-        → (ls : List NlriValue) × AreNlri family identified after ls × (total ≡ count + 1 + length ls)
-    next family [] e total is = absurd (omega (arith, ap length e, some, within))
-    next family (m ∷ ms) (front, tail, split, is', are) total is =
-        let same : size ≡ length front = cc (sized family m front tail split is') in
-        let back : after ≡ tail = others ∙ ap (λ (k : ℕ). drop k rest) same ∙ ap (λ (l : List ℕ). drop (length front) l) split.joined ∙ drop-append_seam front tail in
-        (ms, subst (λ (l : List ℕ). AreNlri family identified l ms) (sym back) are, omega (arith, is))
-
-pub counts_end : (identified : Bool) (bytes rest : List ℕ) (count : ℕ) → CountsItems identified bytes rest count → HasSize identified rest None
-    → (family : Family) (ns : List NlriValue) → AreNlri family identified bytes ns → count ≡ length ns
-counts_end identified bytes rest count c sized family ns are = let q = c.go family ns are in at q.0 q.1 q.2
-  where
-    at : (ms : List NlriValue) → AreNlri family identified rest ms → length ns ≡ count + length ms → count ≡ length ns
-    at [] e is = omega (arith, is)
-    at (m ∷ ms) (front, tail, split, is', _) is = absurd (none (sized family m front tail split is'))
-      where
-        none : None ≡ Some (length front) → ⊥
-        none e = cc e

@@ -2,7 +2,6 @@ ghost use Rattle.std.specs.Prelude.{◌≡◌, ◌≤◌, ◌<◌, ◌++◌, ℕ
 ghost use Rattle.bmp_specs.specs.declared.wire.Family.{Family};
 ghost use Rattle.bmp_specs.specs.AddressFamily.{uses_ids};
 ghost use Rattle.bmp_specs.specs.Nlri.{AreNlri, IsNlri};
-ghost use Rattle.bmp_specs.specs.Parts.{Split};
 ghost use Rattle.bmp_specs.specs.Sequence.{HasFront};
 ghost use Rattle.bmp_specs.specs.Values.{NlriValue};
 
@@ -13,7 +12,7 @@ use byteorder::{BigEndian, ByteOrder};
 use ip_prefix::{Family, Nlri, Prefix};
 
 /// The bytes of a "Path Identifier" (RFC 7911, section 3).
-const PATH_IDENTIFIER: usize = 4;
+pub(crate) const PATH_IDENTIFIER: usize = 4;
 
 // Whether prefixes of the family have path identifiers.
 pub(crate) fn uses_ids(ids: IdUse, family: Family) -> bool
@@ -69,38 +68,6 @@ fn read_item(family: Family, identified: bool, input: &[u8]) -> Option<(Nlri, us
         false => read_bare(family, input),
         true => read_identified(family, input),
     }
-}
-
-// How many bytes the item at the front takes, by its length octet alone.
-fn item_size(identified: bool, input: &[u8]) -> Option<usize>
-    ensures size { (family : Family) (n : NlriValue) (front rest : List ℕ) → Split input.now front rest → IsNlri family identified front n → result ≡ Some (length front) }
-    ensures some { IfSome result (λ size. 0 < size) }
-    ensures within { IfSome result (λ size. size ≤ length input.now) }
-{
-    let before = if identified { PATH_IDENTIFIER } else { 0 };
-    if input.len() <= before {
-        return None;
-    }
-    let size = before + 1 + (input[before] as usize + 7) / 8;
-    if input.len() < size {
-        return None;
-    }
-    Some(size)
-}
-
-// How many items the bytes are, by their length octets alone.
-pub(crate) fn count_items(identified: bool, bytes: &[u8]) -> usize
-    ensures count { (family : Family) (ns : List NlriValue) → AreNlri family identified bytes.now ns → result ≡ length ns }
-    ensures within { result ≤ length bytes.now }
-{
-    let mut count = 0;
-    let mut rest = bytes;
-    while let Some(size) = item_size(identified, rest) {
-        let (_, after) = rest.split_at(size);
-        count += 1;
-        rest = after;
-    }
-    count
 }
 
 // Appends the items that fill these bytes.

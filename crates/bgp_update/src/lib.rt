@@ -7,22 +7,26 @@
 //!
 //! Proved: `read_update` gives the value of the grammar exactly where the body has one, with the
 //! End-of-RIB marker (RFC 4724, section 2) and how many multiprotocol attributes are of families that
-//! aren't read. The grammar is `IsUpdate` in `specs/Update.antt` of `bmp_specs`; begin there, then with
-//! `src/read.rt`. `src/items.rt` reads lists of prefixes, `src/multi.rt` those of multiprotocol
+//! aren't read. `judge_update` tells whether the body has a value, and makes none. The grammar is
+//! `IsUpdate` in `specs/Update.antt` of `bmp_specs`; begin there, then with `src/read.rt`. `src/items.rt`
+//! reads lists of prefixes, `src/sizes.rt` counts them, `src/multi.rt` reads those of multiprotocol
 //! attributes.
 #![tactic(auto)]
 
 mod body;
 mod fault;
 mod items;
+mod judge;
 mod list;
 mod multi;
 mod read;
 mod shared;
+mod sizes;
 mod update;
 
 pub use bmp_specs::IdUse;
 pub use fault::UpdateFault;
+pub use judge::judge_update;
 pub use list::NlriList;
 pub use read::read_update;
 pub use update::Update;

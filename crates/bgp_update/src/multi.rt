@@ -7,8 +7,9 @@ ghost use Rattle.bmp_specs.specs.Values.{NlriValue};
 ghost use Rattle.bmp_specs.specs.declared.wire.Family.TheVariants.{V4};
 
 use crate::fault::UpdateFault;
-use crate::items::{add_items, count_items, uses_ids};
+use crate::items::{add_items, uses_ids};
 use crate::list::NlriList;
+use crate::sizes::count_items;
 use bmp_specs::IdUse;
 use ip_prefix::Family;
 use path_attrs::{AttrsRead, MpPart};
@@ -24,7 +25,7 @@ const AFI_IP6: u16 = 2;
 const SAFI_UNICAST: u8 = 1;
 
 // The family whose unicast the pair is.
-fn unicast_family(afi: u16, safi: u8) -> Option<Family>
+pub(crate) fn unicast_family(afi: u16, safi: u8) -> Option<Family>
     ensures { result ≡ unicast_family afi safi }
 {
     if afi == AFI_IP && safi == SAFI_UNICAST {
@@ -91,7 +92,7 @@ fn count_multi(ids: IdUse, part: &Option<MpPart>) -> usize
         None => 0,
         Some(part) => match unicast_family(part.afi, part.safi) {
             None => 0,
-            Some(family) => count_items(uses_ids(ids, family), part.prefixes.as_slice()),
+            Some(family) => count_items(family, uses_ids(ids, family), part.prefixes.as_slice()),
         },
     }
 }
@@ -136,7 +137,7 @@ pub(crate) fn read_plain(alloc: Global, ids: IdUse, nlri: &[u8]) -> Result<NlriL
     ensures ok { IfOk result (AreNlri V4 (uses_ids ids V4) nlri.now) }
     ensures broken { IsErrOf result UpdateFault.Broken → (ns : List NlriValue) → AreNlri V4 (uses_ids ids V4) nlri.now ns → ⊥ }
 {
-    let mut list = NlriList::with_capacity(alloc, count_items(ids.v4, nlri))?;
+    let mut list = NlriList::with_capacity(alloc, count_items(Family::V4, ids.v4, nlri))?;
     add_items(&mut list, Family::V4, ids.v4, nlri)?;
     Ok(list)
 }
@@ -151,7 +152,7 @@ pub(crate) fn read_withdrawn(
     ensures ok { IfOk result (AreWithdrawn ids routes.now unreach.now) }
     ensures broken { IsErrOf result UpdateFault.Broken → (ns : List NlriValue) → AreWithdrawn ids routes.now unreach.now ns → ⊥ }
 {
-    let count = count_items(ids.v4, routes) + count_multi(ids, unreach);
+    let count = count_items(Family::V4, ids.v4, routes) + count_multi(ids, unreach);
     let mut list = NlriList::with_capacity(alloc, count)?;
     add_items(&mut list, Family::V4, ids.v4, routes)?;
     add_multi(&mut list, ids, unreach)?;

@@ -1,7 +1,7 @@
 //! Bodies of UPDATE messages, and what is read of them: prefixes with `-` are withdrawn, those with `+`
 //! stand in the NLRI and those with `*` in MP_REACH_NLRI; `#` comes before a path identifier.
 
-use crate::{IdUse, NlriList, UpdateFault, read_update};
+use crate::{IdUse, NlriList, UpdateFault, judge_update, read_update};
 use bmp_specs::Width;
 use ip_prefix::{Family, Nlri, parse_prefix};
 use path_attrs::Attrs;
@@ -27,14 +27,19 @@ fn put_list(text: &mut Vec<u8>, sign: u8, list: &NlriList) -> Result<(), Fail> {
     Ok(())
 }
 
-// What is read of the body.
+// What is read of the body. A judgement that differs stands first.
 fn read(alloc: Global, body: &[u8], width: Width, ids: IdUse) -> Result<Vec<u8>, Fail> {
+    let is_update = judge_update(body, width, ids);
     let update = match read_update(alloc, body, width, ids) {
         Ok(update) => update,
+        Err(UpdateFault::Broken) if is_update => return Ok(Vec::from_slice(alloc, b"judged")?),
         Err(UpdateFault::Broken) => return Ok(Vec::from_slice(alloc, b"broken")?),
         Err(UpdateFault::NoMemory) => return Ok(Vec::from_slice(alloc, b"no memory")?),
     };
     let mut text = Vec::new(alloc);
+    if !is_update {
+        text.extend_from_slice(b"refused ")?;
+    }
     put_list(&mut text, b'-', &update.withdrawn)?;
     put_list(&mut text, b'+', &update.plain)?;
     put_list(&mut text, b'*', &update.multi)?;

@@ -1,0 +1,15 @@
+use Rattle.std.proofs.Common.{◌≡◌, true, List, Option, refl, ap, subst}
+use Rattle.std.specs.Prelude.{◌↔◌}
+use Rattle.std.specs.Option.{option_map}
+use Rattle.bmp_specs.specs.Values.{NlriValue}
+use Rattle.path_attrs.specs.declared.mp.MpSlice.{MpSlice}
+use Rattle.path_attrs.specs.Judged.{mp_value}
+use Rattle.bgp_update.proofs.Multiprotocol.{of_family}
+use Rattle.bgp_update.proofs.judge.are_multi.Goals as goal
+
+pub returns-in-Some-unicast_family : goal.returns-in-Some-unicast_family
+returns-in-Some-unicast_family c =
+    let part = mp_value c.in-Some.part in
+    let same =
+    of_family c.args.ids part part _ c.in-Some-unicast_family.family _ _ refl (ap (λ (o : Option MpSlice). option_map mp_value o) c.in-Some.is) c.in-Some-unicast_family.ensures c.uses_ids.ensures refl in
+    subst (λ (Are : List NlriValue → Type 0). (c.are_items.result ≡ true) ↔ ((ns : List NlriValue) × Are ns)) same c.are_items.ensures
