@@ -3,3 +3,4 @@ pub mod Faults
 pub mod UpdateOf
 pub mod Meanings
 pub mod Reaching
+pub mod Judging

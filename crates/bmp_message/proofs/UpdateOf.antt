@@ -1,5 +1,5 @@
 -- The UPDATE of a Route Monitoring message.
-use Rattle.std.proofs.Common.{◌≡◌, ℕ, List, sym, ap, subst}
+use Rattle.std.proofs.Common.{◌≡◌, ℕ, List, refl, sym, ap, subst}
 use Rattle.bmp_specs.specs.declared.wire.IdUse.{IdUse}
 use Rattle.bmp_specs.specs.declared.wire.Width.{Width}
 use Rattle.bmp_specs.specs.BgpMessage.{IsBgpMessage, update_type}
@@ -27,3 +27,16 @@ no_body opens h rest body width ids is w i none u p =
     let same : p.message.body ≡ body = ap (λ (m : BgpMessageValue). m.body) (IsBgpMessage-one rest p.message (update_with body) p.is is) in
     none u (subst (λ (x : Width). IsUpdate x ids body u) (sym w)
     (subst (λ (x : IdUse). IsUpdate (width_of h) x body u) (sym i) (subst (λ (l : List ℕ). IsUpdate (width_of h) (id_use opens h) l u) same p.body_is)))
+
+-- where its body is that of an UPDATE
+pub routes_are : (opens : OpensValue) (h : HeaderValue) (rest body : List ℕ) (width : Width) (ids : IdUse) → IsBgpMessage rest (update_with body) → width ≡ width_of h → ids ≡ id_use opens h
+    → (u : UpdateValue) × IsUpdate width ids body u → (u : UpdateValue) × IsRouteMonitoring opens h rest u
+routes_are opens h rest body width ids is w i (u, body_is) = (
+  u,
+  record {
+    message = update_with body;
+    is = is;
+    is_update = refl;
+    body_is = subst (λ (x : IdUse). IsUpdate (width_of h) x body u) i (subst (λ (x : Width). IsUpdate x ids body u) w body_is);
+  },
+)

@@ -1,5 +1,5 @@
 -- The effects of the message that a body means.
-use Rattle.std.specs.Prelude.{◌≡◌, List, []}
+use Rattle.std.specs.Prelude.{◌≡◌, Bool, MatchBool, List, []}
 use Rattle.bmp_specs.specs.MessageBody.{MessageType, ReadingState, peer_down_notification, peer_up_notification, route_mirroring, route_monitoring, statistics_report}
 use Rattle.bmp_specs.specs.MessageEffects.{effects_of}
 use Rattle.bmp_specs.specs.Values.{EffectValue, EntryValue, MessageValue, opened, message, closed}
@@ -23,6 +23,10 @@ pub record HasEffects (Means : MessageValue → ReadingState → Type 0) (effect
 -- no message is meant
 abbrev pub MeansNothing : (MessageValue → ReadingState → Type 0) → Type 0
 MeansNothing Means = (m : MessageValue) (next : ReadingState) → Means m next → ⊥
+
+-- the answer tells whether a message is meant, which leaves this state
+abbrev pub TellsMeaning : (MessageValue → ReadingState → Type 0) → ReadingState → Bool → Type 0
+TellsMeaning Means next told = MatchBool told ((effects : List EffectValue) × HasEffects Means effects next) (MeansNothing Means)
 
 -- no message is meant that has an entry
 abbrev pub MeansNoEntry : (EntryValue → ReadingState → Type 0) → Type 0

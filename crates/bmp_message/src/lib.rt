@@ -9,7 +9,9 @@
 //! Proved: `Reading::entry` gives the entry of the message that the frame is under the peers that are
 //! up, and leaves those that are up after it. It answers `EntryFault::Broken` only where the body is in
 //! no grammar, and a refusal leaves the peers as they were. The entries, the offset and the end that a
-//! `StreamWalk` gives are those of the one walk of the bytes fed.
+//! `StreamWalk` gives are those of the one walk of the bytes fed. `Reading::judge` and
+//! `StreamWalk::judge_next` move alike and give no effects, for who wants types and lengths alone; of an
+//! UPDATE they make nothing.
 //! Begin with `specs/MessageBody.antt` and `specs/MessageEffects.antt` of `bmp_specs`, then
 //! `src/reading.rt` and `src/walk.rt`; `src/routes.rt` and `src/events.rt` read what stands behind the
 //! headers.
@@ -24,7 +26,7 @@ mod walk;
 
 pub use fault::EntryFault;
 pub use reading::Reading;
-pub use walk::{Progress, StreamWalk};
+pub use walk::{Judgement, Progress, StreamWalk};
 
 #[cfg(test)]
 mod tests;

@@ -8,6 +8,8 @@ ghost use Rattle.bmp_message.specs.Effects.{HasEffects, MeansNoEntry, MeansNothi
 ghost use Rattle.peer_events.specs.Body.{most_body};
 ghost use Rattle.rib_model.specs.Entries.{entry_value};
 
+mod judge;
+
 use crate::effects::only;
 use crate::fault::EntryFault;
 use crate::{events, routes};
@@ -21,7 +23,7 @@ use std::marker::Model;
 use std::sync::Arc;
 
 /// The bytes of the common header (RFC 7854, section 4.1).
-const COMMON_HEADER: u32 = 6;
+pub(crate) const COMMON_HEADER: u32 = 6;
 
 /// The types of messages (RFC 7854, section 4.1).
 const ROUTE_MONITORING: u8 = 0;

@@ -1,4 +1,4 @@
-ghost use Rattle.std.specs.Prelude.{◌≡◌, ℕ, List, IfOk, IfSome, IfNone, IsErrOf};
+ghost use Rattle.std.specs.Prelude.{◌≡◌, ◌↔◌, ℕ, List, IsTrue, IfOk, IfSome, IfNone, IsErrOf};
 ghost use Rattle.bmp_specs.specs.BgpMessage.{IsBgpMessage, update_type};
 ghost use Rattle.bmp_specs.specs.MessageBody.{IsRouteMonitoring, id_use as ids_of, side_of as side_in, width_of as width_in};
 ghost use Rattle.bmp_specs.specs.MessageEffects.{effects_of};
@@ -9,7 +9,7 @@ ghost use Rattle.bmp_message.specs.State.{opens_of};
 use crate::effects::{add_announcements, add_mark, add_unread, add_withdrawals, one_if};
 use crate::fault::EntryFault;
 use bgp_open::{PeerInfo, Side, bgp_frame, path_ids};
-use bgp_update::{IdUse, Update, read_update};
+use bgp_update::{IdUse, Update, judge_update, read_update};
 use bmp_frames::{PeerHeader, PeerKey};
 use bmp_specs::{Family, View, Width};
 use rib_model::EffectList;
@@ -90,6 +90,16 @@ fn read_routes(
     };
     let update = read_update(alloc, body, width_of(head), id_use(peer, head))?;
     Ok(update)
+}
+
+// Whether the bytes are the UPDATE of a Route Monitoring message (RFC 7854, section 4.6) of a peer that is up. Takes no memory.
+pub(crate) fn judge_routes(peer: &PeerInfo, head: &PeerHeader, rest: &[u8]) -> bool
+    ensures { IsTrue result ↔ ((u : UpdateValue) × IsRouteMonitoring (opens_of peer.now) head.now rest.now u) }
+{
+    match update_body(rest) {
+        None => false,
+        Some(body) => judge_update(body, width_of(head), id_use(peer, head)),
+    }
 }
 
 // How many effects the UPDATE has.

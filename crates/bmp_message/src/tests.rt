@@ -421,17 +421,19 @@ fn describe(alloc: Global, out: &mut Vec<u8>, effect: &Effect) -> Result<(), Fai
     Ok(())
 }
 
-// Reads a message, and writes its effects.
+// Reads a message, and writes its effects. Another reading judges it.
 fn read<R: Abort>(
     rt: &R,
     alloc: Global,
     reading: &mut Reading,
+    judging: &mut Reading,
     message: (u8, u32, &str, &str),
 ) -> Result<Vec<u8>, Fail> {
     let (kind, wanted, head, rest) = message;
     let mut body = hex::decode(alloc, head)?;
     body.extend_from_slice(hex::decode(alloc, rest)?.as_slice())?;
     assert!(rt; body.len() <= 1000);
+    let judged = judging.judge(kind, body.as_slice());
     let mut said = Vec::new(alloc);
     match reading.entry(kind, body.as_slice()) {
         Ok(
@@ -442,12 +444,16 @@ fn read<R: Abort>(
             },
         ) => {
             assert_eq!(rt; (read, length), (kind, wanted));
+            assert_eq!(rt; judged, Ok(()));
             for effect in effects.as_slice() {
                 describe(alloc, &mut said, effect)?;
             }
         }
         Ok(_) => said.extend_from_slice(b"no message")?,
-        Err(EntryFault::Broken) => said.extend_from_slice(b"broken")?,
+        Err(EntryFault::Broken) => {
+            assert_eq!(rt; judged, Err(EntryFault::Broken));
+            said.extend_from_slice(b"broken")?;
+        }
         Err(EntryFault::NoMemory) => return Err("no memory".into()),
     }
     Ok(said)
@@ -457,8 +463,10 @@ fn read<R: Abort>(
 fn messages_have_their_effects(rt: HostRuntime) -> Result<(), Fail> {
     let alloc = rt.alloc();
     let mut reading = Reading::new(alloc);
+    let mut judging = Reading::new(alloc);
     for (kind, length, head, rest, effects) in MESSAGES {
-        let said = read(&rt, alloc, &mut reading, (kind, length, head, rest))?;
+        let message = (kind, length, head, rest);
+        let said = read(&rt, alloc, &mut reading, &mut judging, message)?;
         assert_eq!(rt; said.as_slice(), effects.as_bytes());
     }
     let address = parse_addr(b"192.0.2.1").ok_or("no address")?;
@@ -469,6 +477,7 @@ fn messages_have_their_effects(rt: HostRuntime) -> Result<(), Fail> {
             address,
         };
         assert_eq!(rt; reading.is_up(&key), kind < 2);
+        assert_eq!(rt; judging.is_up(&key), kind < 2);
     }
     Ok(())
 }

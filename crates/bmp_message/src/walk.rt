@@ -3,9 +3,12 @@ ghost use Rattle.bmp_specs.specs.Values.{EntryValue};
 ghost use Rattle.bmp_frames.specs.Cutter.{with_more};
 ghost use Rattle.bmp_message.specs.StreamWalk.{HasReached, GoesOn, Advances, Repeats, IsAsBefore, fed_of, rest_of, next_stage};
 
+mod judge;
+
 use crate::{EntryFault, Reading};
 use bmp_frames::{Cutter, Next};
 use bmp_specs::Why;
+pub use judge::Judgement;
 use rib_model::Entry;
 use std::alloc::Global;
 use std::marker::Model;

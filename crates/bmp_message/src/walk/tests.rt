@@ -1,9 +1,10 @@
 //! Streams that come in two pieces, cut at every place.
 
-ghost use Rattle.std.specs.Prelude.{◌≡◌, ◌+◌, ◌≤◌, length, IfOk};
-ghost use Rattle.bmp_message.specs.StreamWalk.{fed_of};
+ghost use Rattle.std.specs.Prelude.{◌≡◌, ◌+◌, ◌≤◌, [], length, IfOk};
+ghost use Rattle.bmp_message.specs.Judgement.{progress_of};
+ghost use Rattle.bmp_message.specs.StreamWalk.{Advances, fed_of};
 
-use super::{Progress, StreamWalk};
+use super::{Judgement, Progress, StreamWalk};
 use bmp_specs::Why;
 use rib_model::Entry;
 use std::alloc::Global;
@@ -27,38 +28,61 @@ const ROUTES: &str =
 // The reason is "Session administratively closed".
 const TERMINATION: &str = "030000000c05000100020000";
 
-// The types of the entries that are there, behind those so far, and what follows them.
-fn drain(walk: &mut StreamWalk, kinds: &mut Vec<u8>) -> Result<&'static str, Fail>
+// The next message, as `next` or as `judge_next` gives it.
+fn step(walk: &mut StreamWalk, judges: bool) -> Result<Judgement, Fail>
+    ensures { IfOk result (λ judged. Advances walk.old walk.new (progress_of [] judged)) }
+{
+    if judges {
+        return Ok(walk.judge_next()?);
+    }
+    match walk.next()? {
+        Progress::Entry(Entry::Message { kind, length, .. }) => {
+            Ok(Judgement::Message { kind, length })
+        }
+        Progress::Entry(_) => Err("no message".into()),
+        Progress::More => Ok(Judgement::More),
+        Progress::Terminated => Ok(Judgement::Terminated),
+        Progress::Broken(why) => Ok(Judgement::Broken(why)),
+    }
+}
+
+// The types and lengths of the messages that are there, behind those so far, and what follows them. Every other message is
+// asked for by the other call of the two.
+fn drain(
+    walk: &mut StreamWalk,
+    calls: [bool; 2],
+    messages: &mut Vec<(u8, u32)>,
+) -> Result<&'static str, Fail>
     ensures { IfOk result (λ end. fed_of walk.new ≡ fed_of walk.old) }
 {
     loop {
-        match walk.next()? {
-            Progress::Entry(Entry::Message { kind, .. }) => kinds.push(kind)?,
-            Progress::Entry(_) => return Ok("no message"),
-            Progress::More => return Ok("more"),
-            Progress::Terminated => return Ok("terminated"),
-            Progress::Broken(Why::Version) => return Ok("version"),
-            Progress::Broken(Why::Length) => return Ok("length"),
-            Progress::Broken(Why::Body) => return Ok("body"),
+        match step(walk, calls[messages.len() % 2])? {
+            Judgement::Message { kind, length } => messages.push((kind, length))?,
+            Judgement::More => return Ok("more"),
+            Judgement::Terminated => return Ok("terminated"),
+            Judgement::Broken(Why::Version) => return Ok("version"),
+            Judgement::Broken(Why::Length) => return Ok("length"),
+            Judgement::Broken(Why::Body) => return Ok("body"),
         }
     }
 }
 
-// The types of the entries of a stream in two pieces, the offset, the rest and the end.
+// The messages of a stream in two pieces, the offset, the rest and the end.
 fn walked(
     alloc: Global,
+    calls: [bool; 2],
     first: &[u8],
     second: &[u8],
-) -> Result<(Vec<u8>, u64, u64, &'static str), Fail>
+) -> Result<(Vec<(u8, u32)>, u64, u64, &'static str), Fail>
     requires { length first.now + length second.now ≤ 1000 }
 {
-    let mut kinds = Vec::new(alloc);
+    let mut messages = Vec::new(alloc);
     let mut walk = StreamWalk::new(alloc);
     walk.feed(first)?;
-    drain(&mut walk, &mut kinds)?;
+    drain(&mut walk, calls, &mut messages)?;
     walk.feed(second)?;
-    let end = drain(&mut walk, &mut kinds)?;
-    Ok((kinds, walk.offset(), walk.rest(), end))
+    let end = drain(&mut walk, calls, &mut messages)?;
+    Ok((messages, walk.offset(), walk.rest(), end))
 }
 
 // The bytes that these texts of hex digits spell, one after another.
@@ -73,39 +97,53 @@ fn spelled(alloc: Global, texts: &[&str]) -> Result<Vec<u8>, Fail> {
 #[test]
 fn every_cut_gives_one_walk(rt: HostRuntime) -> Result<(), Fail> {
     let alloc = rt.alloc();
-    // the stream; the types of its entries, the offset, the bytes behind it, and the end
-    let streams: [(&[&str], &[u8], u64, u64, &str); 8] = [
-        (&[], b"", 0, 0, "more"),
-        (&["040000000604"], b"", 0, 6, "version"),
-        (&["0300000006c8", "030000000504"], b"\xc8", 6, 6, "length"),
-        (&["0300000006c8", "030010000104"], b"\xc8", 6, 6, "length"),
-        (&[INITIATION, "030000"], b"\x04", 20, 3, "more"),
+    // the stream; its messages with type and length, the offset, the bytes behind it, and the end
+    let streams: [(&[&str], &[(u8, u32)], u64, u64, &str); 8] = [
+        (&[], &[], 0, 0, "more"),
+        (&["040000000604"], &[], 0, 6, "version"),
+        (
+            &["0300000006c8", "030000000504"],
+            &[(200, 6)],
+            6,
+            6,
+            "length",
+        ),
+        (
+            &["0300000006c8", "030010000104"],
+            &[(200, 6)],
+            6,
+            6,
+            "length",
+        ),
+        (&[INITIATION, "030000"], &[(4, 20)], 20, 3, "more"),
         (
             &[INITIATION, PEER_UP, ROUTES],
-            b"\x04\x03\x00",
+            &[(4, 20), (3, 154), (0, 96)],
             270,
             0,
             "more",
         ),
         (
             &[INITIATION, TERMINATION, "ff"],
-            b"\x04\x05",
+            &[(4, 20), (5, 12)],
             32,
             1,
             "terminated",
         ),
-        (&[PEER_UP_WITH_PATHS, ROUTES], b"\x03", 166, 96, "body"),
+        (&[PEER_UP_WITH_PATHS, ROUTES], &[(3, 166)], 166, 96, "body"),
     ];
-    for (texts, kinds, offset, rest, end) in streams {
+    for (texts, messages, offset, rest, end) in streams {
         let bytes = spelled(alloc, texts)?;
         let bytes = bytes.as_slice();
         assert!(rt; bytes.len() <= 1000);
         for place in 0..bytes.len() + 1 {
             let (first, second) = bytes.split_at(place);
-            let (found, at, left, what) = walked(alloc, first, second)?;
-            assert_eq!(rt; found.as_slice(), kinds);
-            assert_eq!(rt; (at, left), (offset, rest));
-            assert_eq!(rt; what, end);
+            for calls in [[false, false], [true, true], [false, true]] {
+                let (found, at, left, what) = walked(alloc, calls, first, second)?;
+                assert_eq!(rt; found.as_slice(), messages);
+                assert_eq!(rt; (at, left), (offset, rest));
+                assert_eq!(rt; what, end);
+            }
         }
     }
     Ok(())
