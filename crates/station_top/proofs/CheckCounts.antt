@@ -9,6 +9,9 @@ use Rattle.bmp_specs.specs.Check.{check_counts, check_lines, length_of, is_messa
 use Rattle.bmp_specs.specs.Lines.{number_line}
 use Rattle.bmp_specs.specs.Reply.{told_count}
 use Rattle.bmp_specs.specs.Values.{EffectValue, EntryValue, opened, message, closed}
+use Rattle.bmp_message.specs.StreamWalk.{WalkValue, HasReached}
+use Rattle.station_top.specs.Ledger.{DrawsNext}
+use Rattle.station_top.specs.declared.ledger.Drawn.TheVariants as drawn
 use Rattle.station_top.specs.Check.{AreCounts, counts_more, lines_of, number_lines}
 use Rattle.rib_model.specs.declared.entry.Entry.{Entry}
 use Rattle.rib_model.specs.declared.entry.Entry.TheVariants.{Opened, Message, Closed}
@@ -82,6 +85,11 @@ counts_message c kind len effects entries h =
       route_mirroring = told_where entries m (is_of_kind 6) c.route_mirroring e.route_mirroring;
       other = told_where entries m is_of_other_kind c.other e.other;
     })
+
+-- a message of this type and length was drawn of a walk, and counted, whatever its effects are
+pub draws_counted : (c now : Counts) (kind len : ℕ) (fed : List ℕ) (given : List EntryValue) (walk : WalkValue) → now ≡ counts_more c kind len
+    → (effects : List EffectValue) × HasReached fed (given ++ message kind len effects ∷ []) walk → DrawsNext (AreCounts c) (AreCounts now) fed given walk drawn.Message
+draws_counted c now kind len fed given walk is (effects, reached) = (message kind len effects, reached, λ entries h. rw is (counts_message c kind len effects entries h))
 
 -- no count counts it
 record IsUncounted (e : EntryValue) : Type 0 where

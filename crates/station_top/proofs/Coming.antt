@@ -1,10 +1,9 @@
 -- The one input connection of a port, opened, taken and closed.
-use Rattle.std.proofs.Common.{◌≡◌, ℕ, ◌+◌, ◌≤◌, length, take, List, [], ◌∷◌, ◌++◌, Option, Some, None, Bool, true, false, Result, Ok, Err, refl, ap, sym, ◌∙◌, subst, arith}
-use Rattle.std.specs.Prelude.{IfSome, IfOk, Contains}
+use Rattle.std.proofs.Common.{◌≡◌, ℕ, ◌<◌, length, take, List, [], ◌∷◌, ◌++◌, Option, Some, None, Bool, true, false, Result, Ok, Err, refl, ap, sym, ◌∙◌, subst, inr, arith}
+use Rattle.std.specs.Prelude.{◌↔◌, IfSome, IfOk, OnErr}
 use Rattle.wire_io.specs.declared.bytes.NoMemory.{NoMemory}
 use Rattle.std.specs.Io.KnownBytes.{Consumes, IsAtEnd}
-use Rattle.bmp_specs.specs.declared.causes.Cause.{Cause}
-use Rattle.bmp_specs.specs.declared.causes.Cause.TheVariants.{Ended, Terminated, CutShort, Broken, ReadFault, Full}
+use Rattle.bmp_specs.specs.declared.causes.Cause.TheVariants.{Ended, ReadFault}
 use Rattle.bmp_specs.specs.Life.{LastRead, gave, gave_none, failed, most_taken}
 use Rattle.bmp_specs.specs.Values.{EntryValue, opened}
 use Rattle.wire_io.specs.declared.sink.Failed.{Failed}
@@ -12,11 +11,12 @@ use Rattle.wire_io.specs.Aside.{Aside, Given, Plan, fresh}
 use Rattle.station_doors.specs.Doors.{Opens, OpensNext, GivesNext, Closes, untouched}
 use Rattle.station_doors.proofs.Sessions.{given_more_last}
 use Rattle.station_top.specs.Input.{HasCome, input_of}
-use Rattle.station_top.specs.Take.{GivesMore, IsNew, Takes, TakesInput, FailsBy, Comes, first_of}
+use Rattle.station_top.specs.Take.{GivesMore, IsNew, Takes, TakesBytes, TakesInput, HasBegun, BreaksOff, Gives, GoesAsPlanned, ReadsAsPlanned, CountsLast, Comes, first_of}
 use Rattle.station_top.specs.declared.take.Taken.{Taken}
 use Rattle.bmp_specs.specs.Walk.{whole}
 use Rattle.station_top.proofs.Fronts.{read_no_further}
 use Rattle.station_top.proofs.Causes.{come_of, come_none, come_unopened}
+use Rattle.station_top.proofs.Taking.{gives_none}
 
 new_given : (a b : Option (List Given)) → GivesNext a b (Ok true) → GivesMore b b [] gave
 new_given None b p = subst (λ (o : Option (List Given)). GivesMore o o [] gave) (sym p) refl
@@ -38,15 +38,21 @@ front_of b (Some ys) bytes p = (ys, p, λ h. h)
 given_first : (given now : Option (List Given)) (bytes : List ℕ) (last : LastRead) → given ≡ Some (fresh ∷ []) → GivesMore given now bytes last → now ≡ Some (record { bytes = bytes; last = last } ∷ [])
 given_first given now bytes last e p = subst (λ (o : Option (List Given)). GivesMore o now bytes last) e p
 
--- a failed read comes no later than the planned one
-fault_place : (cause : Cause) (plan : Plan) (bytes : List ℕ) (last : LastRead) (messages : List EntryValue) (offset : ℕ) → HasCome (record { bytes = bytes; last = last }) messages cause → (last ≡ failed → FailsBy (Some plan) (length bytes)) → cause ≡ ReadFault offset
-    → (k : ℕ) × (k ≤ offset) × Contains plan.fails k
-fault_place (ReadFault at) plan bytes last messages offset h f e = let p = f h.because.fits.0 in let same : at ≡ offset = cc in (p.0, omega (arith, p.1, h.because.fits.1, same), p.2)
-fault_place Ended plan bytes last messages offset h f e = absurd (cc e)
-fault_place Terminated plan bytes last messages offset h f e = absurd (cc e)
-fault_place Full plan bytes last messages offset h f e = absurd (cc e)
-fault_place (CutShort at) plan bytes last messages offset h f e = absurd (cc e)
-fault_place (Broken at why) plan bytes last messages offset h f e = absurd (cc e)
+-- where the plan fails no read, none failed
+none_failed : (plan : Plan) (reads : ℕ) (last : LastRead) → GoesAsPlanned plan reads last → plan.fails ≡ [] → last ≡ failed → ⊥
+none_failed plan reads failed fails none h = omega (arith, fails.1, ap length none)
+none_failed plan reads gave goes none h = cc h
+none_failed plan reads gave_none goes none h = cc h
+
+-- where no read failed before, the count of their faults tells whether the last one did
+failed_counted : (now : ℕ) (last : LastRead) → CountsLast 0 now last → (last ≡ failed) ↔ 0 < now
+failed_counted now gave same = (λ h. cc h, λ some. absurd (omega (arith, same, some)))
+failed_counted now gave_none same = (λ h. cc h, λ some. absurd (omega (arith, same, some)))
+failed_counted now failed rose = (λ _. omega (arith, rose), λ _. refl)
+
+-- no read was made
+gives_nothing : (plan : Plan) → Gives plan 0 []
+gives_nothing plan = gives_none (Some plan) 0 refl
 
 -- the one input connection was opened, taken and closed
 comes : (Stands : List EntryValue → Type 0) (plan : Plan) (a b c d : Aside) (calls : ℕ) (taken : Taken) (t : Takes Stands b c calls taken) → a ≡ untouched plan → calls ≡ 0 → Opens a b (Ok true) → Closes c d
@@ -54,23 +60,27 @@ comes : (Stands : List EntryValue → Type 0) (plan : Plan) (a b c d : Aside) (c
 comes Stands plan a b c d calls taken t e none o shut =
     let o1 = subst (λ (x : Aside). Opens x b (Ok true)) e o in
     let first = opens_first plan.connections b.coming b.rest o1.coming in
-    let front = front_of first.0 c.rest t.bytes (subst (λ (r : Option (List ℕ)). Consumes r c.rest t.bytes) first.1 t.rest) in
-    let fault : t.last ≡ failed → FailsBy (Some plan) (length t.bytes) = λ h. subst (λ (m : ℕ). FailsBy (Some plan) m) (omega (arith, none)) (subst (λ (p : Option Plan). FailsBy p (calls + length t.bytes)) o1.plan (t.fault h)) in
+    let front = front_of first.0 c.rest t.bytes (subst (λ (r : Option (List ℕ)). Consumes r c.rest t.bytes) first.1 t.took.rest) in
+    let opened : d.open_faults ≡ 0 = ap (λ (x : Aside). x.open_faults) shut.same ∙ t.took.open_faults ∙ o1.cause.fine in
+    let faults = subst (λ (k : ℕ). CountsLast k d.read_faults t.last) o1.calm (subst (λ (k : ℕ). CountsLast b.read_faults k t.last) (sym (ap (λ (x : Aside). x.read_faults) shut.same)) t.took.read_faults) in
+    let read = failed_counted d.read_faults t.last faults in
+    let planned : ReadsAsPlanned plan t.bytes t.last = subst (λ (p : Option Plan). IfSome p (λ x. ReadsAsPlanned x t.bytes t.last)) o1.plan (t.took.planned none) in
     record {
-      shown = ap (λ (x : Aside). x.plan) shut.same ∙ t.plan ∙ o1.plan;
+      shown = ap (λ (x : Aside). x.plan) shut.same ∙ t.took.plan ∙ o1.plan;
       given = record { bytes = t.bytes; last = t.last } ∷ [];
-      given_is = ap (λ (x : Aside). x.given) shut.same ∙ given_first b.given c.given t.bytes t.last o1.given t.given;
+      given_is = ap (λ (x : Aside). x.given) shut.same ∙ given_first b.given c.given t.bytes t.last o1.given t.took.given;
       one = omega arith;
       input_is = refl;
       rest = front.0;
       front = first.2 ∙ front.1;
-      whole = λ h. front.2 (t.end h);
-      steady = λ h. come_of (first_of plan.connections) t.bytes front.0 t.last t.messages (first.2 ∙ front.1) (λ w. front.2 (t.end w)) (λ w. none_fails (fault w) h) taken.cause t.come t.early;
-      fault = λ offset some w. fault_place taken.cause plan t.bytes t.last t.messages offset t.come fault w;
+      whole = λ h. front.2 (t.took.end h);
+      steady = λ h. come_of (first_of plan.connections) t.bytes front.0 t.last t.messages (first.2 ∙ front.1) (λ w. front.2 (t.took.end w)) (none_failed plan planned.0 t.last planned.2 h) taken.cause t.come t.early;
+      reads = planned.0;
+      gives = planned.1;
+      next = λ _. planned.2;
+      opening = (λ h. cc h.0, λ some. absurd (omega (arith, some, opened)));
+      reading = (λ h. read.0 h.1, λ some. (omega arith, read.1 some));
     }
-  where
-    none_fails : {most : ℕ} → FailsBy (Some plan) most → plan.fails ≡ [] → ⊥
-    none_fails p h = omega (arith, p.2.1, ap length h)
 
 takes_opened : (Stands : List EntryValue → Type 0) (a b c d : Aside) (calls0 calls : ℕ) (taken : Taken) → Takes Stands b c calls taken → Opens a b (Ok true) → Closes c d → calls ≡ calls0 → TakesInput Stands a d calls0 taken
 takes_opened Stands a b c d calls0 calls taken t o shut same = record {
@@ -79,13 +89,39 @@ takes_opened Stands a b c d calls0 calls taken t o shut same = record {
   come = t.come;
   noted = t.noted;
   count = t.count;
-  no_further = t.no_further;
+  no_further = t.took.no_further;
   shows = λ plan e none. comes Stands plan a b c d calls taken t e (same ∙ none) o shut;
 }
 
 pub takes_opened_ok : (Stands : List EntryValue → Type 0) (a b c d : Aside) (calls0 calls : ℕ) (result : Result Taken NoMemory) → IfOk result (Takes Stands b c calls) → Opens a b (Ok true) → Closes c d → calls ≡ calls0 → IfOk result (TakesInput Stands a d calls0)
 takes_opened_ok Stands a b c d calls0 calls (Ok taken) t o shut same = takes_opened Stands a b c d calls0 calls taken t o shut same
 takes_opened_ok Stands a b c d calls0 calls (Err e) t o shut same = tt
+
+-- the one input connection was begun, and want of memory came
+has_begun : (plan : Plan) (a b c d : Aside) (calls : ℕ) (bytes : List ℕ) → TakesBytes b c calls bytes gave → a ≡ untouched plan → calls ≡ 0 → Opens a b (Ok true) → Closes c d → HasBegun plan d
+has_begun plan a b c d calls bytes t e none o shut =
+    let o1 = subst (λ (x : Aside). Opens x b (Ok true)) e o in
+    let first = opens_first plan.connections b.coming b.rest o1.coming in
+    let front = front_of first.0 c.rest bytes (subst (λ (r : Option (List ℕ)). Consumes r c.rest bytes) first.1 t.rest) in
+    let planned : ReadsAsPlanned plan bytes gave = subst (λ (p : Option Plan). IfSome p (λ x. ReadsAsPlanned x bytes gave)) o1.plan (t.planned none) in
+    record {
+      shown = ap (λ (x : Aside). x.plan) shut.same ∙ t.plan ∙ o1.plan;
+      bytes = bytes;
+      given = ap (λ (x : Aside). x.given) shut.same ∙ given_first b.given c.given bytes gave o1.given t.given;
+      rest = front.0;
+      front = first.2 ∙ front.1;
+      within = t.within;
+      no_further = t.no_further;
+      reads = planned.0;
+      gives = planned.1;
+      opening = ap (λ (x : Aside). x.open_faults) shut.same ∙ t.open_faults ∙ o1.cause.fine;
+      reading = ap (λ (x : Aside). x.read_faults) shut.same ∙ t.read_faults ∙ o1.calm;
+    }
+
+pub breaks_opened : (a b c d : Aside) (calls0 calls : ℕ) (result : Result Taken NoMemory) → OnErr result ((bytes : List ℕ) × TakesBytes b c calls bytes gave) → Opens a b (Ok true) → Closes c d → calls ≡ calls0
+    → OnErr result ((plan : Plan) → a ≡ untouched plan → calls0 ≡ 0 → BreaksOff plan d)
+breaks_opened a b c d calls0 calls (Ok taken) t o shut same = tt
+breaks_opened a b c d calls0 calls (Err e) t o shut same = λ plan untold none. inr (has_begun plan a b c d calls t.0 t.1 untold (same ∙ none) o shut)
 
 -- there was no connection: an empty one that ended
 none_left : (connections : List (List ℕ)) (coming : Option (List (List ℕ))) (rest : Option (List ℕ)) → OpensNext (Some connections) coming rest (Ok false) → first_of connections ≡ []
@@ -118,7 +154,11 @@ takes_none Stands a b calls0 taken stands o is = rw is (record {
           front = first;
           whole = λ _. refl;
           steady = λ _. subst (λ (l : List ℕ). HasCome (record { bytes = take most_taken l; last = gave_none }) [] Ended) (sym first) come_none;
-          fault = λ offset some w. absurd (omega (arith, some));
+          reads = 0;
+          gives = gives_nothing plan;
+          next = λ some. absurd (omega (arith, some));
+          opening = (λ h. cc (h.1, o1.refused), λ some. absurd (omega (arith, some, o1.cause.fine)));
+          reading = (λ h. absurd (omega (arith, h.0)), λ some. absurd (omega (arith, some, o1.calm)));
         }
 
 -- no connection could be opened: an empty one whose read failed
@@ -147,5 +187,9 @@ takes_unopened Stands a b calls0 e taken stands o fails is = rw is (record {
           front = refl;
           whole = λ h. absurd (cc h);
           steady = λ h. absurd (some h);
-          fault = λ offset one w. absurd (omega (arith, one));
+          reads = 0;
+          gives = gives_nothing plan;
+          next = λ one. absurd (omega (arith, one));
+          opening = (λ _. omega (arith, o1.cause.failed), λ _. (refl, o1.refused));
+          reading = (λ h. absurd (omega (arith, h.0)), λ one. absurd (omega (arith, one, o1.calm)));
         }

@@ -14,7 +14,7 @@ use Rattle.station_doors.specs.Doors.{YardValue, HandsOut, TakesBack, one_more, 
 use Rattle.station_top.specs.Ledger.{RepliesBy}
 use Rattle.station_top.specs.Station.{LendsWhereTold, IsWritten, IsTaken, FromYard, IsReply, refused, replied, starved, commanded, Concludes, Answers}
 use Rattle.station_top.specs.Status.{status_of}
-use Rattle.station_top.specs.Take.{TakesInput}
+use Rattle.station_top.specs.Take.{TakesInput, BreaksOff}
 use Rattle.station_top.specs.Words.{IsCommand}
 use Rattle.station_top.specs.declared.words.Command.{Command}
 use Rattle.station_top.specs.declared.status.Status.{Status}
@@ -41,6 +41,10 @@ is_taken Stands shows calls old mid new number port after taken h t back = recor
   no_further = t.no_further;
   lends = lends _ shows calls old mid new number port after h t.shows back;
 }
+
+pub breaks_off : {P : Type 0} (shows : P → Aside) (calls : P → ℕ) (old mid new : Option YardValue) (number : ℕ) (port : P) (after : Aside) → HandsOut shows calls 0 number old mid (Ok port) → ((plan : Plan) → shows port ≡ untouched plan → calls port ≡ 0 → BreaksOff plan after) → TakesBack 0 after mid new
+    → LendsWhereTold BreaksOff old new
+breaks_off shows calls old mid new number port after h breaks back = lends BreaksOff shows calls old mid new number port after h breaks back
 
 -- the messages of an input have fewer than 2^64 bytes
 short : (Stands : List EntryValue → Type 0) (old new : Option YardValue) (taken : Taken) (t : IsTaken Stands old new taken) → sum_by length_of (opened ∷ t.messages) < 2 ^ 64

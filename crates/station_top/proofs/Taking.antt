@@ -1,7 +1,8 @@
 -- A connection that is taken to its end, read by read.
-use Rattle.std.proofs.Common.{◌≡◌, ◌≢◌, ℕ, zero, suc, ◌+◌, ◌<◌, ◌≤◌, length, take, List, [], ◌∷◌, ◌++◌, Option, Some, None, Bool, Ok, Err, refl, ap, sym, ◌∙◌, subst, append_assoc, append-nil, length-append, length-take, arith, if◌then◌else◌}
+use Rattle.std.proofs.Common.{◌≡◌, ◌≢◌, ℕ, zero, suc, ◌+◌, ◌<◌, ◌≤◌, length, take, List, [], ◌∷◌, ◌++◌, Option, Some, None, Bool, Result, Ok, Err, refl, ap, sym, ◌∙◌, subst, append_assoc, append-nil, length-append, length-take, arith, if◌then◌else◌}
 use Rattle.std.proofs.Math.Dec.{eqb-suc-zero}
-use Rattle.std.specs.Prelude.{IfSome}
+use borrow.Author.Count.{below_more}
+use Rattle.std.specs.Prelude.{IfSome, Contains, OnErr}
 use Rattle.std.specs.Io.KnownBytes.{Consumes, Keeps}
 use Rattle.bmp_specs.specs.declared.causes.Cause.{Cause}
 use Rattle.bmp_specs.specs.declared.causes.Cause.TheVariants.{ReadFault, Full}
@@ -12,14 +13,20 @@ use Rattle.bmp_specs.specs.Values.{EntryValue, opened}
 use Rattle.bmp_specs.specs.Walk.{Verdict, Walks}
 use Rattle.wire_io.specs.declared.sink.Failed.{Failed}
 use Rattle.wire_io.specs.Aside.{Aside, Given, Plan}
+use Rattle.wire_io.specs.Faults.{Rose}
 use Rattle.station_doors.specs.Doors.{Reads, AsPlanned, GivesBytes, given_more, read_of}
 use Rattle.bmp_message.specs.StreamWalk.{WalkValue, HasReached, rest_of, verdict_with}
 use Rattle.station_top.specs.Ledger.{HasNoted, HasDrawn, IsDrained, IsEnded}
-use Rattle.station_top.specs.Take.{GivesMore, IsNew, Takes, FailsBy, cause_at_end}
+use Rattle.station_top.specs.Take.{GivesMore, IsNew, Takes, TakesBytes, Gives, ReadsAsPlanned, cause_at_end}
 use Rattle.station_top.specs.declared.take.Taken.{Taken}
 use Rattle.station_top.proofs.Causes.{come_end, come_fault, come_full, come_early, come_early_here, not_early, undecided}
 use Rattle.station_top.proofs.Fronts.{read_no_further}
 use Rattle.station_top.proofs.Lengths.{walk_lengths}
+
+-- what holds anyway, holds where a call failed
+pub on_error : {T E P : Type 0} (result : Result T E) → P → OnErr result P
+on_error (Ok value) holds = tt
+on_error (Err e) holds = holds
 
 consumes_then : (a b c : Option (List ℕ)) (s t : List ℕ) → Consumes a b s → Consumes b c t → Consumes a c (s ++ t)
 consumes_then None b c s t p q = tt
@@ -51,14 +58,17 @@ pub record Goes (first now : Aside) (calls0 calls : ℕ) (taken : ℕ) : Type 0 
   pub refused : now.refused ≡ first.refused
   pub taken_is : now.taken ≡ taken
   pub count : length bytes ≡ taken
-  pub calls_most : IfSome first.plan (λ _. calls ≤ calls0 + taken)
+  pub planned : calls0 ≡ 0 → IfSome first.plan (λ plan. Gives plan calls bytes)
+  pub open_faults : now.open_faults ≡ first.open_faults
+  pub read_faults : now.read_faults ≡ first.read_faults
+
+-- no read was made
+pub gives_none : (plan : Option Plan) (calls : ℕ) → calls ≡ 0 → IfSome plan (λ p. Gives p calls [])
+gives_none None calls e = tt
+gives_none (Some p) calls e = record { most = omega (arith, e); fewest = omega arith; calm = λ k below fails. absurd (omega (arith, e, below)) }
 
 pub goes_none : (a : Aside) (calls : ℕ) → IsNew a → Goes a a calls calls 0
-goes_none a calls n = record { bytes = []; plan = refl; rest = consumes_none a.rest; given = n.fresh; refused = refl; taken_is = n.none; count = refl; calls_most = if_plan a.plan }
-  where
-    if_plan : (plan : Option Plan) → IfSome plan (λ _. calls ≤ calls + 0)
-    if_plan None = tt
-    if_plan (Some p) = omega arith
+goes_none a calls n = record { bytes = []; plan = refl; rest = consumes_none a.rest; given = n.fresh; refused = refl; taken_is = n.none; count = refl; planned = gives_none a.plan calls; open_faults = refl; read_faults = refl }
 
 given_then : (a b c : Option (List Given)) (s buf : List ℕ) (n : ℕ) → GivesMore a b s gave → GivesBytes b c (Ok n) buf → GivesMore a c (s ++ take n buf) (read_of n)
 given_then None b c s buf n p q = subst (λ (o : Option (List Given)). GivesBytes o c (Ok n) buf) p q
@@ -72,17 +82,35 @@ read_some : (n : ℕ) → n ≢ 0 → read_of n ≡ gave
 read_some zero h = absurd (h refl)
 read_some (suc n) h = ap (λ (b : Bool). if b then gave_none else gave) (eqb-suc-zero n)
 
-calls_then : (plan0 plan : Option Plan) (calls0 c d n m : ℕ) → plan ≡ plan0 → IfSome plan0 (λ _. c ≤ calls0 + n) → AsPlanned plan c d (Ok m) → m ≢ 0 → IfSome plan0 (λ _. d ≤ calls0 + (n + m))
-calls_then None plan calls0 c d n m e h p some = tt
-calls_then (Some x) plan calls0 c d n m e h p some = let q = subst (λ (o : Option Plan). AsPlanned o c d (Ok m)) e p in omega (arith, h, q.0, some)
+-- a read gave bytes
+gives_then : (plan0 plan : Option Plan) (c d m : ℕ) (bytes buf : List ℕ) → plan ≡ plan0 → IfSome plan0 (λ x. Gives x c bytes) → AsPlanned plan c d (Ok m) → m ≢ 0 → m ≤ length buf → m ≤ most_read → length bytes ≤ most_taken → IfSome plan0 (λ x. Gives x d (bytes ++ take m buf))
+gives_then None plan c d m bytes buf e h p some within size room = tt
+gives_then (Some x) plan c d m bytes buf e h p some within size room =
+    let q = subst (λ (o : Option Plan). AsPlanned o c d (Ok m)) e p in
+    let next : d ≡ c + 1 = omega (arith, q.0, h.most, room) in
+    let long : length (bytes ++ take m buf) ≡ length bytes + m = omega (arith, length-append bytes (take m buf), length-take m buf, within) in
+    record {
+      most = omega (arith, next, long, h.most, some);
+      fewest = omega (arith, next, long, h.fewest, size);
+      calm = subst (λ (i : ℕ). (k : ℕ) → k < i → Contains x.fails k → ⊥) (sym next) (below_more (λ (k : ℕ). Contains x.fails k → ⊥) c h.calm q.1);
+    }
 
-fails_by : (plan0 plan : Option Plan) (calls0 c d n m : ℕ) (e : Failed) → plan ≡ plan0 → IfSome plan0 (λ _. c ≤ calls0 + n) → AsPlanned plan c d (Err e) → n ≤ m → FailsBy plan0 (calls0 + m)
-fails_by None plan calls0 c d n m e s h p w = tt
-fails_by (Some x) plan calls0 c d n m e s h p w = let q = subst (λ (o : Option Plan). AsPlanned o c d (Err e)) s p in (c, omega (arith, h, w), q.1)
+-- the last read gave bytes, it gave none, or it failed
+last_gave : (plan : Option Plan) (c : ℕ) (bytes : List ℕ) → IfSome plan (λ x. Gives x c bytes) → IfSome plan (λ x. ReadsAsPlanned x bytes gave)
+last_gave None c bytes h = tt
+last_gave (Some x) c bytes h = (c, h, tt)
+
+last_none : (plan0 plan : Option Plan) (c d : ℕ) (bytes : List ℕ) → plan ≡ plan0 → IfSome plan0 (λ x. Gives x c bytes) → AsPlanned plan c d (Ok 0) → IfSome plan0 (λ x. ReadsAsPlanned x bytes gave_none)
+last_none None plan c d bytes e h p = tt
+last_none (Some x) plan c d bytes e h p = let q = subst (λ (o : Option Plan). AsPlanned o c d (Ok 0)) e p in (c, h, q.1)
+
+last_failed : (plan0 plan : Option Plan) (c d : ℕ) (bytes : List ℕ) (fault : Failed) → plan ≡ plan0 → IfSome plan0 (λ x. Gives x c bytes) → AsPlanned plan c d (Err fault) → IfSome plan0 (λ x. ReadsAsPlanned x bytes failed)
+last_failed None plan c d bytes fault e h p = tt
+last_failed (Some x) plan c d bytes fault e h p = let q = subst (λ (o : Option Plan). AsPlanned o c d (Err fault)) e p in (c, h, q.1)
 
 -- a read gave bytes
-pub goes_more : (a0 a b : Aside) (calls0 c d n m : ℕ) (buf : List ℕ) → Goes a0 a calls0 c n → Reads a b (Ok m) buf → AsPlanned a.plan c d (Ok m) → m ≢ 0 → m ≤ length buf → Goes a0 b calls0 d (n + m)
-goes_more a0 a b calls0 c d n m buf g r p some within = record {
+pub goes_more : (a0 a b : Aside) (calls0 c d n m : ℕ) (buf : List ℕ) → Goes a0 a calls0 c n → Reads a b (Ok m) buf → AsPlanned a.plan c d (Ok m) → m ≢ 0 → m ≤ length buf → n + m ≤ most_taken → m ≤ most_read → Goes a0 b calls0 d (n + m)
+goes_more a0 a b calls0 c d n m buf g r p some within room size = record {
   bytes = g.bytes ++ take m buf;
   plan = r.plan ∙ g.plan;
   rest = consumes_then a0.rest a.rest b.rest g.bytes (take m buf) g.rest r.rest.0;
@@ -90,7 +118,9 @@ goes_more a0 a b calls0 c d n m buf g r p some within = record {
   refused = r.refused ∙ g.refused;
   taken_is = r.taken ∙ ap (λ (k : ℕ). k + m) g.taken_is;
   count = omega (arith, length-append g.bytes (take m buf), length-take m buf, g.count, within);
-  calls_most = calls_then a0.plan a.plan calls0 c d n m g.plan g.calls_most p some;
+  planned = λ none. gives_then a0.plan a.plan c d m g.bytes buf g.plan (g.planned none) p some within size (omega (arith, g.count, room));
+  open_faults = r.calm ∙ g.open_faults;
+  read_faults = r.cause.fine ∙ g.read_faults;
 }
 
 -- the bytes taken so far, of a connection that goes on, and what was drawn of them
@@ -122,8 +152,8 @@ waits bytes messages offset rest w = subst (λ (l : List ℕ). IsReadNoFurther I
 
 module _ (Stands : List EntryValue → Type 0) (a0 a : Aside) (calls0 c n : ℕ) (walk : WalkValue) (revision : ℕ) (t : Taking Stands a0 a calls0 c n walk revision) where
   -- a read gave none
-  pub takes_end : (b : Aside) (buf : List ℕ) (taken : Taken) → Reads a b (Ok 0) buf → 0 < length buf → n < most_taken → taken ≡ record { cause = cause_at_end (rest_of walk) walk.offset; revision = revision } → Takes Stands a0 b calls0 taken
-  takes_end b buf taken r some room is =
+  pub takes_end : (b : Aside) (d' : ℕ) (buf : List ℕ) (taken : Taken) → Reads a b (Ok 0) buf → AsPlanned a.plan c d' (Ok 0) → 0 < length buf → n < most_taken → taken ≡ record { cause = cause_at_end (rest_of walk) walk.offset; revision = revision } → Takes Stands a0 b calls0 taken
+  takes_end b d' buf taken r p some room is =
       let g = t.goes in
       let d = t.drained in
       let same : g.bytes ++ take 0 buf ≡ g.bytes = append-nil g.bytes in
@@ -131,17 +161,22 @@ module _ (Stands : List EntryValue → Type 0) (a0 a : Aside) (calls0 c n : ℕ)
         bytes = g.bytes;
         last = gave_none;
         messages = d.messages;
-        plan = r.plan ∙ g.plan;
-        rest = subst (λ (l : List ℕ). Consumes a0.rest b.rest l) same (consumes_then a0.rest a.rest b.rest g.bytes (take 0 buf) g.rest r.rest.0);
-        given = subst (λ (l : List ℕ). GivesMore a0.given b.given l gave_none) same (given_then a0.given a.given b.given g.bytes buf 0 g.given r.given);
-        refused = r.refused ∙ g.refused;
+        took = record {
+          plan = r.plan ∙ g.plan;
+          rest = subst (λ (l : List ℕ). Consumes a0.rest b.rest l) same (consumes_then a0.rest a.rest b.rest g.bytes (take 0 buf) g.rest r.rest.0);
+          given = subst (λ (l : List ℕ). GivesMore a0.given b.given l gave_none) same (given_then a0.given a.given b.given g.bytes buf 0 g.given r.given);
+          refused = r.refused ∙ g.refused;
+          within = omega (arith, g.count, room);
+          no_further = waits g.bytes d.messages walk.offset (rest_of walk) d.walks;
+          end = λ _. r.rest.1 refl some;
+          planned = λ none. last_none a0.plan a.plan c d' g.bytes g.plan (g.planned none) p;
+          open_faults = r.calm ∙ g.open_faults;
+          read_faults = r.cause.fine ∙ g.read_faults;
+        };
         come = come_end g.bytes d.messages walk.offset (rest_of walk) (omega (arith, g.count, room)) d.walks;
         noted = d.noted.noted;
         count = exact Stands g.bytes d.messages walk.offset revision (verdict_with (rest_of walk)) (omega (arith, g.count, room)) d.walks d.noted;
-        no_further = waits g.bytes d.messages walk.offset (rest_of walk) d.walks;
         early = λ e. absurd (not_early (rest_of walk) walk.offset e);
-        end = λ _. r.rest.1 refl some;
-        fault = λ other. absurd (cc other);
       })
 
   -- a read failed
@@ -154,17 +189,22 @@ module _ (Stands : List EntryValue → Type 0) (a0 a : Aside) (calls0 c n : ℕ)
         bytes = g.bytes;
         last = failed;
         messages = d.messages;
-        plan = r.plan ∙ g.plan;
-        rest = subst (λ (l : List ℕ). Consumes a0.rest b.rest l) same (consumes_then a0.rest a.rest b.rest g.bytes [] g.rest (keeps_consumes a.rest b.rest r.rest));
-        given = subst (λ (l : List ℕ). GivesMore a0.given b.given l failed) same (given_failed a0.given a.given b.given g.bytes buf e g.given r.given);
-        refused = r.refused ∙ g.refused;
+        took = record {
+          plan = r.plan ∙ g.plan;
+          rest = subst (λ (l : List ℕ). Consumes a0.rest b.rest l) same (consumes_then a0.rest a.rest b.rest g.bytes [] g.rest (keeps_consumes a.rest b.rest r.rest));
+          given = subst (λ (l : List ℕ). GivesMore a0.given b.given l failed) same (given_failed a0.given a.given b.given g.bytes buf e g.given r.given);
+          refused = r.refused ∙ g.refused;
+          within = omega (arith, g.count, room);
+          no_further = waits g.bytes d.messages walk.offset (rest_of walk) d.walks;
+          end = λ other. absurd (cc other);
+          planned = λ none. last_failed a0.plan a.plan c d' g.bytes e g.plan (g.planned none) p;
+          open_faults = r.calm ∙ g.open_faults;
+          read_faults = subst (λ (k : ℕ). Rose k b.read_faults) g.read_faults r.cause.failed;
+        };
         come = come_fault g.bytes d.messages walk.offset (rest_of walk) (omega (arith, g.count, room)) d.walks;
         noted = d.noted.noted;
         count = exact Stands g.bytes d.messages walk.offset revision (verdict_with (rest_of walk)) (omega (arith, g.count, room)) d.walks d.noted;
-        no_further = waits g.bytes d.messages walk.offset (rest_of walk) d.walks;
         early = λ e. absurd e;
-        end = λ other. absurd (cc other);
-        fault = λ _. fails_by a0.plan a.plan calls0 c d' n (length g.bytes) e g.plan g.calls_most p (omega (arith, g.count));
       })
 
   -- the limit of one connection was reached
@@ -176,17 +216,22 @@ module _ (Stands : List EntryValue → Type 0) (a0 a : Aside) (calls0 c n : ℕ)
         bytes = g.bytes;
         last = gave;
         messages = d.messages;
-        plan = g.plan;
-        rest = g.rest;
-        given = g.given;
-        refused = g.refused;
+        took = record {
+          plan = g.plan;
+          rest = g.rest;
+          given = g.given;
+          refused = g.refused;
+          within = omega (arith, g.count, full);
+          no_further = waits g.bytes d.messages walk.offset (rest_of walk) d.walks;
+          end = λ other. absurd (cc other);
+          planned = λ none. last_gave a0.plan c g.bytes (g.planned none);
+          open_faults = g.open_faults;
+          read_faults = g.read_faults;
+        };
         come = come_full g.bytes d.messages walk.offset (rest_of walk) (g.count ∙ full) d.walks;
         noted = d.noted.noted;
         count = exact Stands g.bytes d.messages walk.offset revision (verdict_with (rest_of walk)) (omega (arith, g.count, full)) d.walks d.noted;
-        no_further = waits g.bytes d.messages walk.offset (rest_of walk) d.walks;
         early = λ e. absurd e;
-        end = λ other. absurd (cc other);
-        fault = λ other. absurd (cc other);
       })
 
   -- a piece was fed to the walk
@@ -194,32 +239,57 @@ module _ (Stands : List EntryValue → Type 0) (a0 a : Aside) (calls0 c n : ℕ)
   drawn_fed piece fed run = record { messages = t.drained.messages; reached = run t.goes.bytes t.drained.messages t.drained.reached; noted = t.drained.noted }
 
   -- a read gave bytes, all their messages were drawn, and the walk goes on
-  pub taking_more : (Next : List EntryValue → Type 0) (b : Aside) (d' m : ℕ) (buf : List ℕ) (new : WalkValue) (now : ℕ) → Reads a b (Ok m) buf → AsPlanned a.plan c d' (Ok m) → m ≢ 0 → m ≤ length buf → IsDrained Next (t.goes.bytes ++ take m buf) new now
+  pub taking_more : (Next : List EntryValue → Type 0) (b : Aside) (d' m : ℕ) (buf : List ℕ) (new : WalkValue) (now : ℕ) → Reads a b (Ok m) buf → AsPlanned a.plan c d' (Ok m) → m ≢ 0 → m ≤ length buf → n + m ≤ most_taken → m ≤ most_read → IsDrained Next (t.goes.bytes ++ take m buf) new now
       → Taking Next a0 b calls0 d' (n + m) new now
   unfolding goes_more
-  taking_more Next b d' m buf new now r p some within drained = record { goes = goes_more a0 a b calls0 c d' n m buf t.goes r p some within; drained = drained }
+  taking_more Next b d' m buf new now r p some within room size drained = record { goes = goes_more a0 a b calls0 c d' n m buf t.goes r p some within room size; drained = drained }
 
   -- the walk ended in the bytes of a read
   pub takes_early : (Next : List EntryValue → Type 0) (b : Aside) (d' m : ℕ) (buf : List ℕ) (cause : Cause) (now : ℕ) (taken : Taken) → Reads a b (Ok m) buf → AsPlanned a.plan c d' (Ok m) → m ≢ 0 → m ≤ length buf → n + m ≤ most_taken → m ≤ most_read
       → IsEnded Next (t.goes.bytes ++ take m buf) now cause → taken ≡ record { cause = cause; revision = now } → Takes Next a0 b calls0 taken
   unfolding goes_more
   takes_early Next b d' m buf cause now taken r p some within room size ended is =
-      let g = goes_more a0 a b calls0 c d' n m buf t.goes r p some within in
+      let g = goes_more a0 a b calls0 c d' n m buf t.goes r p some within room size in
       let long : length g.bytes ≤ most_taken = omega (arith, g.count, room) in
       let come = come_early_here g.bytes ended.messages cause gave ended.ends long in
       rw is (record {
         bytes = g.bytes;
         last = gave;
         messages = ended.messages;
-        plan = g.plan;
-        rest = g.rest;
-        given = g.given;
-        refused = g.refused;
+        took = record {
+          plan = g.plan;
+          rest = g.rest;
+          given = g.given;
+          refused = g.refused;
+          within = long;
+          no_further = read_no_further t.goes.bytes t.drained.messages walk.offset (verdict_with (rest_of walk)) t.drained.walks (undecided (rest_of walk)) (take m buf) (omega (arith, size, length-take m buf));
+          end = λ other. absurd (cc other);
+          planned = λ none. last_gave a0.plan d' g.bytes (g.planned none);
+          open_faults = g.open_faults;
+          read_faults = g.read_faults;
+        };
         come = come;
         noted = ended.noted.noted;
         count = exact Next g.bytes ended.messages come.offset now come.verdict long come.walk ended.noted;
-        no_further = read_no_further t.goes.bytes t.drained.messages walk.offset (verdict_with (rest_of walk)) t.drained.walks (undecided (rest_of walk)) (take m buf) (omega (arith, size, length-take m buf));
         early = λ _. come_early g.bytes ended.messages cause ended.ends;
-        end = λ other. absurd (cc other);
-        fault = λ other. absurd (cc other);
       })
+
+  -- want of memory came behind a read that gave bytes
+  pub breaks : (b : Aside) (d' m : ℕ) (buf : List ℕ) → Reads a b (Ok m) buf → AsPlanned a.plan c d' (Ok m) → m ≢ 0 → m ≤ length buf → n + m ≤ most_taken → m ≤ most_read → (bytes : List ℕ) × TakesBytes a0 b calls0 bytes gave
+  unfolding goes_more
+  breaks b d' m buf r p some within room size =
+      let g = goes_more a0 a b calls0 c d' n m buf t.goes r p some within room size in (
+        g.bytes,
+        record {
+          plan = g.plan;
+          rest = g.rest;
+          given = g.given;
+          refused = g.refused;
+          within = omega (arith, g.count, room);
+          no_further = read_no_further t.goes.bytes t.drained.messages walk.offset (verdict_with (rest_of walk)) t.drained.walks (undecided (rest_of walk)) (take m buf) (omega (arith, size, length-take m buf));
+          end = λ other. absurd (cc other);
+          planned = λ none. last_gave a0.plan d' g.bytes (g.planned none);
+          open_faults = g.open_faults;
+          read_faults = g.read_faults;
+        },
+      )

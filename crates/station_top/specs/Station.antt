@@ -15,7 +15,7 @@ use Rattle.wire_io.specs.Faults.{Rose}
 use Rattle.wire_io.specs.Writes.{AppendsFront}
 use Rattle.station_doors.specs.Doors.{YardValue, one_more}
 use Rattle.station_top.specs.Input.{HasCome}
-use Rattle.station_top.specs.Take.{Comes}
+use Rattle.station_top.specs.Take.{BreaksOff, Comes}
 use Rattle.station_top.specs.Status.{status_of}
 use Rattle.station_top.specs.Words.{IsCommand}
 use Rattle.station_top.specs.declared.status.Status.{Status}
@@ -58,8 +58,8 @@ pub data Runs (Replies : List EntryValue → List ℕ → Type 0) (old new : Opt
   -- line, and the port is given back
   replied : (input : Given) (messages : List EntryValue) (cause : Cause) (reply : List ℕ) → HasCome input messages cause → IsReadNoFurther IsMessageEntry no_peers input.bytes → Replies (opened ∷ messages) reply
       → LendsWhereTold (λ plan shows. Comes plan shows input messages cause) old new → Runs Replies old new number (status_of cause) (reply ++ stop_line cause)
-  -- want of memory while the input was taken: nothing is written, and the port is given back
-  starved : LendsWhereTold (λ plan shows. Unit {0}) old new → Runs Replies old new number NoMemory []
+  -- want of memory while the input was taken: nothing is written, and the port is given back, with what it gave until then
+  starved : LendsWhereTold BreaksOff old new → Runs Replies old new number NoMemory []
 
 -- What a call comes to by its words and the yard, before anything is written: how many calls of the yard were made then, the
 -- status that is meant, and the text.
@@ -106,7 +106,7 @@ pub record IsTaken (Stands : List EntryValue → Type 0) (old new : Option YardV
 abbrev pub FromYard : (List EntryValue → Type 0) → Option YardValue → Option YardValue → ℕ → Result Taken Status → Type 0
 FromYard Stands old new number (Ok taken) = IsTaken Stands old new taken
 FromYard Stands old new number (Err YardFault) = Refuses old new number
-FromYard Stands old new number (Err NoMemory) = LendsWhereTold (λ plan shows. Unit {0}) old new
+FromYard Stands old new number (Err NoMemory) = LendsWhereTold BreaksOff old new
 FromYard Stands old new number (Err Done) = ⊥
 FromYard Stands old new number (Err Stopped) = ⊥
 FromYard Stands old new number (Err Usage) = ⊥

@@ -1,13 +1,14 @@
 -- What taking a connection does to a port.
-use Rattle.std.specs.Prelude.{◌≡◌, ℕ, ◌+◌, ◌<◌, ◌≤◌, ◌==◌, ◌++◌, List, [], ◌∷◌, Option, Some, None, IfSome, Contains, length, take, if◌then◌else◌}
+use Rattle.std.specs.Prelude.{◌≡◌, ◌↔◌, false, ℕ, ◌*◌, ◌<◌, ◌≤◌, ◌==◌, ◌++◌, ◌⊎◌, List, [], ◌∷◌, Option, Some, None, IfSome, Contains, length, take, if◌then◌else◌}
 use Rattle.std.specs.Io.KnownBytes.{Consumes, IsAtEnd}
 use Rattle.bmp_specs.specs.declared.causes.Cause.{Cause}
 use Rattle.bmp_specs.specs.declared.causes.Cause.TheVariants.{Ended, Terminated, CutShort, Broken, ReadFault, Full}
-use Rattle.bmp_specs.specs.Life.{LastRead, gave, gave_none, failed, most_taken, IsReadNoFurther}
+use Rattle.bmp_specs.specs.Life.{LastRead, gave, gave_none, failed, most_taken, most_read, IsReadNoFurther}
 use Rattle.bmp_specs.specs.MessageBody.{no_peers}
 use Rattle.bmp_specs.specs.MessageEffects.{IsMessageEntry}
 use Rattle.bmp_specs.specs.Values.{EntryValue, opened}
 use Rattle.wire_io.specs.Aside.{Aside, Given, Plan}
+use Rattle.wire_io.specs.Faults.{Rose}
 use Rattle.station_doors.specs.Doors.{given_more, untouched}
 use Rattle.station_top.specs.Input.{HasCome, input_of}
 use Rattle.station_top.specs.declared.take.Taken.{Taken}
@@ -22,9 +23,29 @@ pub record IsNew (a : Aside) : Type 0 where
   pub none : a.taken ≡ 0
   pub fresh : GivesMore a.given a.given [] gave
 
--- some planned call up to this number fails
-abbrev pub FailsBy : Option Plan → ℕ → Type 0
-FailsBy plan most = IfSome plan (λ p. (k : ℕ) × (k ≤ most) × Contains p.fails k)
+-- The first reads of a port, so many, gave these bytes: each at least one, and at most as many as one read gives. The plan
+-- fails none of them.
+pub record Gives (plan : Plan) (reads : ℕ) (bytes : List ℕ) : Type 0 where
+  pub most : reads ≤ length bytes
+  pub fewest : length bytes ≤ reads * most_read
+  pub calm : (k : ℕ) → k < reads → Contains plan.fails k → ⊥
+
+-- the read of this number, a connection's last one, may go so: it gives none only where the plan doesn't fail it, and fails
+-- only where the plan does
+abbrev pub GoesAsPlanned : Plan → ℕ → LastRead → Type 0
+GoesAsPlanned plan number gave = Unit {0}
+GoesAsPlanned plan number gave_none = Contains plan.fails number → ⊥
+GoesAsPlanned plan number failed = Contains plan.fails number
+
+-- the reads of a port gave these bytes, and then the last one went so
+abbrev pub ReadsAsPlanned : Plan → List ℕ → LastRead → Type 0
+ReadsAsPlanned plan bytes last = (reads : ℕ) × Gives plan reads bytes × GoesAsPlanned plan reads last
+
+-- the count of faults before the reads of a connection and after them, where the last one went so
+abbrev pub CountsLast : ℕ → ℕ → LastRead → Type 0
+CountsLast before now gave = now ≡ before
+CountsLast before now gave_none = now ≡ before
+CountsLast before now failed = Rose before now
 
 -- the cause of a connection that ended with so many bytes behind its messages
 abbrev pub cause_at_end : ℕ → ℕ → Cause
@@ -39,22 +60,29 @@ IsEarly (CutShort offset) = ⊥
 IsEarly (ReadFault offset) = ⊥
 IsEarly Full = ⊥
 
+-- the present connection gave these bytes, its last read went so, and it was read no further than its walk goes
+pub record TakesBytes (old new : Aside) (calls : ℕ) (bytes : List ℕ) (last : LastRead) : Type 0 where
+  pub plan : new.plan ≡ old.plan
+  pub rest : Consumes old.rest new.rest bytes
+  pub given : GivesMore old.given new.given bytes last
+  pub refused : new.refused ≡ old.refused
+  pub within : length bytes ≤ most_taken
+  pub no_further : IsReadNoFurther IsMessageEntry no_peers bytes
+  pub end : last ≡ gave_none → IsAtEnd new.rest
+  pub planned : calls ≡ 0 → IfSome old.plan (λ plan. ReadsAsPlanned plan bytes last)
+  pub open_faults : new.open_faults ≡ old.open_faults
+  pub read_faults : CountsLast old.read_faults new.read_faults last
+
 -- the present connection was taken to its end, and the ledger stands for its opening and its messages
 pub record Takes (Stands : List EntryValue → Type 0) (old new : Aside) (calls : ℕ) (taken : Taken) : Type 0 where
   pub bytes : List ℕ
   pub last : LastRead
   pub messages : List EntryValue
-  pub plan : new.plan ≡ old.plan
-  pub rest : Consumes old.rest new.rest bytes
-  pub given : GivesMore old.given new.given bytes last
-  pub refused : new.refused ≡ old.refused
+  pub took : TakesBytes old new calls bytes last
   pub come : HasCome (record { bytes = bytes; last = last }) messages taken.cause
   pub noted : Stands (opened ∷ messages)
   pub count : taken.revision ≡ length (opened ∷ messages)
-  pub no_further : IsReadNoFurther IsMessageEntry no_peers bytes
   pub early : IsEarly taken.cause → (after : List ℕ) (at : LastRead) → length (bytes ++ after) ≤ most_taken → HasCome (record { bytes = bytes ++ after; last = at }) messages taken.cause
-  pub end : last ≡ gave_none → IsAtEnd new.rest
-  pub fault : last ≡ failed → FailsBy old.plan (calls + length bytes)
 
 -- the bytes of the first connection, none where there is no connection
 abbrev pub first_of : List (List ℕ) → List ℕ
@@ -63,8 +91,9 @@ first_of (bytes ∷ more) = bytes
 
 -- What a port with this plan shows after its one input connection was taken. What it gave is a front of the plan's first
 -- connection, and is the whole of it where it ended. Where the plan doesn't fail, the messages and the cause follow from
--- that connection alone: they are those of its first 2^46 bytes, and then its end. A failed read comes no later than at
--- the plan's first failing read.
+-- that connection alone: they are those of its first 2^46 bytes, and then its end. So many reads gave these bytes; a
+-- failed read is the one after them, and the first that the plan fails. A fault of an opening is counted exactly where no
+-- connection was given, nor was it answered that there is none; a fault of a read, exactly where one of its reads failed.
 pub record Comes (plan : Plan) (shows : Aside) (input : Given) (messages : List EntryValue) (cause : Cause) : Type 0 where
   pub shown : shows.plan ≡ Some plan
   pub given : List Given
@@ -75,7 +104,31 @@ pub record Comes (plan : Plan) (shows : Aside) (input : Given) (messages : List 
   pub front : first_of plan.connections ≡ input.bytes ++ rest
   pub whole : input.last ≡ gave_none → rest ≡ []
   pub steady : plan.fails ≡ [] → HasCome (record { bytes = take most_taken (first_of plan.connections); last = gave_none }) messages cause
-  pub fault : (offset : ℕ) → 0 < length given → cause ≡ ReadFault offset → (k : ℕ) × (k ≤ offset) × Contains plan.fails k
+  pub reads : ℕ
+  pub gives : Gives plan reads input.bytes
+  pub next : 0 < length given → GoesAsPlanned plan reads input.last
+  pub opening : ((given ≡ []) × (shows.refused ≡ false)) ↔ 0 < shows.open_faults
+  pub reading : ((0 < length given) × (input.last ≡ failed)) ↔ 0 < shows.read_faults
+
+-- Of the plan's first connection this front was given, by so many reads, and it was read no further than its walk goes. No
+-- call failed, and no read told the end.
+pub record HasBegun (plan : Plan) (shows : Aside) : Type 0 where
+  pub shown : shows.plan ≡ Some plan
+  pub bytes : List ℕ
+  pub given : shows.given ≡ Some (record { bytes = bytes; last = gave } ∷ [])
+  pub rest : List ℕ
+  pub front : first_of plan.connections ≡ bytes ++ rest
+  pub within : length bytes ≤ most_taken
+  pub no_further : IsReadNoFurther IsMessageEntry no_peers bytes
+  pub reads : ℕ
+  pub gives : Gives plan reads bytes
+  pub opening : shows.open_faults ≡ 0
+  pub reading : shows.read_faults ≡ 0
+
+-- what a port with this plan shows where want of memory ended the taking: no call was made of it, or its one input
+-- connection was begun
+abbrev pub BreaksOff : Plan → Aside → Type 0
+BreaksOff plan shows = (shows ≡ untouched plan) ⊎ HasBegun plan shows
 
 -- the one input connection was taken: what it comes to, and what the port shows
 pub record TakesInput (Stands : List EntryValue → Type 0) (old new : Aside) (calls : ℕ) (taken : Taken) : Type 0 where

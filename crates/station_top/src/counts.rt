@@ -4,7 +4,8 @@ ghost use Rattle.bmp_specs.specs.Values.{EntryValue};
 ghost use Rattle.wire_io.specs.Writes.{Writes};
 ghost use Rattle.station_top.specs.Check.{AreCounts, counted, counts_more, number_lines};
 
-use crate::ledger::Ledger;
+use crate::ledger::{Drawn, Ledger};
+use bmp_message::{Judgement, StreamWalk};
 use itoa::Buffer;
 use rib_model::Entry;
 use wire_io::{Failed, NoMemory, Sink, write_pieces};
@@ -77,6 +78,19 @@ impl Ledger for Counts {
             self.count(*kind, *length);
         }
         Ok(())
+    }
+
+    // The effects of a message aren't made, since no count needs them.
+    fn draw(&mut self, walk: &mut StreamWalk) -> Result<Drawn, NoMemory> {
+        match walk.judge_next()? {
+            Judgement::Message { kind, length } => {
+                self.count(kind, length);
+                Ok(Drawn::Message)
+            }
+            Judgement::More => Ok(Drawn::More),
+            Judgement::Terminated => Ok(Drawn::Terminated),
+            Judgement::Broken(why) => Ok(Drawn::Broken(why)),
+        }
     }
 
     fn put_reply<O: Sink>(&self, out: &mut O, revision: u64) -> Result<(), Failed> {

@@ -1,11 +1,14 @@
-ghost use Rattle.std.specs.Prelude.{◌≡◌, ℕ, List, ◌∷◌, [], IfOk};
+ghost use Rattle.std.specs.Prelude.{◌≡◌, ℕ, List, ◌∷◌, [], IfOk, OnErr};
+ghost use Rattle.bmp_specs.specs.Life.{gave};
 ghost use Rattle.bmp_specs.specs.Values.{opened};
+ghost use Rattle.wire_io.specs.Aside.{Plan};
+ghost use Rattle.station_doors.specs.Doors.{untouched};
 ghost use Rattle.bmp_message.specs.StreamWalk.{rest_of, fed_of};
 ghost use Rattle.station_top.specs.Ledger.{HasDrawn, Draws};
-ghost use Rattle.station_top.specs.Take.{IsNew, Takes, TakesInput, cause_at_end};
+ghost use Rattle.station_top.specs.Take.{IsNew, Takes, TakesBytes, TakesInput, BreaksOff, cause_at_end};
 
-use crate::ledger::Ledger;
-use bmp_message::{Progress, StreamWalk};
+use crate::ledger::{Drawn, Ledger};
+use bmp_message::StreamWalk;
 use bmp_specs::Cause;
 use rib_model::Entry;
 use station_doors::Port;
@@ -26,14 +29,16 @@ pub struct Taken {
 }
 
 // Takes the one input connection of a port, and closes it. Where there is none it is an empty one. The ledger takes its
-// opening and its messages.
+// opening and its messages. After want of memory the port shows what it gave until then: a front of its first connection,
+// or nothing.
 pub fn take_input<P: Port, L: Ledger>(
     alloc: Global,
     port: &mut P,
     ledger: &mut L,
 ) -> Result<Taken, NoMemory>
     requires { L.stands ledger.old [] }
-    ensures { IfOk result (TakesInput (L.stands ledger.new) (P.aside port.old) (P.aside port.new) (P.calls port.old)) }
+    ensures takes { IfOk result (TakesInput (L.stands ledger.new) (P.aside port.old) (P.aside port.new) (P.calls port.old)) }
+    ensures breaks { OnErr result ((plan : Plan) → P.aside port.old ≡ untouched plan → P.calls port.old ≡ 0 → BreaksOff plan (P.aside port.new)) }
 {
     ledger.note(&Entry::Opened)?;
     match port.next_connection() {
@@ -54,7 +59,8 @@ fn untaken(cause: Cause) -> Taken
     Taken { cause, revision: 1 }
 }
 
-// Takes the present connection to its end, to the end of its walk, or to the limit of one connection.
+// Takes the present connection to its end, to the end of its walk, or to the limit of one connection. After want of memory
+// no read had failed or told the end.
 fn take_bytes<P: Port, L: Ledger>(
     alloc: Global,
     port: &mut P,
@@ -62,7 +68,8 @@ fn take_bytes<P: Port, L: Ledger>(
 ) -> Result<Taken, NoMemory>
     requires new { IsNew (P.aside port.old) }
     requires opened { L.stands ledger.old (opened ∷ []) }
-    ensures { IfOk result (Takes (L.stands ledger.new) (P.aside port.old) (P.aside port.new) (P.calls port.old)) }
+    ensures takes { IfOk result (Takes (L.stands ledger.new) (P.aside port.old) (P.aside port.new) (P.calls port.old)) }
+    ensures breaks { OnErr result ((bytes : List ℕ) × TakesBytes (P.aside port.old) (P.aside port.new) (P.calls port.old) bytes gave) }
 {
     let mut walk = StreamWalk::new(alloc);
     let mut buf = [0u8; MOST_READ as usize];
@@ -107,7 +114,7 @@ fn at_end(walk: &StreamWalk) -> Cause
     }
 }
 
-// Hands the entries of all whole messages to the ledger and counts them, and tells the cause where the walk ends.
+// Lets the ledger take all whole messages and counts them, and tells the cause where the walk ends.
 fn drain<L: Ledger>(
     walk: &mut StreamWalk,
     ledger: &mut L,
@@ -117,14 +124,11 @@ fn drain<L: Ledger>(
     ensures fed { IfOk result (λ end. fed_of walk.new ≡ fed_of walk.old) }
 {
     loop {
-        match walk.next()? {
-            Progress::Entry(entry) => {
-                ledger.note(&entry)?;
-                *revision = revision.saturating_add(1);
-            }
-            Progress::More => return Ok(None),
-            Progress::Terminated => return Ok(Some(Cause::Terminated)),
-            Progress::Broken(why) => return Ok(Some(Cause::Broken {
+        match ledger.draw(walk)? {
+            Drawn::Message => *revision = revision.saturating_add(1),
+            Drawn::More => return Ok(None),
+            Drawn::Terminated => return Ok(Some(Cause::Terminated)),
+            Drawn::Broken(why) => return Ok(Some(Cause::Broken {
                 offset: walk.offset(),
                 why,
             })),

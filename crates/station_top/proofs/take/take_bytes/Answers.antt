@@ -2,7 +2,7 @@ use Rattle.std.proofs.Common.{◌≡◌, ◌<◌, ◌≤◌, ◌+◌, ◌++◌, 
 use Rattle.std.proofs.lemmas.List.{take-append-le}
 use Rattle.bmp_specs.specs.declared.causes.Cause.{Cause}
 use Rattle.station_top.specs.declared.take.Taken.{Taken}
-use Rattle.station_top.proofs.Taking.{taking_none, taking_more, takes_end, takes_early, takes_fault, takes_full, drawn_fed}
+use Rattle.station_top.proofs.Taking.{taking_none, taking_more, takes_end, takes_early, takes_fault, takes_full, drawn_fed, breaks, on_error}
 use Rattle.station_top.proofs.take.take_bytes.Goals as goal
 
 pub loop-taken-init : goal.loop-taken-init
@@ -12,20 +12,20 @@ loop-taken-init g c = record {
   room = refl;
 }
 
-pub returns-in-Ok-eq0 : goal.returns-in-Ok-eq0
-returns-in-Ok-eq0 g c =
+pub returns-in-Ok-eq0-clause-takes : goal.returns-in-Ok-eq0-clause-takes
+returns-in-Ok-eq0-clause-takes g c =
     let l = c.loop-taken in
     let some : 0 < length c.read.new.buf = omega (arith, length-take c.min-size.result l.buf) in
-    takes_end (g.L.Ledger.stands l.ledger) _ _ _ _ l.taken l.walk l.revision l.invariant.taking _ c.read.new.buf _ (rw c.in-Ok-eq0.field-0-test at c.in-Ok-eq0.ensures.reads) some c.loop-taken-test.true
+    takes_end (g.L.Ledger.stands l.ledger) _ _ _ _ l.taken l.walk l.revision l.invariant.taking _ _ c.read.new.buf _ (rw c.in-Ok-eq0.field-0-test at c.in-Ok-eq0.ensures.reads) (rw c.in-Ok-eq0.field-0-test at c.in-Ok-eq0.ensures.planned) some c.loop-taken-test.true
     (ap (λ (k : Cause). let t : Taken = record { cause = k; revision = l.revision } in t) c.at_end.ensures)
 
-pub returns-in-Err : goal.returns-in-Err
-returns-in-Err g c =
+pub returns-in-Err-clause-takes : goal.returns-in-Err-clause-takes
+returns-in-Err-clause-takes g c =
     let l = c.loop-taken in
     takes_fault (g.L.Ledger.stands l.ledger) _ _ _ _ l.taken l.walk l.revision l.invariant.taking _ _ c.read.new.buf _ _ c.in-Err.ensures.reads c.in-Err.ensures.planned c.loop-taken-test.true refl
 
-pub returns-in-Some : goal.returns-in-Some
-returns-in-Some g c =
+pub returns-in-Some-clause-takes : goal.returns-in-Some-clause-takes
+returns-in-Some-clause-takes g c =
     let l = c.loop-taken in
     let m = c.in-Ok.count in
     let buf = c.read.new.buf in
@@ -45,19 +45,41 @@ loop-taken-preserved g c =
     let m = c.in-Ok.count in
     let buf = c.read.new.buf in
     let within : m ≤ length buf = omega (arith, c.in-Ok.ensures.bound.0) in
+    let size : m ≤ 65536 = omega (arith, within, length-take c.min-size.result l.buf) in
+    let room : l.taken + m ≤ 70368744177664 = omega (arith, within, length-take c.min-size.result l.buf) in
     let piece : take m (buf ++ drop c.min-size.result l.buf) ≡ take m buf = take-append-le m buf (drop c.min-size.result l.buf) within in
     let fed = rw piece at c.in_ok-feed-in-Ok.ensures.run in
     let drawn = drawn_fed (g.L.Ledger.stands l.ledger) _ _ _ _ l.taken l.walk l.revision l.invariant.taking (take m buf) c.feed.new.self fed in
     let draws = rw c.in_default.is at c.in_ok-cause-in-Ok.ensures.draws in
     record {
-      taking = taking_more (g.L.Ledger.stands l.ledger) _ _ _ _ l.taken l.walk l.revision l.invariant.taking (g.L.Ledger.stands c.drain.new.ledger) _ _ m buf c.drain.new.walk c.drain.new.revision c.in-Ok.ensures.reads c.in-Ok.ensures.planned c.in-Ok.count-test.1 within
+      taking = taking_more (g.L.Ledger.stands l.ledger) _ _ _ _ l.taken l.walk l.revision l.invariant.taking (g.L.Ledger.stands c.drain.new.ledger) _ _ m buf c.drain.new.walk c.drain.new.revision c.in-Ok.ensures.reads c.in-Ok.ensures.planned c.in-Ok.count-test.1 within room size
           (draws _ drawn);
-      within = omega (arith, within, length-take c.min-size.result l.buf);
+      within = room;
       room = omega (arith, length-append buf (drop c.min-size.result l.buf), length-take c.min-size.result l.buf, length-drop c.min-size.result l.buf, l.invariant.room);
     }
 
-pub returns : goal.returns
-returns g c =
+pub returns-clause-takes : goal.returns-clause-takes
+returns-clause-takes g c =
     let l = c.loop-taken in
     let full : l.taken ≡ 70368744177664 = omega (arith, l.invariant.within) in
     takes_full (g.L.Ledger.stands l.ledger) _ _ _ _ l.taken l.walk l.revision l.invariant.taking _ full refl
+
+pub returns-in_err-feed-in-Ok-clause-breaks : goal.returns-in_err-feed-in-Ok-clause-breaks
+returns-in_err-feed-in-Ok-clause-breaks g c =
+    let l = c.loop-taken in
+    let m = c.in-Ok.count in
+    let buf = c.read.new.buf in
+    let within : m ≤ length buf = omega (arith, c.in-Ok.ensures.bound.0) in
+    let size : m ≤ 65536 = omega (arith, within, length-take c.min-size.result l.buf) in
+    let room : l.taken + m ≤ 70368744177664 = omega (arith, within, length-take c.min-size.result l.buf) in
+    on_error _ (breaks (g.L.Ledger.stands l.ledger) _ _ _ _ l.taken l.walk l.revision l.invariant.taking _ _ m buf c.in-Ok.ensures.reads c.in-Ok.ensures.planned c.in-Ok.count-test.1 within room size)
+
+pub returns-in_err-cause-in-Ok-clause-breaks : goal.returns-in_err-cause-in-Ok-clause-breaks
+returns-in_err-cause-in-Ok-clause-breaks g c =
+    let l = c.loop-taken in
+    let m = c.in-Ok.count in
+    let buf = c.read.new.buf in
+    let within : m ≤ length buf = omega (arith, c.in-Ok.ensures.bound.0) in
+    let size : m ≤ 65536 = omega (arith, within, length-take c.min-size.result l.buf) in
+    let room : l.taken + m ≤ 70368744177664 = omega (arith, within, length-take c.min-size.result l.buf) in
+    on_error _ (breaks (g.L.Ledger.stands l.ledger) _ _ _ _ l.taken l.walk l.revision l.invariant.taking _ _ m buf c.in-Ok.ensures.reads c.in-Ok.ensures.planned c.in-Ok.count-test.1 within room size)
