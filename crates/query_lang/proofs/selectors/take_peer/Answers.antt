@@ -1,0 +1,9 @@
+use Rattle.std.proofs.Common.{codes}
+use Rattle.bmp_specs.specs.PeerText.{IsKeyText}
+use Rattle.query_lang.specs.Reading.{further_words}
+use Rattle.query_lang.proofs.SelectorLaws.{takes_named}
+use Rattle.query_lang.proofs.selectors.take_peer.Goals as goal
+
+pub returns-in-Some-parse_key-clause-some : goal.returns-in-Some-parse_key-clause-some
+returns-in-Some-parse_key-clause-some c =
+    takes_named (codes "peer") IsKeyText (further_words c.args.rest.now) (further_words c.in-Some.others.now) c.in-Some.text.now c.in-Some-parse_key.key c.in-Some.ensures.some c.in-Some-parse_key.ensures.found
