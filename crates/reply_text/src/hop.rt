@@ -1,4 +1,4 @@
-ghost use Rattle.std.specs.Prelude.{◌≡◌, ◌++◌, ◌/◌, ◌%◌, [], ◌∷◌, codes, length, slice_index};
+ghost use Rattle.std.specs.Prelude.{◌≡◌, ◌≤◌, ◌++◌, ◌/◌, ◌%◌, [], ◌∷◌, codes, length, slice_index};
 ghost use Rattle.bmp_specs.specs.AddressText.{text_in};
 ghost use Rattle.bmp_specs.specs.PeerText.{hex_digits, hex_text};
 ghost use Rattle.bmp_specs.specs.RouteLine.{text_or_absent, hop_text};
@@ -13,7 +13,8 @@ const DIGITS: &[u8; 16] = b"0123456789abcdef";
 // The text of four bytes as an IPv4 address.
 pub(crate) fn v4_text(bytes: &[u8]) -> ShortText
     requires { length bytes.now ≡ 4 }
-    ensures { result ≡ text_in Family.V4 bytes.now }
+    ensures whole { result ≡ text_in Family.V4 bytes.now }
+    ensures short { length result ≤ 42 }
 {
     let mut octets = [0u8; 4];
     octets.copy_from_slice(bytes);
@@ -23,7 +24,8 @@ pub(crate) fn v4_text(bytes: &[u8]) -> ShortText
 // The text of sixteen bytes as an IPv6 address.
 fn v6_text(bytes: &[u8]) -> ShortText
     requires { length bytes.now ≡ 16 }
-    ensures { result ≡ text_in Family.V6 bytes.now }
+    ensures whole { result ≡ text_in Family.V6 bytes.now }
+    ensures short { length result ≤ 42 }
 {
     let mut octets = [0u8; 16];
     octets.copy_from_slice(bytes);
@@ -69,15 +71,26 @@ fn put_bytes<O: Sink>(out: &mut O, hop: &[u8]) -> Result<(), Failed>
     put_hex(out, hop)
 }
 
+// The field of a next hop that is one address, of this text.
+fn one_hop(address: &ShortText) -> ShortText
+    requires { length address.now ≤ 42 }
+    ensures { result ≡ codes " next=" ++ address.now }
+{
+    let mut text = ShortText::new();
+    text.extend(b" next=");
+    text.extend(address.as_slice());
+    text
+}
+
 // Writes a next hop in the form of its number of bytes.
 fn put_by_length<O: Sink>(out: &mut O, hop: &[u8]) -> Result<(), Failed>
     ensures { Writes O.faults O.told O.aside out.old (codes " next=" ++ hop_text hop.now) result out.new }
 {
     if hop.len() == 4 {
-        return write_pieces(out, &[b" next=", v4_text(hop).as_slice()]);
+        return write_all(out, one_hop(&v4_text(hop)).as_slice());
     }
     if hop.len() == 16 {
-        return write_pieces(out, &[b" next=", v6_text(hop).as_slice()]);
+        return write_all(out, one_hop(&v6_text(hop)).as_slice());
     }
     if hop.len() == 32 {
         return put_two(out, hop);

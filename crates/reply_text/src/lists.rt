@@ -1,19 +1,33 @@
-ghost use Rattle.std.specs.Prelude.{◌≡◌, ◌++◌, codes, map};
+ghost use Rattle.std.specs.Prelude.{◌≡◌, ◌≤◌, ◌++◌, codes, length, map};
 ghost use Rattle.std.specs.List.{join_with_byte};
 ghost use Rattle.bmp_specs.specs.NumberText.{number_text};
 ghost use Rattle.bmp_specs.specs.RouteLine.{comma, comma_list, community_text, others_text};
 ghost use Rattle.reply_text.specs.Pieces.{behind};
 ghost use Rattle.wire_io.specs.Writes.{Writes};
 
-use itoa::Buffer;
+use crate::values::put_u32;
+use ip_prefix::ShortText;
 use path_attrs::Other;
-use wire_io::{Failed, Sink, write_all, write_pieces};
+use wire_io::{Failed, Sink, write_all};
+
+// A number behind the text before it.
+fn numbered(before: &[u8], number: u32) -> ShortText
+    requires { length before.now ≤ 8 }
+    ensures whole { result ≡ before.now ++ number_text number }
+    ensures short { length result ≤ 18 }
+{
+    let mut text = ShortText::new();
+    text.extend(before);
+    put_u32(&mut text, number);
+    text
+}
 
 // Writes a number behind the text before it.
 pub(crate) fn put_number<O: Sink>(out: &mut O, before: &[u8], number: u32) -> Result<(), Failed>
+    requires { length before.now ≤ 8 }
     ensures { Writes O.faults O.told O.aside out.old (before.now ++ number_text number) result out.new }
 {
-    write_pieces(out, &[before, Buffer::new().format(number).as_bytes()])
+    write_all(out, numbered(before, number).as_slice())
 }
 
 // Writes the numbers, each behind the mark.
@@ -39,15 +53,23 @@ pub(crate) fn put_joined<O: Sink>(out: &mut O, mark: u8, numbers: &[u32]) -> Res
     }
 }
 
+// A community behind the text before it.
+fn community_behind(before: &[u8], community: u32) -> ShortText
+    requires { length before.now ≤ 8 }
+    ensures { result ≡ before.now ++ community_text community }
+{
+    let mut text = numbered(before, community / 65536);
+    text.push(b':');
+    put_u32(&mut text, community % 65536);
+    text
+}
+
 // Writes a community behind the text before it.
 fn put_community<O: Sink>(out: &mut O, before: &[u8], community: u32) -> Result<(), Failed>
+    requires { length before.now ≤ 8 }
     ensures { Writes O.faults O.told O.aside out.old (before.now ++ community_text community) result out.new }
 {
-    let mut high = Buffer::new();
-    let mut low = Buffer::new();
-    let high = high.format(community / 65536).as_bytes();
-    let low = low.format(community % 65536).as_bytes();
-    write_pieces(out, &[before, high, b":", low])
+    write_all(out, community_behind(before, community).as_slice())
 }
 
 // Writes the communities, each behind a comma.
@@ -75,6 +97,7 @@ pub(crate) fn put_communities<O: Sink>(out: &mut O, communities: &[u32]) -> Resu
 
 // Writes the type code of an attribute behind the text before it.
 fn put_code<O: Sink>(out: &mut O, before: &[u8], other: &Other) -> Result<(), Failed>
+    requires { length before.now ≤ 8 }
     ensures { Writes O.faults O.told O.aside out.old (before.now ++ number_text other.now.code) result out.new }
 {
     put_number(out, before, other.code as u32)

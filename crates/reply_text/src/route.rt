@@ -9,8 +9,10 @@ ghost use Rattle.wire_io.specs.Writes.{Writes};
 use crate::hop::put_hop;
 use crate::lists::{put_communities, put_number, put_others};
 use crate::path::put_path;
-use crate::values::{digits_or_absent, origin_word, put_aggregator, yes_or_no};
+use crate::values::{metrics, put_aggregator, put_origin_word, put_u8};
 use bmp_frames::ViewText;
+use bmp_specs::View;
+use ip_prefix::{Prefix, ShortText};
 use itoa::Buffer;
 use origin_index::OriginRow;
 use path_attrs::Attrs;
@@ -21,39 +23,40 @@ fn put_place<O: Sink>(out: &mut O, row: &OriginRow) -> Result<(), Failed>
     ensures { Writes O.faults O.told O.aside out.old (spaced (key_text row.now.key ∷ view_text row.now.view ∷ prefix_text row.now.nlri.prefix ∷ [])) result out.new }
 {
     let key = row.key.text();
-    let view = row.view.text();
-    let prefix = row.prefix.text();
-    write_pieces(
-        out,
-        &[
-            b" ",
-            key.as_slice(),
-            b" ",
-            view.as_slice(),
-            b" ",
-            prefix.as_slice(),
-        ],
-    )
+    let seen = view_and_prefix(row.view, &row.prefix);
+    write_pieces(out, &[b" ", key.as_slice(), seen.as_slice()])
+}
+
+// The fields of a RIB and of a prefix.
+fn view_and_prefix(view: View, prefix: &Prefix) -> ShortText
+    ensures { result ≡ spaced (view_text view ∷ prefix_text prefix.now ∷ []) }
+{
+    let mut text = ShortText::new();
+    text.push(b' ');
+    text.extend(view.text().as_slice());
+    text.push(b' ');
+    text.extend(prefix.addr().text().as_slice());
+    text.push(b'/');
+    put_u8(&mut text, prefix.bits());
+    text
 }
 
 // Writes the field of ORIGIN (RFC 4271, section 5.1.1).
 fn put_origin<O: Sink>(out: &mut O, origin: Option<u8>) -> Result<(), Failed>
     ensures { Writes O.faults O.told O.aside out.old (codes " origin=" ++ text_or_absent origin_text origin) result out.new }
 {
-    let mut buffer = Buffer::new();
-    write_pieces(out, &[b" origin=", origin_word(&mut buffer, origin)])
+    let mut text = ShortText::new();
+    text.extend(b" origin=");
+    put_origin_word(&mut text, origin);
+    write_all(out, text.as_slice())
 }
 
 // Writes the fields of MULTI_EXIT_DISC, LOCAL_PREF and ATOMIC_AGGREGATE (RFC 4271, sections 5.1.4 to 5.1.6).
 fn put_metrics<O: Sink>(out: &mut O, attrs: &Attrs) -> Result<(), Failed>
     ensures { Writes O.faults O.told O.aside out.old (metrics_text attrs.now) result out.new }
 {
-    let mut med = Buffer::new();
-    let mut pref = Buffer::new();
-    let med = digits_or_absent(&mut med, attrs.med);
-    let pref = digits_or_absent(&mut pref, attrs.pref);
-    let atomic = yes_or_no(attrs.atomic);
-    write_pieces(out, &[b" med=", med, b" pref=", pref, b" atomic=", atomic])
+    let text = metrics(attrs.med, attrs.pref, attrs.atomic);
+    write_all(out, text.as_slice())
 }
 
 // Writes the fields of the next hop, ORIGIN and AS_PATH, which are "well-known mandatory" (RFC 4271, section 5).
