@@ -1,21 +1,48 @@
 -- Rows are counted peer by peer, up to the greatest number of 64 bits.
-use Rattle.std.proofs.Common.{◌≡◌, ℕ, ◌+◌, List, [], ◌∷◌, length, ap, ◌∙◌, arith, length-append}
+use Rattle.std.proofs.Common.{◌≡◌, ℕ, ◌+◌, true, false, List, [], ◌∷◌, length, ap, ◌∙◌, arith, length-append}
 use Rattle.std.specs.Prelude.{flat_map}
-use Rattle.std.proofs.lemmas.List.{length-map}
+use Rattle.std.specs.declared.sync.Arc.{Arc}
+use Rattle.std.specs.declared.alloc.Global.{Global}
+use Rattle.std.specs.List.{filter}
+use Rattle.std.specs.Map.{keys_of}
+use Rattle.std.proofs.lemmas.Bool.{cond-true, cond-false}
+use Rattle.std.proofs.lemmas.List.Elements.{filter-append}
 use Rattle.bmp_specs.specs.Reply.{told_count}
-use Rattle.bmp_specs.specs.Values.{KeyValue}
+use Rattle.bmp_specs.specs.Selection.{SelectValue}
+use Rattle.bmp_specs.specs.Values.{KeyValue, AttrsValue}
+use Rattle.station_top.specs.declared.place.Place.{Place}
 use Rattle.station_top.specs.Tables.{Rows}
-use Rattle.station_top.specs.TableText.{row_of, rows_of}
+use Rattle.station_top.specs.TableText.{keeps_place, keeps_row, rows_of}
 
--- the rows of the first peer and of the others
-length_first : (es rest : List (KeyValue × Rows)) (e : KeyValue × Rows) → es ≡ e ∷ rest → length (flat_map rows_of es) ≡ length e.1.entries + length (flat_map rows_of rest)
-length_first es rest e first =
-    ap (λ (l : List (KeyValue × Rows)). length (flat_map rows_of l)) first ∙ length-append (rows_of e) (flat_map rows_of rest)
-    ∙ ap (λ (n : ℕ). n + length (flat_map rows_of rest)) (length-map e.1.entries (row_of e.0))
+module _ (select : SelectValue) where
+  -- the rows of the first peer and of the others
+  length_first : (es rest : List (KeyValue × Rows)) (e : KeyValue × Rows) → es ≡ e ∷ rest → length (filter (keeps_row select) (flat_map rows_of es)) ≡ length (filter (keeps_row select) (rows_of e)) + length (filter (keeps_row select) (flat_map rows_of rest))
+  length_first es rest e first =
+      ap (λ (l : List (KeyValue × Rows)). length (filter (keeps_row select) (flat_map rows_of l))) first
+      ∙ ap length (filter-append (keeps_row select) (rows_of e) (flat_map rows_of rest))
+      ∙ length-append (filter (keeps_row select) (rows_of e)) (filter (keeps_row select) (flat_map rows_of rest))
 
-pub count_more : (count next total : ℕ) (es rest : List (KeyValue × Rows)) (e : KeyValue × Rows) → es ≡ e ∷ rest → next ≡ told_count (count + length e.1.entries) → told_count (count + length (flat_map rows_of es)) ≡ total
-    → told_count (next + length (flat_map rows_of rest)) ≡ total
-count_more count next total es rest e first is so_far = let l = length_first es rest e first in omega (arith, l, is, so_far)
+  pub count_more : (count next here total : ℕ) (es rest : List (KeyValue × Rows)) (e : KeyValue × Rows) → es ≡ e ∷ rest → here ≡ told_count (length (filter (keeps_row select) (rows_of e))) → next ≡ told_count (count + here) → told_count (count + length (filter (keeps_row select) (flat_map rows_of es))) ≡ total
+      → told_count (next + length (filter (keeps_row select) (flat_map rows_of rest))) ≡ total
+  count_more count next here total es rest e first is more so_far = let l = length_first es rest e first in omega (arith, l, is, more, so_far)
 
-pub count_all : (count total : ℕ) (es : List (KeyValue × Rows)) → es ≡ [] → told_count count ≡ count → told_count (count + length (flat_map rows_of es)) ≡ total → count ≡ total
-count_all count total es none fits so_far = let l : length (flat_map rows_of es) ≡ 0 = ap (λ (l : List (KeyValue × Rows)). length (flat_map rows_of l)) none in omega (arith, l, fits, so_far)
+  pub count_all : (count total : ℕ) (es : List (KeyValue × Rows)) → es ≡ [] → told_count count ≡ count → told_count (count + length (filter (keeps_row select) (flat_map rows_of es))) ≡ total → count ≡ total
+  count_all count total es none fits so_far = let l : length (filter (keeps_row select) (flat_map rows_of es)) ≡ 0 = ap (λ (l : List (KeyValue × Rows)). length (filter (keeps_row select) (flat_map rows_of l))) none in omega (arith, l, fits, so_far)
+
+  -- the same of the places of a peer
+  pub place_kept : (count next total : ℕ) (es rest : List (Place × Arc AttrsValue Global)) (e : Place × Arc AttrsValue Global) → es ≡ e ∷ rest → keeps_place select e.0 ≡ true → next ≡ told_count (count + 1) → told_count (count + length (filter (keeps_place select) (keys_of es))) ≡ total
+      → told_count (next + length (filter (keeps_place select) (keys_of rest))) ≡ total
+  place_kept count next total es rest e first kept more so_far =
+      let l : length (filter (keeps_place select) (keys_of es)) ≡ length (e.0 ∷ filter (keeps_place select) (keys_of rest)) =
+      ap (λ (l : List (Place × Arc AttrsValue Global)). length (filter (keeps_place select) (keys_of l))) first ∙ ap length (cond-true (keeps_place select e.0) _ _ kept) in
+      omega (arith, l, more, so_far)
+
+  pub place_passed : (count total : ℕ) (es rest : List (Place × Arc AttrsValue Global)) (e : Place × Arc AttrsValue Global) → es ≡ e ∷ rest → keeps_place select e.0 ≡ false → told_count (count + length (filter (keeps_place select) (keys_of es))) ≡ total
+      → told_count (count + length (filter (keeps_place select) (keys_of rest))) ≡ total
+  place_passed count total es rest e first passed so_far =
+      let l : length (filter (keeps_place select) (keys_of es)) ≡ length (filter (keeps_place select) (keys_of rest)) =
+      ap (λ (l : List (Place × Arc AttrsValue Global)). length (filter (keeps_place select) (keys_of l))) first ∙ ap length (cond-false (keeps_place select e.0) _ _ passed) in
+      omega (arith, l, so_far)
+
+  pub places_all : (count total : ℕ) (es : List (Place × Arc AttrsValue Global)) → es ≡ [] → told_count count ≡ count → told_count (count + length (filter (keeps_place select) (keys_of es))) ≡ total → count ≡ total
+  places_all count total es none fits so_far = let l : length (filter (keeps_place select) (keys_of es)) ≡ 0 = ap (λ (l : List (Place × Arc AttrsValue Global)). length (filter (keeps_place select) (keys_of l))) none in omega (arith, l, fits, so_far)

@@ -10,6 +10,9 @@ pub mod PlaceOrder
 pub mod MapSteps
 pub mod RowSteps
 pub mod EntrySteps
+pub mod Joining
+pub mod Commands
+pub mod Selecting
 pub mod TableRows
 pub mod Telling
 pub mod Counting

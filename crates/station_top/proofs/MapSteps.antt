@@ -5,8 +5,7 @@ use Rattle.std.specs.Arc.{arc_value}
 use Rattle.std.specs.declared.sync.Arc.{Arc}
 use Rattle.std.specs.declared.alloc.Global.{Global}
 use Rattle.std.specs.declared.cmp.Ordering.{Ordering}
-use Rattle.std.specs.declared.cmp.Ordering.TheVariants.{Less, Equal, Greater}
-use Rattle.std.specs.Ordering.{is_eq}
+use Rattle.std.specs.Cmp.{IsTotalOrder}
 use Rattle.std.specs.Option.{option_map}
 use Rattle.std.specs.BTreeMap.{BTreeMap, get, is_at, Updates}
 use Rattle.std.specs.Map.{lookup}
@@ -14,23 +13,15 @@ use Rattle.std.proofs.lemmas.Map.Lookups.{CmpEqualImpliesEq}
 use Rattle.bmp_specs.specs.Orders.{key_cmp}
 use Rattle.bmp_specs.specs.Values.{KeyValue, AttrsValue}
 use Rattle.bmp_specs.proofs.OrderLaws.{key_total, key_exact, same_or_other}
+use Rattle.bmp_specs.proofs.PairLookups.{at_other}
 use Rattle.station_top.specs.declared.place.Place.{Place}
 use Rattle.station_top.specs.Places.{peer_place_cmp, within_peer}
 use Rattle.station_top.specs.Tables.{Rows, Peers, has_peer, route_in, Puts, Clears}
-use Rattle.station_top.proofs.PlaceOrder.{peer_place_exact}
-
--- another key isn't found
-not_at : {K : Type 0} (cmp : K → K → Ordering) → CmpEqualImpliesEq cmp → (k q : K) → ¬ (k ≡ q) → is_at (cmp k) q ≡ false
-not_at cmp exact k q other = go (cmp k q) refl
-  where
-    go : (o : Ordering) → cmp k q ≡ o → is_eq o ≡ false
-    go Less is = refl
-    go Equal is = absurd (other (exact k q is))
-    go Greater is = refl
+use Rattle.station_top.proofs.PlaceOrder.{peer_place_total, peer_place_exact}
 
 -- a map at other keys
-elsewhere : {K X : Type 0} (cmp : K → K → Ordering) → CmpEqualImpliesEq cmp → (m n : BTreeMap K X) (k : K) (w : Option X) → Updates cmp m n k w → (q : K) → ¬ (k ≡ q) → get cmp n q ≡ get cmp m q
-elsewhere cmp exact m n k w u q other = u.2 q (not_at cmp exact k q other)
+elsewhere : {K X : Type 0} (cmp : K → K → Ordering) → IsTotalOrder cmp → CmpEqualImpliesEq cmp → (m n : BTreeMap K X) (k : K) (w : Option X) → Updates cmp m n k w → (q : K) → ¬ (k ≡ q) → get cmp n q ≡ get cmp m q
+elsewhere cmp total exact m n k w u q other = u.2 q (at_other cmp total exact k q other)
 
 -- two peers are one or not
 pub same_key : (key k : KeyValue) → (key ≡ k) ⊎ ¬ (key ≡ k)
@@ -42,7 +33,7 @@ pub puts_in : (old new : Peers) (key : KeyValue) (place : Place) (rows after : R
 puts_in old new key place rows after route was u v = record {
   peers = λ k. elim (same_key key k) [
     | inl same ↦ subst (λ (j : KeyValue). has_peer new j ≡ has_peer old j) same (ap is_some u.1 ∙ sym (ap is_some was))
-    | inr other ↦ ap is_some (elsewhere key_cmp key_exact old new key (Some after) u k other)
+    | inr other ↦ ap is_some (elsewhere key_cmp key_total key_exact old new key (Some after) u k other)
   ];
   here = ap (λ (o : Option Rows). route_in o place) u.1 ∙ ap (option_map arc_value) v.1 ∙ sym (ap (λ (o : Option Rows). if is_some o then option_map arc_value route else None) was);
   others = λ p other. elim (same_key key p.key) [
@@ -50,8 +41,8 @@ puts_in old new key place rows after route was u v = record {
         let apart : ¬ (place ≡ within_peer p) = (λ at. other (λ i. record { key = same i; view = (at i).view; nlri = (at i).nlri })) in
         let here : get key_cmp new p.key ≡ Some after = subst (λ (j : KeyValue). get key_cmp new j ≡ Some after) same u.1 in
         let before : get key_cmp old p.key ≡ Some rows = subst (λ (j : KeyValue). get key_cmp old j ≡ Some rows) same was in
-        ap (λ (o : Option Rows). route_in o (within_peer p)) here ∙ ap (option_map arc_value) (elsewhere peer_place_cmp peer_place_exact rows after place route v (within_peer p) apart) ∙ sym (ap (λ (o : Option Rows). route_in o (within_peer p)) before)
-    | inr apart ↦ ap (λ (o : Option Rows). route_in o (within_peer p)) (elsewhere key_cmp key_exact old new key (Some after) u p.key apart)
+        ap (λ (o : Option Rows). route_in o (within_peer p)) here ∙ ap (option_map arc_value) (elsewhere peer_place_cmp peer_place_total peer_place_exact rows after place route v (within_peer p) apart) ∙ sym (ap (λ (o : Option Rows). route_in o (within_peer p)) before)
+    | inr apart ↦ ap (λ (o : Option Rows). route_in o (within_peer p)) (elsewhere key_cmp key_total key_exact old new key (Some after) u p.key apart)
   ];
 }
 
@@ -68,8 +59,8 @@ clears : (old new : Peers) (key : KeyValue) (rows : Option Rows) → ((place : P
 clears old new key rows empty u = record {
   here = ap is_some u.1;
   empty = λ p same. ap (λ (o : Option Rows). route_in o (within_peer p)) (subst (λ (k : KeyValue). get key_cmp new k ≡ rows) same u.1) ∙ empty (within_peer p);
-  peers = λ k other. ap is_some (elsewhere key_cmp key_exact old new key rows u k other);
-  others = λ p other. ap (λ (o : Option Rows). route_in o (within_peer p)) (elsewhere key_cmp key_exact old new key rows u p.key other);
+  peers = λ k other. ap is_some (elsewhere key_cmp key_total key_exact old new key rows u k other);
+  others = λ p other. ap (λ (o : Option Rows). route_in o (within_peer p)) (elsewhere key_cmp key_total key_exact old new key rows u p.key other);
 }
 
 pub clears_up : (old new : Peers) (key : KeyValue) (rows : Rows) → rows.entries ≡ [] → Updates key_cmp old new key (Some rows) → Clears old new key true

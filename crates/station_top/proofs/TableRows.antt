@@ -20,6 +20,7 @@ use Rattle.bmp_specs.specs.Orders.{key_cmp}
 use Rattle.bmp_specs.specs.Reply.{reply}
 use Rattle.bmp_specs.specs.RouteLine.{route_line}
 use Rattle.bmp_specs.specs.Rows.{PlaceValue, RowValue}
+use Rattle.bmp_specs.specs.Selection.{SelectValue}
 use Rattle.bmp_specs.specs.Session.{session_effects}
 use Rattle.bmp_specs.specs.TableReply.{IsTableReply}
 use Rattle.bmp_specs.specs.TableRows.{place_cmp, AreTableRows}
@@ -30,8 +31,9 @@ use Rattle.station_top.specs.declared.place.Place.{Place}
 use Rattle.station_top.specs.declared.tables.Tables.{Tables}
 use Rattle.station_top.specs.Places.{peer_place_cmp, place_of, within_peer}
 use Rattle.station_top.specs.Tables.{Rows, Peers, route_in, route_at, Holds, StandsFor}
-use Rattle.station_top.specs.TableText.{row_of, rows_of, rows_in, AreOrdered, table_text}
+use Rattle.station_top.specs.TableText.{row_of, rows_of, rows_in, selected_in, AreOrdered, table_text}
 use Rattle.station_top.proofs.PlaceOrder.{peer_place_total, peer_place_exact}
+use Rattle.station_top.proofs.Selecting.{are_selected_rows}
 
 -- members of what a list is mapped to
 module _ {X Y : Type 0} where
@@ -153,9 +155,9 @@ module _ (peers : Peers) (ordered : AreOrdered peers) where
     exact = λ row. (λ c. (h.rows row).0 (told_stands row c), λ r. stands_told row ((h.rows row).1 r));
   }
 
-pub is_table_reply : (tables : Tables) (rev : ℕ) → AreOrdered tables.peers → (entries : List EntryValue) → StandsFor tables entries → rev ≡ length entries → IsTableReply (route_line 0) entries (table_text rev tables)
-is_table_reply tables rev ordered entries s e = record {
-  rows = rows_in tables.peers;
-  are_rows = are_table_rows tables.peers ordered (session_effects entries) s.peers;
-  told = ap (λ (n : ℕ). reply n (map (route_line 0) (rows_in tables.peers))) e;
+pub is_table_reply : (select : SelectValue) (tables : Tables) (rev : ℕ) → AreOrdered tables.peers → (entries : List EntryValue) → StandsFor tables entries → rev ≡ length entries → IsTableReply select 0 entries (table_text select rev tables)
+is_table_reply select tables rev ordered entries s e = record {
+  rows = selected_in select tables.peers;
+  are_rows = are_selected_rows select (session_effects entries) (rows_in tables.peers) (are_table_rows tables.peers ordered (session_effects entries) s.peers);
+  told = ap (λ (n : ℕ). reply n (map (route_line 0) (selected_in select tables.peers))) e;
 }

@@ -5,9 +5,14 @@ use Rattle.std.specs.Prelude.{flat_map}
 use Rattle.std.specs.Arc.{arc_value}
 use Rattle.std.specs.declared.sync.Arc.{Arc}
 use Rattle.std.specs.declared.alloc.Global.{Global}
-use mathlib.Core.Bool.{true}
+use Rattle.std.specs.List.{filter}
+use Rattle.std.proofs.lemmas.Bool.{cond-true, cond-false}
+use Rattle.std.proofs.lemmas.List.{append-nil}
+use Rattle.std.proofs.lemmas.List.Elements.{filter-append}
+use mathlib.Core.Bool.{true, false}
 use Rattle.bmp_specs.specs.RouteLine.{route_line}
 use Rattle.bmp_specs.specs.Rows.{PlaceValue, RowValue}
+use Rattle.bmp_specs.specs.Selection.{SelectValue}
 use Rattle.bmp_specs.specs.Values.{KeyValue, AttrsValue}
 use Rattle.wire_io.specs.declared.sink.Failed.{Failed}
 use Rattle.wire_io.specs.Aside.{Aside}
@@ -16,7 +21,7 @@ use Rattle.wire_io.proofs.Joins.{join, more, writes_none}
 use Rattle.station_top.specs.declared.place.Place.{Place}
 use Rattle.station_top.specs.Places.{place_of}
 use Rattle.station_top.specs.Tables.{Rows}
-use Rattle.station_top.specs.TableText.{row_of, rows_of, lines_of}
+use Rattle.station_top.specs.TableText.{keeps_row, row_of, rows_of, lines_of}
 
 -- To write what is left is to write all, since the rest is written.
 pub record LeadsTo {O : Type 0} (faults : O → ℕ) (told : O → Option (List ℕ)) (aside : O → Aside) (start now : O) (left all : List ℕ) : Type 0 where
@@ -35,17 +40,40 @@ module _ {O : Type 0} {faults : O → ℕ} {told : O → Option (List ℕ)} {asi
   pub leads_end : (a b : O) (left all : List ℕ) → LeadsTo faults told aside a b left all → left ≡ [] → Writes faults told aside a all (Ok tt) b
   leads_end a b left all l e = l.go (Ok tt) b (subst (λ (t : List ℕ). Writes faults told aside b t (Ok tt) b) (sym e) (writes_none b))
 
+  -- the same text in another form
+  pub writes_as : (a b : O) (text other : List ℕ) (r : Result (Unit {0}) Failed) → text ≡ other → Writes faults told aside a text r b → Writes faults told aside a other r b
+  writes_as a b text other r e w = subst (λ (t : List ℕ). Writes faults told aside a t r b) e w
+
+  -- nothing is written where there is nothing to write
+  pub writes_passed : (a : O) (text : List ℕ) → text ≡ [] → Writes faults told aside a text (Ok tt) a
+  writes_passed a text e = subst (λ (t : List ℕ). Writes faults told aside a t (Ok tt) a) (sym e) (writes_none a)
+
 pub lines_append : (xs ys : List RowValue) → lines_of (xs ++ ys) ≡ lines_of xs ++ lines_of ys
 lines_append [] ys = refl
 lines_append (x ∷ xs) ys = ap (λ (l : List ℕ). route_line 0 x ++ l) (lines_append xs ys) ∙ sym (append_assoc (route_line 0 x) (lines_of xs) (lines_of ys))
 
--- the first line of what a peer has left, where the row is the first
-pub told_first : (key : KeyValue) (es rest : List (Place × Arc AttrsValue Global)) (e : Place × Arc AttrsValue Global) (place : PlaceValue) (route : AttrsValue) → es ≡ e ∷ rest → place ≡ place_of key e.0 → route ≡ arc_value e.1
-    → lines_of (map (row_of key) es) ≡ route_line 0 (record { place = place; route = route }) ++ lines_of (map (row_of key) rest)
-told_first key es rest e place route first p r =
-    ap (λ (l : List (Place × Arc AttrsValue Global)). lines_of (map (row_of key) l)) first
-    ∙ ap (λ (row : RowValue). route_line 0 row ++ lines_of (map (row_of key) rest)) (λ i. record { place = sym p i; route = sym r i })
+-- the line of a row that is kept, or none
+pub told_row : (select : SelectValue) (key : KeyValue) (e : Place × Arc AttrsValue Global) (place : PlaceValue) (route : AttrsValue) → place ≡ place_of key e.0 → route ≡ arc_value e.1 → keeps_row select (row_of key e) ≡ true
+    → route_line 0 (record { place = place; route = route }) ≡ lines_of (filter (keeps_row select) (row_of key e ∷ []))
+told_row select key e place route p r kept =
+    ap (λ (row : RowValue). route_line 0 row) (λ i. record { place = p i; route = r i })
+    ∙ sym (append-nil (route_line 0 (row_of key e)))
+    ∙ sym (ap lines_of (cond-true (keeps_row select (row_of key e)) (row_of key e ∷ []) [] kept))
+
+pub passed_row : (select : SelectValue) (key : KeyValue) (e : Place × Arc AttrsValue Global) → keeps_row select (row_of key e) ≡ false → lines_of (filter (keeps_row select) (row_of key e ∷ [])) ≡ []
+passed_row select key e passed = ap lines_of (cond-false (keeps_row select (row_of key e)) (row_of key e ∷ []) [] passed)
+
+-- the first line of what a peer has left, where its row is kept
+pub told_first : (select : SelectValue) (key : KeyValue) (es rest : List (Place × Arc AttrsValue Global)) (e : Place × Arc AttrsValue Global) → es ≡ e ∷ rest
+    → lines_of (filter (keeps_row select) (map (row_of key) es)) ≡ lines_of (filter (keeps_row select) (row_of key e ∷ [])) ++ lines_of (filter (keeps_row select) (map (row_of key) rest))
+told_first select key es rest e first =
+    ap (λ (l : List (Place × Arc AttrsValue Global)). lines_of (filter (keeps_row select) (map (row_of key) l))) first
+    ∙ ap lines_of (filter-append (keeps_row select) (row_of key e ∷ []) (map (row_of key) rest))
+    ∙ lines_append (filter (keeps_row select) (row_of key e ∷ [])) (filter (keeps_row select) (map (row_of key) rest))
 
 -- and the first lines of what the peers have left
-pub told_peer : (es rest : List (KeyValue × Rows)) (e : KeyValue × Rows) → es ≡ e ∷ rest → lines_of (flat_map rows_of es) ≡ lines_of (rows_of e) ++ lines_of (flat_map rows_of rest)
-told_peer es rest e first = ap (λ (l : List (KeyValue × Rows)). lines_of (flat_map rows_of l)) first ∙ lines_append (rows_of e) (flat_map rows_of rest)
+pub told_peer : (select : SelectValue) (es rest : List (KeyValue × Rows)) (e : KeyValue × Rows) → es ≡ e ∷ rest → lines_of (filter (keeps_row select) (flat_map rows_of es)) ≡ lines_of (filter (keeps_row select) (rows_of e)) ++ lines_of (filter (keeps_row select) (flat_map rows_of rest))
+told_peer select es rest e first =
+    ap (λ (l : List (KeyValue × Rows)). lines_of (filter (keeps_row select) (flat_map rows_of l))) first
+    ∙ ap lines_of (filter-append (keeps_row select) (rows_of e) (flat_map rows_of rest))
+    ∙ lines_append (filter (keeps_row select) (rows_of e)) (filter (keeps_row select) (flat_map rows_of rest))

@@ -7,7 +7,6 @@ use Rattle.bmp_specs.specs.Lines.{stop_line, usage_line}
 use Rattle.bmp_specs.specs.Life.{IsReadNoFurther}
 use Rattle.bmp_specs.specs.MessageBody.{no_peers}
 use Rattle.bmp_specs.specs.MessageEffects.{IsMessageEntry}
-use Rattle.bmp_specs.specs.RouteLine.{route_line}
 use Rattle.bmp_specs.specs.TableReply.{IsTableReply}
 use Rattle.bmp_specs.specs.Values.{EntryValue, opened}
 use Rattle.wire_io.specs.Aside.{Aside, Given, Plan}
@@ -17,7 +16,7 @@ use Rattle.station_doors.specs.Doors.{YardValue, one_more}
 use Rattle.station_top.specs.Input.{HasCome}
 use Rattle.station_top.specs.Take.{BreaksOff, Comes}
 use Rattle.station_top.specs.Status.{status_of}
-use Rattle.station_top.specs.Words.{IsCommand}
+use Rattle.station_top.specs.Words.{IsCommand, TakeMemory}
 use Rattle.station_top.specs.declared.status.Status.{Status}
 use Rattle.station_top.specs.declared.status.Status.TheVariants.{Done, Stopped, Usage, ReadFault, WriteFault, NoMemory, YardFault}
 use Rattle.station_top.specs.declared.take.Taken.{Taken}
@@ -26,7 +25,7 @@ use Rattle.station_top.specs.declared.words.Command.TheVariants.{ReplayTable, Ch
 
 -- the bytes are the reply of a command on these entries
 abbrev pub IsReply : Command → List EntryValue → List ℕ → Type 0
-IsReply ReplayTable entries bytes = IsTableReply (route_line 0) entries bytes
+IsReply (ReplayTable select) entries bytes = IsTableReply select 0 entries bytes
 IsReply Check entries bytes = bytes ≡ check_lines entries
 
 -- The yard handed out the first port that waits under the number 0, and took it back: what it showed then stands in this
@@ -66,6 +65,8 @@ pub data Runs (Replies : List EntryValue → List ℕ → Type 0) (old new : Opt
 pub data Means (words : List (List ℕ)) (old new : Option YardValue) (number : ℕ) : ℕ → Status → List ℕ → Type 0 where
   -- the words are no command: the usage line, and the yard is asked for nothing
   usage : ((command : Command) → IsCommand command words → ⊥) → new ≡ old → Means words old new number number Usage usage_line
+  -- want of memory while the words were read: nothing is written, and the yard is asked for nothing
+  unread : TakeMemory words → new ≡ old → Means words old new number number NoMemory []
   -- they are this command
   commanded : (command : Command) (status : Status) (text : List ℕ) → IsCommand command words → Runs (IsReply command) old new number status text → Means words old new number (one_more number) status text
 

@@ -1,19 +1,38 @@
 -- The reply of `table` as tables tell it.
-use Rattle.std.specs.Prelude.{ℕ, List, map, flat_map}
+use Rattle.std.specs.Prelude.{ℕ, Bool, true, ◌&&◌, List, Option, Some, None, map, flat_map}
 use Rattle.std.specs.Arc.{arc_value}
 use Rattle.std.specs.declared.sync.Arc.{Arc}
 use Rattle.std.specs.declared.alloc.Global.{Global}
+use Rattle.std.specs.declared.cmp.Ordering.{Ordering}
 use Rattle.std.specs.BTreeMap.{IsOrdered}
-use Rattle.std.specs.List.{concat, AllByRecursion}
-use Rattle.bmp_specs.specs.Orders.{key_cmp}
+use Rattle.std.specs.List.{concat, filter, AllByRecursion}
+use Rattle.std.specs.Ordering.{is_eq, nat_cmp}
+use Rattle.bmp_specs.specs.Orders.{family_cmp, key_cmp, view_cmp}
 use Rattle.bmp_specs.specs.Reply.{reply}
 use Rattle.bmp_specs.specs.RouteLine.{route_line}
 use Rattle.bmp_specs.specs.Rows.{RowValue}
+use Rattle.bmp_specs.specs.Selection.{SelectValue}
 use Rattle.bmp_specs.specs.Values.{KeyValue, AttrsValue}
 use Rattle.station_top.specs.declared.place.Place.{Place}
 use Rattle.station_top.specs.declared.tables.Tables.{Tables}
-use Rattle.station_top.specs.Places.{peer_place_cmp, place_of}
+use Rattle.station_top.specs.Places.{peer_place_cmp, place_of, within_peer}
 use Rattle.station_top.specs.Tables.{Rows, Peers}
+
+-- whether the value is the one that is named, or none is named
+abbrev pub is_named : {A : Type 0} → (A → A → Ordering) → Option A → A → Bool
+is_named cmp None value = true
+is_named cmp (Some named) value = is_eq (cmp named value)
+
+-- whether rows of the peer are asked for: a replay has one lane, of the number 0
+abbrev pub keeps_peer : SelectValue → KeyValue → Bool
+keeps_peer select key = is_named nat_cmp select.router 0 && is_named key_cmp select.peer key
+
+-- whether rows of this view and family are asked for
+abbrev pub keeps_place : SelectValue → Place → Bool
+keeps_place select place = is_named view_cmp select.view place.view && is_named family_cmp select.family place.nlri.prefix.address.family
+
+abbrev pub keeps_row : SelectValue → RowValue → Bool
+keeps_row select row = keeps_peer select row.place.key && keeps_place select (within_peer row.place)
 
 -- a row of a peer
 abbrev pub row_of : KeyValue → Place × Arc AttrsValue Global → RowValue
@@ -26,7 +45,11 @@ rows_of peer = map (row_of peer.0) peer.1.entries
 abbrev pub rows_in : Peers → List RowValue
 rows_in peers = flat_map rows_of peers.entries
 
--- the lines of rows: a replay has one lane, of the number 0
+-- those of them that are selected
+abbrev pub selected_in : SelectValue → Peers → List RowValue
+selected_in select peers = filter (keeps_row select) (rows_in peers)
+
+-- the lines of rows
 abbrev pub lines_of : List RowValue → List ℕ
 lines_of rows = concat (map (route_line 0) rows)
 
@@ -35,6 +58,6 @@ pub record AreOrdered (peers : Peers) : Type 0 where
   pub keys : IsOrdered key_cmp peers
   pub places : AllByRecursion (λ peer. IsOrdered peer_place_cmp peer.1) peers.entries
 
--- the reply of a history of this revision
-abbrev pub table_text : ℕ → Tables → List ℕ
-table_text rev tables = reply rev (map (route_line 0) (rows_in tables.peers))
+-- the reply of a history of this revision, of the rows that are selected
+abbrev pub table_text : SelectValue → ℕ → Tables → List ℕ
+table_text select rev tables = reply rev (map (route_line 0) (selected_in select tables.peers))

@@ -67,11 +67,14 @@ impl Ledger for Counts {
     ghost use Rattle.std.specs.Prelude.{◌≡◌};
     ghost use Rattle.station_top.specs.Check.{AreCounts, lines_of};
 
+    // all ten counts are told
+    type Ask = ();
+
     ghost stands = { AreCounts };
 
-    ghost replies = { λ entries bytes. bytes ≡ check_lines entries };
+    ghost replies = { λ _ entries bytes. bytes ≡ check_lines entries };
 
-    ghost text = { λ revision counts. lines_of counts };
+    ghost text = { λ _ revision counts. lines_of counts };
 
     fn note(&mut self, entry: &Entry) -> Result<(), NoMemory> {
         if let Entry::Message { kind, length, .. } = entry {
@@ -93,7 +96,7 @@ impl Ledger for Counts {
         }
     }
 
-    fn put_reply<O: Sink>(&self, out: &mut O, revision: u64) -> Result<(), Failed> {
+    fn put_reply<O: Sink>(&self, out: &mut O, _ask: &(), revision: u64) -> Result<(), Failed> {
         let _ = revision;
         put_numbers(
             out,

@@ -9,6 +9,7 @@ use crate::put_table::put_table;
 use crate::tables::Tables;
 use bmp_message::{Progress, StreamWalk};
 use bmp_specs::Why;
+use query_lang::Select;
 use rib_model::Entry;
 use wire_io::{Failed, NoMemory, Sink};
 
@@ -30,14 +31,17 @@ pub enum Drawn {
 
 /// Takes the entries of the input, one after another, and gives a command's reply on them.
 pub trait Ledger {
+    /// What a reply is asked for with.
+    type Ask;
+
     /// It stands for these entries.
     ghost stands: { Self → List EntryValue → Type 0 };
 
-    /// The bytes are the reply on these entries.
-    ghost replies: { List EntryValue → List ℕ → Type 0 };
+    /// The bytes are the reply on these entries, so asked for.
+    ghost replies: { Self.Ask → List EntryValue → List ℕ → Type 0 };
 
-    /// What it replies with this revision.
-    ghost text: { ℕ → Self → List ℕ };
+    /// What it replies with this revision, so asked.
+    ghost text: { Self.Ask → ℕ → Self → List ℕ };
 
     /// Takes the next entry. After want of memory it stands for nothing.
     fn note(&mut self, entry: &Entry) -> Result<(), NoMemory>
@@ -50,20 +54,22 @@ pub trait Ledger {
         ensures shorter { result ≡ Ok Drawn.Message → rest_of walk.new < rest_of walk.old };
 
     /// Writes the reply. The revision is the number of entries.
-    fn put_reply<O: Sink>(&self, out: &mut O, revision: u64) -> Result<(), Failed>
-        ensures writes { Writes O.faults O.told O.aside out.old (text revision self.now) result out.new }
-        ensures reply { RepliesBy (stands self.now) replies revision (text revision self.now) };
+    fn put_reply<O: Sink>(&self, out: &mut O, ask: &Self::Ask, revision: u64) -> Result<(), Failed>
+        ensures writes { Writes O.faults O.told O.aside out.old (text ask.now revision self.now) result out.new }
+        ensures reply { RepliesBy (stands self.now) (replies ask.now) revision (text ask.now revision self.now) };
 }
 
 impl Ledger for Tables {
-    ghost use Rattle.bmp_specs.specs.RouteLine.{route_line};
     ghost use Rattle.bmp_specs.specs.TableReply.{IsTableReply};
     ghost use Rattle.station_top.specs.Tables.{StandsFor};
     ghost use Rattle.station_top.specs.TableText.{table_text};
 
+    // the rows that are asked for
+    type Ask = Select;
+
     ghost stands = { StandsFor };
 
-    ghost replies = { IsTableReply (route_line 0) };
+    ghost replies = { λ select. IsTableReply select 0 };
 
     ghost text = { table_text };
 
@@ -83,7 +89,12 @@ impl Ledger for Tables {
         }
     }
 
-    fn put_reply<O: Sink>(&self, out: &mut O, revision: u64) -> Result<(), Failed> {
-        put_table(out, revision, self)
+    fn put_reply<O: Sink>(
+        &self,
+        out: &mut O,
+        select: &Select,
+        revision: u64,
+    ) -> Result<(), Failed> {
+        put_table(out, select, revision, self)
     }
 }

@@ -1,8 +1,9 @@
 //! The station itself: words and connections in, a reply and a status out.
 //!
 //! `station` is the top call: the program hands it its words, the yard and standard output, and ends with
-//! the status that it answers. It answers two commands: `replay table`, the routes that a router's stream
-//! leaves in its tables, and `check`, how many messages of each type it has.
+//! the status that it answers. It answers two commands: `replay` with a query `table`, the routes that a
+//! router's stream leaves in its tables, all or those that selectors keep, and `check`, how many messages of
+//! each type it has.
 //!
 //! Proved: which status comes, by the words and by what a yard in memory tells; which bytes were written,
 //! by the walk of the bytes that were taken, in whatever pieces they came; that a write fault and a yard's
@@ -15,6 +16,7 @@ mod counts;
 mod ledger;
 mod place;
 mod put_table;
+mod selection;
 mod status;
 mod tables;
 mod take;

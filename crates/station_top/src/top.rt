@@ -8,14 +8,14 @@ ghost use Rattle.wire_io.specs.Writes.{Writes};
 ghost use Rattle.station_doors.specs.Doors.{one_more};
 ghost use Rattle.station_top.specs.Ledger.{RepliesBy};
 ghost use Rattle.station_top.specs.Status.{status_of};
-ghost use Rattle.station_top.specs.Station.{Answers, Concludes, FromYard, IsCause, IsTaken};
+ghost use Rattle.station_top.specs.Station.{Answers, Concludes, FromYard, IsCause, IsReply};
 
 use crate::Status;
 use crate::counts::Counts;
 use crate::ledger::Ledger;
 use crate::tables::Tables;
 use crate::take::{Taken, take_input};
-use crate::words::{Command, read_words};
+use crate::words::{Command, WordsFault, read_words};
 use bmp_specs::Cause;
 use core::mem::replace_with;
 use reply_text::put_stop;
@@ -52,11 +52,16 @@ fn take_from<Y: Yard, L: Ledger>(
 }
 
 // Writes the reply and then the stop line.
-fn put_all<L: Ledger, O: Sink>(out: &mut O, ledger: &L, taken: Taken) -> Result<(), Failed>
-    ensures writes { Writes O.faults O.told O.aside out.old (L.text taken.revision ledger.now ++ stop_line taken.cause) result out.new }
-    ensures reply { RepliesBy (L.stands ledger.now) L.replies taken.revision (L.text taken.revision ledger.now) }
+fn put_all<L: Ledger, O: Sink>(
+    out: &mut O,
+    ledger: &L,
+    ask: &L::Ask,
+    taken: Taken,
+) -> Result<(), Failed>
+    ensures writes { Writes O.faults O.told O.aside out.old (L.text ask.now taken.revision ledger.now ++ stop_line taken.cause) result out.new }
+    ensures reply { RepliesBy (L.stands ledger.now) (L.replies ask.now) taken.revision (L.text ask.now taken.revision ledger.now) }
 {
-    ledger.put_reply(out, taken.revision)?;
+    ledger.put_reply(out, ask, taken.revision)?;
     put_stop(out, &taken.cause)
 }
 
@@ -64,31 +69,42 @@ fn put_all<L: Ledger, O: Sink>(out: &mut O, ledger: &L, taken: Taken) -> Result<
 fn put_and_flush<L: Ledger, O: Sink>(
     buffer: &mut BufferedSink<O>,
     ledger: &L,
+    ask: &L::Ask,
     taken: Taken,
 ) -> Result<(), Failed>
     ensures empty { OnOk result (buffer.new.held ≡ []) }
-    ensures writes { Writes (λ p. O.faults p.below) (λ p. append_known (O.told p.below) p.held) (λ p. laid_over (O.told p.first) (O.aside p.below)) buffer.old (L.text taken.revision ledger.now ++ stop_line taken.cause) result buffer.new }
-    ensures reply { RepliesBy (L.stands ledger.now) L.replies taken.revision (L.text taken.revision ledger.now) }
+    ensures writes { Writes (λ p. O.faults p.below) (λ p. append_known (O.told p.below) p.held) (λ p. laid_over (O.told p.first) (O.aside p.below)) buffer.old (L.text ask.now taken.revision ledger.now ++ stop_line taken.cause) result buffer.new }
+    ensures reply { RepliesBy (L.stands ledger.now) (L.replies ask.now) taken.revision (L.text ask.now taken.revision ledger.now) }
 {
-    put_all(buffer, ledger, taken)?;
+    put_all(buffer, ledger, ask, taken)?;
     buffer.flush()
 }
 
-fn write_to<L: Ledger, O: Sink>(out: O, ledger: &L, taken: Taken) -> (O, Result<(), Failed>)
-    ensures writes { Writes O.faults O.told O.aside out (L.text taken.revision ledger.now ++ stop_line taken.cause) result.1 result.0 }
-    ensures reply { RepliesBy (L.stands ledger.now) L.replies taken.revision (L.text taken.revision ledger.now) }
+fn write_to<L: Ledger, O: Sink>(
+    out: O,
+    ledger: &L,
+    ask: &L::Ask,
+    taken: Taken,
+) -> (O, Result<(), Failed>)
+    ensures writes { Writes O.faults O.told O.aside out (L.text ask.now taken.revision ledger.now ++ stop_line taken.cause) result.1 result.0 }
+    ensures reply { RepliesBy (L.stands ledger.now) (L.replies ask.now) taken.revision (L.text ask.now taken.revision ledger.now) }
 {
     let mut buffer = BufferedSink::new(out);
-    let result = put_and_flush(&mut buffer, ledger, taken);
+    let result = put_and_flush(&mut buffer, ledger, ask, taken);
     (buffer.into_inner(), result)
 }
 
-fn write_reply<L: Ledger, O: Sink>(out: &mut O, ledger: &L, taken: Taken) -> Result<(), Failed>
-    ensures writes { Writes O.faults O.told O.aside out.old (L.text taken.revision ledger.now ++ stop_line taken.cause) result out.new }
-    ensures reply { RepliesBy (L.stands ledger.now) L.replies taken.revision (L.text taken.revision ledger.now) }
+fn write_reply<L: Ledger, O: Sink>(
+    out: &mut O,
+    ledger: &L,
+    ask: &L::Ask,
+    taken: Taken,
+) -> Result<(), Failed>
+    ensures writes { Writes O.faults O.told O.aside out.old (L.text ask.now taken.revision ledger.now ++ stop_line taken.cause) result out.new }
+    ensures reply { RepliesBy (L.stands ledger.now) (L.replies ask.now) taken.revision (L.text ask.now taken.revision ledger.now) }
 {
-    replace_with(out, (ledger, taken), |out, (ledger, taken)| {
-        write_to(out, ledger, taken)
+    replace_with(out, (ledger, ask, taken), |out, (ledger, ask, taken)| {
+        write_to(out, ledger, ask, taken)
     })
 }
 
@@ -114,32 +130,56 @@ fn unless_failed(write: Result<(), Failed>, status: Status) -> Status
     }
 }
 
-// Takes the input into the ledger, and writes its reply and the stop line.
+// Takes the input into the ledger, and writes the reply that is asked for and the stop line.
 fn run<L: Ledger + Drop, Y: Yard, O: Sink>(
     alloc: Global,
     mut ledger: L,
+    ask: &L::Ask,
     yard: &mut Y,
     out: &mut O,
 ) -> Status
     requires { L.stands ledger [] }
-    ensures concludes { Concludes L.replies (Y.told yard.old) (Y.told yard.new) (Y.calls yard.old) (O.told out.old) (O.told out.new) result }
+    ensures concludes { Concludes (L.replies ask.now) (Y.told yard.old) (Y.told yard.new) (Y.calls yard.old) (O.told out.old) (O.told out.new) result }
     ensures calls { Y.calls yard.new ≡ one_more (Y.calls yard.old) }
     ensures out { IsCause (O.faults out.old) (O.faults out.new) result Status.WriteFault }
     ensures yard { IsCause (Y.faults yard.old) (Y.faults yard.new) result Status.YardFault }
     ensures aside { O.aside out.new ≡ O.aside out.old }
 {
     match take_from(alloc, yard, &mut ledger) {
-        Ok(taken) => unless_failed(write_reply(out, &ledger, taken), status_after(taken.cause)),
+        Ok(taken) => unless_failed(
+            write_reply(out, &ledger, ask, taken),
+            status_after(taken.cause),
+        ),
         Err(status) => status,
+    }
+}
+
+// Runs the command.
+fn run_command<Y: Yard, O: Sink>(
+    alloc: Global,
+    command: Command,
+    yard: &mut Y,
+    out: &mut O,
+) -> Status
+    ensures concludes { Concludes (IsReply command) (Y.told yard.old) (Y.told yard.new) (Y.calls yard.old) (O.told out.old) (O.told out.new) result }
+    ensures calls { Y.calls yard.new ≡ one_more (Y.calls yard.old) }
+    ensures out { IsCause (O.faults out.old) (O.faults out.new) result Status.WriteFault }
+    ensures yard { IsCause (Y.faults yard.old) (Y.faults yard.new) result Status.YardFault }
+    ensures aside { O.aside out.new ≡ O.aside out.old }
+{
+    match command {
+        Command::ReplayTable(select) => run(alloc, Tables::new(alloc), &select, yard, out),
+        Command::Check => run(alloc, Counts::new(), &(), yard, out),
     }
 }
 
 /// Runs the command that the words are: takes what it needs from the yard, writes to `out` and tells how it
 /// ended. The words don't hold the program's name.
 ///
-/// `replay table` and `check` take the one input connection of the yard's port 0, up to 2^46 bytes, give the
-/// port back, and then write the reply on what the messages of the stream said and the stop line. The reply
-/// of `replay table` is on the opening and the messages, and not on the closing. Other words are usage.
+/// `replay` with a query `table` and `check` take the one input connection of the yard's port 0, up to 2^46
+/// bytes, give the port back, and then write the reply on what the messages of the stream said and the stop
+/// line. The words after `replay`, joined by single spaces, are the query; its reply has the rows that its
+/// selectors keep, and is on the opening and the messages, and not on the closing. Other words are usage.
 pub fn station<Y: Yard, O: Sink>(
     alloc: Global,
     words: &[String],
@@ -155,9 +195,9 @@ pub fn station<Y: Yard, O: Sink>(
 
     ensures aside { O.aside out.new ≡ O.aside out.old }
 {
-    match read_words(words) {
-        Some(Command::ReplayTable) => run(alloc, Tables::new(alloc), yard, out),
-        Some(Command::Check) => run(alloc, Counts::new(), yard, out),
-        None => unless_failed(write_all(out, USAGE.as_bytes()), Status::Usage),
+    match read_words(alloc, words) {
+        Ok(command) => run_command(alloc, command, yard, out),
+        Err(WordsFault::Usage) => unless_failed(write_all(out, USAGE.as_bytes()), Status::Usage),
+        Err(WordsFault::NoMemory) => Status::NoMemory,
     }
 }

@@ -1,7 +1,8 @@
 use Rattle.std.specs.Prelude.{map}
-use Rattle.station_top.specs.TableText.{row_of, rows_of, lines_of}
+use Rattle.std.specs.List.{filter}
+use Rattle.station_top.specs.TableText.{keeps_row, row_of, rows_of, lines_of}
 use Rattle.station_top.proofs.Telling.{LeadsTo}
 use Rattle.station_top.proofs.put_table.put_rows.Given as goal
 
 abbrev pub invariant-loop-place : goal.invariant-loop-place
-invariant-loop-place g l = LeadsTo g.O.Sink.faults g.O.Sink.told g.O.Sink.aside l.fn.out l.out (lines_of (map (row_of l.key) l.place-iterator)) (lines_of (rows_of (l.key, l.rows)))
+invariant-loop-place g l = LeadsTo g.O.Sink.faults g.O.Sink.told g.O.Sink.aside l.fn.out l.out (lines_of (filter (keeps_row l.select) (map (row_of l.key) l.place-iterator))) (lines_of (filter (keeps_row l.select) (rows_of (l.key, l.rows))))
