@@ -11,37 +11,19 @@ set -euo pipefail
 
 other=${1:?usage: bench/frames.sh OTHER [MESSAGES]}
 messages=${2:-1500000}
-rounds=${ROUNDS:-7}
-top=$(cd "$(dirname "$0")/.." && pwd)
-ours=$top/crates/bench/out/bench
-[ -x "$ours" ] || (cd "$top/crates/bench" && rt run >/dev/null 2>&1)
+rounds=7
+. "$(dirname "$0")/measure.sh"
 
-stream=$(mktemp)
-trap 'rm -f "$stream" "$stream".*' EXIT
-"$other" gen 7 1 "$messages" 0 >"$stream"
-
-# The processor time of a command on the stream, in milliseconds.
-TIMEFORMAT='%U %S'
-spent() {
-    { time "$@" <"$stream" >"$stream.out"; } 2>"$stream.time"
-    awk '{ printf "%d\n", ($1 + $2) * 1000 + 0.5 }' "$stream.time"
-}
-
-least() { sort -n | head -n 1; }
-
-: >"$stream.ours"
-: >"$stream.other"
+input=$work/stream
+"$other" gen 7 1 "$messages" 0 >"$input"
 for _ in $(seq "$rounds"); do
-    spent "$ours" frames >>"$stream.ours"
-    cp "$stream.out" "$stream.said"
-    spent "$other" limit >>"$stream.other"
+    run ours frames
+    spend other "$other" limit
 done
 
 # Both count the same messages and bytes.
-diff <(head -n 10 "$stream.said") <(head -n 10 "$stream.out")
+diff <(head -n 10 "$work/ours.said") <(head -n 10 "$work/other.said")
 
-mine=$(least <"$stream.ours")
-theirs=$(least <"$stream.other")
-echo "bytes $(stat -c %s "$stream")"
-echo "cutter $mine ms, other $theirs ms"
-awk -v a="$mine" -v b="$theirs" 'BEGIN { printf "ratio %.2f\n", a / b }'
+echo "bytes $(stat -c %s "$input")"
+echo "cutter $(least ours) ms, other $(least other) ms"
+awk -v a="$(least ours)" -v b="$(least other)" 'BEGIN { printf "ratio %.2f\n", a / b }'

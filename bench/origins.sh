@@ -10,7 +10,7 @@
 set -euo pipefail
 
 rows=${1:-1000000}
-rounds=${ROUNDS:-7}
+rounds=7
 . "$(dirname "$0")/measure.sh"
 
 for _ in $(seq "$rounds"); do

@@ -12,51 +12,34 @@ set -euo pipefail
 
 other=${1:?usage: bench/replay.sh OTHER [PREFIXES]}
 prefixes=${2:-1000000}
-rounds=${ROUNDS:-5}
-top=$(cd "$(dirname "$0")/.." && pwd)
-ours=$top/crates/bmpstation/out/bmpstation
-[ -x "$ours" ] || { echo "no program at $ours: run 'rt ci bmpstation' first" >&2; exit 1; }
+rounds=5
+program=bmpstation
+. "$(dirname "$0")/measure.sh"
 
-work=$(mktemp -d)
-trap 'rm -rf "$work"' EXIT
-"$other" gen-table "$prefixes" 7 >"$work/stream"
-echo "stream of $(stat -c %s "$work/stream") bytes"
-
-# Milliseconds of processor time and kilobytes of peak memory of a command on the stream.
-spent() {
-    python3 - "$work/stream" "$@" <<'PY'
-import os, resource, subprocess, sys
-with open(sys.argv[1], "rb") as stream, open("/dev/null", "wb") as null:
-    child = subprocess.Popen(sys.argv[2:], stdin=stream, stdout=null)
-    _, status, used = os.wait4(child.pid, 0)
-if status:
-    sys.exit(f"{sys.argv[2:]}: status {status}")
-print(round((used.ru_utime + used.ru_stime) * 1000), used.ru_maxrss)
-PY
-}
+input=$work/stream
+output=/dev/null
+"$other" gen-table "$prefixes" 7 >"$input"
+echo "stream of $(stat -c %s "$input") bytes"
 
 compare() {
-    : >"$work/ours"
-    : >"$work/other"
+    local name=${*// /.}
     for _ in $(seq "$rounds"); do
-        spent "$ours" "$@" >>"$work/ours"
-        spent "$other" "$@" >>"$work/other"
+        run "$name.ours" "$@"
+        spend "$name.other" "$other" "$@"
     done
-    cmp <("$ours" "$@" <"$work/stream") <("$other" "$@" <"$work/stream")
-    read -r mine my_memory < <(sort -n "$work/ours" | head -n 1)
-    read -r theirs their_memory < <(sort -n "$work/other" | head -n 1)
-    awk -v w="$*" -v a="$mine" -v b="$theirs" -v m="$my_memory" -v n="$their_memory" 'BEGIN {
-        printf "%s: %d ms against %d, ratio %.2f; %d KB against %d, ratio %.2f\n", w, a, b, a / b, m, n, m / n }'
+    cmp <("$ours" "$@" <"$input") <("$other" "$@" <"$input")
+    awk -v w="$*" -v a="$(least "$name.ours")" -v b="$(least "$name.other")" -v m="$(peak "$name.ours")" -v n="$(peak "$name.other")" \
+        'BEGIN { printf "%s: %d ms against %d, ratio %.2f; %d KiB against %d, ratio %.2f\n", w, a, b, a / b, m, n, m / n }'
 }
 
 compare check
 compare replay table
 
 # The Initiation and the Peer Up may come again, so the stream follows itself.
-cp "$work/stream" "$work/once"
+cp "$input" "$work/once"
 for times in 1 2 4; do
-    : >"$work/stream"
-    for _ in $(seq "$times"); do cat "$work/once" >>"$work/stream"; done
-    read -r time memory < <(spent "$ours" check)
-    echo "check of the stream $times times over: $time ms, $memory KB"
+    : >"$input"
+    for _ in $(seq "$times"); do cat "$work/once" >>"$input"; done
+    run "check.$times" check
+    echo "check of the stream $times times over: $(least "check.$times") ms, $(peak "check.$times") KiB"
 done

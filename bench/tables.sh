@@ -12,7 +12,7 @@
 set -euo pipefail
 
 prefixes=${1:-1000000}
-rounds=${ROUNDS:-7}
+rounds=7
 . "$(dirname "$0")/measure.sh"
 
 for _ in $(seq "$rounds"); do
