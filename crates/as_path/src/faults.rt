@@ -2,35 +2,7 @@ ghost use Rattle.std.specs.Prelude.{◌≡◌};
 ghost use Rattle.as_path.specs.declared.faults.PathFault.TheVariants.{NoMemory as OutOfMemory};
 
 use std::alloc::{AllocError, AllocFailed};
-
-/// Want of memory.
-#[derive(Clone, Copy, Debug, PartialEq, Eq)]
-pub struct NoMemory;
-
-impl From<AllocError> for NoMemory {
-    fn from(_: AllocError) -> Self {
-        NoMemory
-    }
-}
-
-impl<T: Drop> From<AllocFailed<T>> for NoMemory {
-    fn from(_: AllocFailed<T>) -> Self {
-        NoMemory
-    }
-}
-
-/// An item that found no place.
-#[derive(Debug, Drop)]
-pub enum Unplaced<T> {
-    /// Want of memory. The item is handed back.
-    NoMemory { item: T },
-}
-
-impl<T: Drop> From<Unplaced<T>> for NoMemory {
-    fn from(_: Unplaced<T>) -> Self {
-        NoMemory
-    }
-}
+use wire_io::NoMemory;
 
 /// Why a path was not read.
 #[derive(Clone, Copy, Debug, PartialEq, Eq)]

@@ -19,7 +19,7 @@ mod segment;
 mod tests;
 
 pub use bmp_specs::{SegmentKind, Width};
-pub use faults::{NoMemory, PathFault, Unplaced};
+pub use faults::PathFault;
 pub use numbers::Numbers;
 pub use path::AsPath;
 pub use segment::Segment;

@@ -5,11 +5,11 @@ mod count;
 mod merge;
 mod read;
 
-use crate::faults::{NoMemory, Unplaced};
 use crate::segment::Segment;
 use bmp_specs::SegmentKind;
 use std::alloc::Global;
 use std::marker::Model;
+use wire_io::{NoMemory, Unplaced};
 
 // Appends copies of the segments.
 fn append(segments: &mut Vec<Segment>, more: &[Segment]) -> Result<(), NoMemory>

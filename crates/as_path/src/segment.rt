@@ -1,9 +1,9 @@
 ghost use Rattle.std.specs.Prelude.{◌≡◌, IfOk};
 
-use crate::faults::NoMemory;
 use crate::numbers::Numbers;
 use bmp_specs::SegmentKind;
 use std::marker::Model;
+use wire_io::NoMemory;
 
 /// A path segment (RFC 4271, section 4.3).
 #[derive(Debug, Drop)]

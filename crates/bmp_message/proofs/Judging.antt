@@ -5,19 +5,8 @@ use Rattle.bmp_specs.specs.MessageBody.{HasPeer, IsMessage, IsRouteMonitoring, M
 use Rattle.bmp_specs.specs.MessageEffects.{IsMessageEntry, effects_of}
 use Rattle.bmp_specs.specs.PeerHeader.{HeaderValue, IsHeader, header_size, key_of, view_of}
 use Rattle.bmp_specs.specs.Values.{EffectValue, EntryValue, KeyValue, OpensValue, UpdateValue, message, routes}
-use Rattle.bmp_frames.specs.Cutter.{CutterValue, Gives}
-use Rattle.wire_io.specs.declared.bytes.NoMemory.{NoMemory}
-use Rattle.rib_model.specs.declared.entry.Entry.TheVariants.{Message}
-use Rattle.rib_model.specs.Entries.{entry_value}
 use Rattle.bmp_message.specs.Effects.{HasEffects, MeansNoEntry, MeansNothing, TellsMeaning}
-use Rattle.bmp_message.specs.State.{UpPeers, reading_state}
-use Rattle.bmp_message.specs.Judgement.{progress_of}
-use Rattle.bmp_message.specs.StreamWalk.{WalkValue, HasReached, Advances, next_stage}
-use Rattle.bmp_message.specs.declared.walk.judge.Judgement.{Judgement}
-use Rattle.bmp_message.specs.declared.walk.Stage.{Stage}
-use Rattle.bmp_message.specs.declared.walk.Stage.TheVariants.{Within}
 use Rattle.bmp_message.proofs.Meanings.{known_routes, no_meaning, no_routes, with_key}
-use Rattle.bmp_message.proofs.Reaching.{advances_cut, reached_entry}
 
 -- the routes of a peer that is up
 pub tells_routes : (state : ReadingState) (h : HeaderValue) (key : KeyValue) (rest : List ℕ) (opens : OpensValue) → state key ≡ Some opens → (told : Bool)
@@ -53,20 +42,3 @@ pub routes_no_entry : (state : ReadingState) (kind : ℕ) (body : List ℕ) (tol
 routes_no_entry state kind body told is tells off =
     let here : TellsMeaning (IsMessage state 0 body) state false = subst (λ (b : Bool). TellsMeaning (HasPeer route_monitoring state body) state b) off tells in
     subst (λ (k : ℕ). MeansNoEntry (IsMessageEntry state k body)) (sym is) (no_entry state 0 body here)
-
--- the run goes on with an entry of the type and the length of the message that was cut
-pub judged_entry : (old : WalkValue) (fed : List ℕ) (given : List EntryValue) (r : HasReached fed given old) (kind : ℕ) (peers : UpPeers) (offset : ℕ) (at_last : Stage) (len : ℕ) (body : List ℕ) → old.stage ≡ Within kind
-    → body ≡ old.cutter.body → (e : EntryValue) × IsMessageEntry (reading_state old.peers) kind body e (reading_state peers) → len ≡ 6 + length body → offset ≡ old.cutter.offset → at_last ≡ next_stage kind
-    → (effects : List EffectValue) × HasReached fed (given ++ entry_value (Message kind len effects) ∷ []) (record { peers = peers; cutter = old.cutter; offset = offset; stage = at_last })
-judged_entry old fed given r kind peers offset at_last len body at cut (e, is) long place behind =
-    let effects : List EffectValue = effects_of is.value in
-    let same : e ≡ message kind len effects = is.entry_is ∙ ap (λ (n : ℕ). message kind n effects) (sym long) in
-    let means = subst (λ (b : List ℕ). IsMessageEntry (reading_state old.peers) kind b e (reading_state peers)) cut is in
-    let on = reached_entry old fed given r kind peers offset at_last e at means place behind in
-    (effects, subst (λ (x : EntryValue). HasReached fed (given ++ x ∷ []) (record { peers = peers; cutter = old.cutter; offset = offset; stage = at_last })) same on)
-
--- a message was cut, and then the walk moved
-pub judged_advance : (old new : WalkValue) (cutter : CutterValue) (kind size : ℕ) (r : Result Judgement NoMemory) → size ≤ length old.cutter.pending → Gives old.cutter cutter size
-    → IfOk r (λ judged. Advances (record old { cutter = cutter; stage = Within kind }) new (progress_of [] judged)) → IfOk r (λ judged. Advances old new (progress_of [] judged))
-judged_advance old new cutter kind size (Ok judged) here gives moved = advances_cut old new cutter kind size (Ok (progress_of [] judged)) here gives moved
-judged_advance old new cutter kind size (Err fault) here gives moved = tt

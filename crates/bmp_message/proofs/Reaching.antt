@@ -129,9 +129,9 @@ fed_cut : (old new : CutterValue) (size : ℕ) → size ≤ length old.pending �
 fed_cut old new size here gives = omega (arith, here, gives.offset, ap length gives.split, length-append (take size old.pending) new.pending, length-take size old.pending)
 
 -- a message was cut, and then the walk moved
-pub advances_cut : (old new : WalkValue) (cutter : CutterValue) (kind size : ℕ) (r : Result Progress NoMemory) → size ≤ length old.cutter.pending → Gives old.cutter cutter size
+pub advances_cut : {T : Type 0} (old new : WalkValue) (cutter : CutterValue) (kind size : ℕ) (r : Result (Progress T) NoMemory) → size ≤ length old.cutter.pending → Gives old.cutter cutter size
     → IfOk r (Advances (record old { cutter = cutter; stage = Within kind }) new) → IfOk r (Advances old new)
-advances_cut old new cutter kind size (Ok (progress.Entry e)) here gives (fed, rest) = let same = fed_cut old.cutter cutter size here gives in (fed ∙ same, omega (arith, rest, same))
+advances_cut old new cutter kind size (Ok (progress.Message e)) here gives (fed, rest) = let same = fed_cut old.cutter cutter size here gives in (fed ∙ same, omega (arith, rest, same))
 advances_cut old new cutter kind size (Ok progress.More) here gives (same, at) = absurd (cc)
 advances_cut old new cutter kind size (Ok progress.Terminated) here gives (same, at) = absurd (cc)
 advances_cut old new cutter kind size (Ok (progress.Broken why)) here gives (fed, place, at) = (fed ∙ fed_cut old.cutter cutter size here gives, place, at)

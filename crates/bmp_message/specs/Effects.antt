@@ -1,8 +1,8 @@
 -- The effects of the message that a body means.
-use Rattle.std.specs.Prelude.{◌≡◌, Bool, MatchBool, List, []}
+use Rattle.std.specs.Prelude.{◌≡◌, Bool, MatchBool, List}
 use Rattle.bmp_specs.specs.MessageBody.{MessageType, ReadingState, peer_down_notification, peer_up_notification, route_mirroring, route_monitoring, statistics_report}
 use Rattle.bmp_specs.specs.MessageEffects.{effects_of}
-use Rattle.bmp_specs.specs.Values.{EffectValue, EntryValue, MessageValue, opened, message, closed}
+use Rattle.bmp_specs.specs.Values.{EffectValue, EntryValue, MessageValue}
 use Rattle.bmp_message.specs.declared.reading.PeerMessage.{PeerMessage}
 use Rattle.bmp_message.specs.declared.reading.PeerMessage.TheVariants.{RouteMonitoring, StatisticsReport, PeerDown, PeerUp, RouteMirroring}
 
@@ -31,9 +31,3 @@ TellsMeaning Means next told = MatchBool told ((effects : List EffectValue) × H
 -- no message is meant that has an entry
 abbrev pub MeansNoEntry : (EntryValue → ReadingState → Type 0) → Type 0
 MeansNoEntry Means = (e : EntryValue) (next : ReadingState) → Means e next → ⊥
-
--- the effects in an entry
-abbrev pub effects_in : EntryValue → List EffectValue
-effects_in opened = []
-effects_in (message kind length effects) = effects
-effects_in (closed cause) = []

@@ -2,4 +2,3 @@ pub mod State
 pub mod Effects
 pub mod Faults
 pub mod StreamWalk
-pub mod Judgement

@@ -1,12 +1,12 @@
 -- The walk of a stream (RFC 7854, section 4.1) that comes in pieces: what any run of its calls gives.
 use Rattle.std.specs.Prelude.{◌≡◌, ℕ, ◌+◌, ◌-◌, ◌<◌, ◌≤◌, ◌==◌, List, [], ◌∷◌, ◌++◌, length, Result, Ok, if◌then◌else◌}
 use Rattle.bmp_specs.specs.Frame.{IsFrame}
-use Rattle.bmp_specs.specs.MessageBody.{ReadingState, no_peers}
-use Rattle.bmp_specs.specs.MessageEffects.{IsMessageEntry}
+use Rattle.bmp_specs.specs.Meaning.{WalksBy}
+use Rattle.bmp_specs.specs.MessageBody.{ReadingState}
+use Rattle.bmp_specs.specs.MessageEffects.{strict}
 use Rattle.bmp_specs.specs.Values.{EntryValue}
-use Rattle.bmp_specs.specs.Walk.{Verdict, whole, more, terminated, broken, Walks, HasWalked, termination}
+use Rattle.bmp_specs.specs.Walk.{Verdict, whole, more, terminated, broken, HasWalked, termination}
 use Rattle.bmp_frames.specs.Cutter.{CutterValue}
-use Rattle.rib_model.specs.Entries.{entry_value}
 use Rattle.wire_io.specs.declared.bytes.NoMemory.{NoMemory}
 use Rattle.bmp_message.specs.State.{UpPeers, reading_state}
 use Rattle.bmp_message.specs.declared.walk.Progress.{Progress}
@@ -35,7 +35,7 @@ pub record HasRead (fed : List ℕ) (given : List EntryValue) (state : ReadingSt
   pub front : List ℕ
   pub split : fed ≡ front ++ rest
   pub place : offset ≡ length front
-  pub walked : HasWalked IsMessageEntry no_peers state front given
+  pub walked : HasWalked strict.Means strict.start state front given
 
 -- a message of this type stands behind what was read, and then what is pending
 pub record HasCutNext (fed : List ℕ) (given : List EntryValue) (w : WalkValue) (kind : ℕ) : Type 0 where
@@ -45,7 +45,7 @@ pub record HasCutNext (fed : List ℕ) (given : List EntryValue) (w : WalkValue)
 
 -- The walk of the bytes, whatever comes after them, gives these entries and ends so.
 abbrev pub EndsAt : List ℕ → List EntryValue → ℕ → Verdict → Type 0
-EndsAt fed given offset verdict = (after : List ℕ) → Walks IsMessageEntry no_peers (fed ++ after) given offset verdict
+EndsAt fed given offset verdict = (after : List ℕ) → WalksBy strict (fed ++ after) given offset verdict
 
 abbrev pub Stands : List ℕ → List EntryValue → WalkValue → Stage → Type 0
 Stands fed given w stage.Between = HasRead fed given (reading_state w.peers) w.cutter.pending w.offset
@@ -62,23 +62,23 @@ pub record HasReached (fed : List ℕ) (given : List EntryValue) (w : WalkValue)
 abbrev pub verdict_with : ℕ → Verdict
 verdict_with rest = if rest == 0 then whole else more
 
--- The run goes on with this answer: one more entry was given; or the walk of the bytes, if nothing more comes, gives the
+-- The run goes on with this answer: one more message was given; or the walk of the bytes, if nothing more comes, gives the
 -- entries given; or the walk ends here, whatever comes.
-abbrev pub GoesOn : List ℕ → List EntryValue → WalkValue → Progress → Type 0
-GoesOn fed given new (progress.Entry entry) = HasReached fed (given ++ entry_value entry ∷ []) new
-GoesOn fed given new progress.More = HasReached fed given new × Walks IsMessageEntry no_peers fed given new.offset (verdict_with (rest_of new))
-GoesOn fed given new progress.Terminated = HasReached fed given new × EndsAt fed given new.offset terminated
-GoesOn fed given new (progress.Broken why) = HasReached fed given new × EndsAt fed given new.offset (broken why)
+abbrev pub GoesOn : {T : Type 0} → (T → EntryValue → Type 0) → List ℕ → List EntryValue → WalkValue → Progress T → Type 0
+GoesOn IsOf fed given new (progress.Message item) = (entry : EntryValue) × IsOf item entry × HasReached fed (given ++ entry ∷ []) new
+GoesOn IsOf fed given new progress.More = HasReached fed given new × WalksBy strict fed given new.offset (verdict_with (rest_of new))
+GoesOn IsOf fed given new progress.Terminated = HasReached fed given new × EndsAt fed given new.offset terminated
+GoesOn IsOf fed given new (progress.Broken why) = HasReached fed given new × EndsAt fed given new.offset (broken why)
 
 -- how a walk moves; the bytes fed stay in each case
-abbrev pub Advances : WalkValue → WalkValue → Progress → Type 0
-Advances old new (progress.Entry entry) = (fed_of new ≡ fed_of old) × (rest_of new < rest_of old)
+abbrev pub Advances : {T : Type 0} → WalkValue → WalkValue → Progress T → Type 0
+Advances old new (progress.Message item) = (fed_of new ≡ fed_of old) × (rest_of new < rest_of old)
 Advances old new progress.More = (new ≡ old) × (old.stage ≡ stage.Between)
 Advances old new progress.Terminated = (new ≡ old) × (old.stage ≡ stage.Terminated)
 Advances old new (progress.Broken why) = (fed_of new ≡ fed_of old) × (new.offset ≡ old.offset) × (new.stage ≡ stage.Broken why)
 
 -- after an end each call tells it again, and nothing moves
-abbrev pub Repeats : Stage → WalkValue → WalkValue → Result Progress NoMemory → Type 0
+abbrev pub Repeats : {T : Type 0} → Stage → WalkValue → WalkValue → Result (Progress T) NoMemory → Type 0
 Repeats stage.Between old new result = Unit {0}
 Repeats (stage.Within kind) old new result = Unit {0}
 Repeats stage.Terminated old new result = (result ≡ Ok progress.Terminated) × (new ≡ old)

@@ -1,8 +1,8 @@
 ghost use Rattle.std.specs.Prelude.{◌≡◌, ◌≤◌, [], ◌∷◌, ◌++◌, map, OnOk, IfOk};
 ghost use Rattle.std.specs.Arc.{arc_value};
 ghost use Rattle.std.specs.Option.{option_copied};
-ghost use Rattle.rib_model.specs.Effects.{effect_value};
-ghost use Rattle.bmp_specs.specs.MessageEffects.{effect_of, unread_parts as parts};
+ghost use Rattle.rib_model.specs.Effects.{effect_value, effect_values};
+ghost use Rattle.bmp_specs.specs.MessageEffects.{effect_of, unread_effect};
 ghost use Rattle.bmp_specs.specs.Values.{announce, mark, statistic, withdraw};
 
 use bmp_frames::PeerKey;
@@ -17,7 +17,7 @@ use wire_tables::Stat;
 
 // The list of one effect.
 pub(crate) fn only(alloc: Global, effect: Effect) -> Result<EffectList, NoMemory>
-    ensures { IfOk result (λ effects. effects ≡ effect_value effect ∷ []) }
+    ensures { IfOk result (λ effects. effect_values effects ≡ effect_value effect ∷ []) }
 {
     let mut effects = EffectList::with_capacity(alloc, 1)?;
     effects.push(effect)?;
@@ -33,7 +33,7 @@ pub(crate) fn one_if(there: bool) -> usize
 
 // Appends the effect of the parts that were passed over, where there are any.
 pub(crate) fn add_unread(effects: &mut EffectList, unread: u32) -> Result<(), NoMemory>
-    ensures { OnOk result (effects.new ≡ effects.old ++ parts unread) }
+    ensures { OnOk result (effect_values effects.new ≡ effect_values effects.old ++ unread_effect unread) }
 {
     if unread == 0 {
         return Ok(());
@@ -49,7 +49,7 @@ pub(crate) fn add_withdrawals(
     view: View,
     prefixes: &[Nlri],
 ) -> Result<(), NoMemory>
-    ensures { OnOk result (effects.new ≡ effects.old ++ map (λ n. withdraw key.now view n) prefixes.now) }
+    ensures { OnOk result (effect_values effects.new ≡ effect_values effects.old ++ map (λ n. withdraw key.now view n) prefixes.now) }
 {
     for nlri in prefixes {
         effects.push(Effect::Withdraw {
@@ -69,7 +69,7 @@ pub(crate) fn add_announcements(
     prefixes: &[Nlri],
     attrs: &Arc<Attrs>,
 ) -> Result<(), NoMemory>
-    ensures { OnOk result (effects.new ≡ effects.old ++ map (λ n. announce key.now view n (arc_value attrs.now)) prefixes.now) }
+    ensures { OnOk result (effect_values effects.new ≡ effect_values effects.old ++ map (λ n. announce key.now view n (arc_value attrs.now)) prefixes.now) }
 {
     for nlri in prefixes {
         let route = Arc::try_clone(attrs)?;
@@ -90,7 +90,7 @@ pub(crate) fn add_mark(
     view: View,
     family: Option<Family>,
 ) -> Result<(), NoMemory>
-    ensures { OnOk result (effects.new ≡ effects.old ++ effect_of (λ f. mark key.now view f) family) }
+    ensures { OnOk result (effect_values effects.new ≡ effect_values effects.old ++ effect_of (λ f. mark key.now view f) family) }
 {
     if let Some(family) = family {
         effects.push(Effect::Mark {
@@ -108,7 +108,7 @@ pub(crate) fn add_statistics(
     key: &PeerKey,
     stats: &[Stat],
 ) -> Result<(), NoMemory>
-    ensures { OnOk result (effects.new ≡ effects.old ++ map (λ s. statistic key.now s) stats.now) }
+    ensures { OnOk result (effect_values effects.new ≡ effect_values effects.old ++ map (λ s. statistic key.now s) stats.now) }
 {
     for stat in stats {
         effects.push(Effect::Statistic {

@@ -1,13 +1,14 @@
 ghost use Rattle.std.specs.Prelude.{◌≡◌, ◌≤◌, ℕ, [], ◌∷◌, ◌++◌, length, IfOk, OnOk, IsErrOf};
 ghost use Rattle.std.specs.Arc.{arc_value};
 ghost use Rattle.bmp_specs.specs.Initiation.{IsInitiation};
-ghost use Rattle.bmp_specs.specs.MessageEffects.{effect_of, effects_of, unread_parts};
+ghost use Rattle.bmp_specs.specs.MessageEffects.{effect_of, effects_of, unread_effect};
 ghost use Rattle.bmp_specs.specs.Mirroring.{IsMirroring};
 ghost use Rattle.bmp_specs.specs.PeerDownNotification.{IsPeerDown};
 ghost use Rattle.bmp_specs.specs.Statistics.{IsStatistics};
 ghost use Rattle.bmp_specs.specs.Termination.{IsTermination};
 ghost use Rattle.bmp_specs.specs.Values.{DownInfoValue, InitiationValue, StatisticsValue, initiation as told, termination as ended, peer_down as went_down, statistics as counted, mirrored_routes, named, described, up};
 ghost use Rattle.peer_events.specs.Body.{most_body};
+ghost use Rattle.rib_model.specs.Effects.{effect_values};
 
 use crate::effects::{add_statistics, add_unread, one_if, only};
 use crate::fault::EntryFault;
@@ -23,7 +24,7 @@ use wire_io::{ByteList, NoMemory};
 
 // Appends the sysName, where there is one.
 fn add_name(effects: &mut EffectList, name: Option<ByteList>) -> Result<(), NoMemory>
-    ensures { OnOk result (effects.new ≡ effects.old ++ effect_of named name) }
+    ensures { OnOk result (effect_values effects.new ≡ effect_values effects.old ++ effect_of named name) }
 {
     if let Some(name) = name {
         effects.push(Effect::Name(name))?;
@@ -33,7 +34,7 @@ fn add_name(effects: &mut EffectList, name: Option<ByteList>) -> Result<(), NoMe
 
 // Appends the sysDescr, where there is one.
 fn add_description(effects: &mut EffectList, descr: Option<ByteList>) -> Result<(), NoMemory>
-    ensures { OnOk result (effects.new ≡ effects.old ++ effect_of described descr) }
+    ensures { OnOk result (effect_values effects.new ≡ effect_values effects.old ++ effect_of described descr) }
 {
     if let Some(descr) = descr {
         effects.push(Effect::Descr(descr))?;
@@ -44,7 +45,7 @@ fn add_description(effects: &mut EffectList, descr: Option<ByteList>) -> Result<
 // The effects of an Initiation Message (RFC 7854, section 4.3).
 pub(crate) fn initiation(alloc: Global, body: &[u8]) -> Result<EffectList, EntryFault>
     requires { length body.now ≤ most_body }
-    ensures ok { IfOk result (λ effects. (i : InitiationValue) × IsInitiation body.now i × (effects ≡ effects_of (told i))) }
+    ensures ok { IfOk result (λ effects. (i : InitiationValue) × IsInitiation body.now i × (effect_values effects ≡ effects_of (told i))) }
     ensures broken { IsErrOf result EntryFault.Broken → (i : InitiationValue) → IsInitiation body.now i → ⊥ }
 {
     let Initiation {
@@ -63,7 +64,7 @@ pub(crate) fn initiation(alloc: Global, body: &[u8]) -> Result<EffectList, Entry
 // The effects of a Termination Message (RFC 7854, section 4.5).
 pub(crate) fn termination(alloc: Global, body: &[u8]) -> Result<EffectList, EntryFault>
     requires { length body.now ≤ most_body }
-    ensures ok { IfOk result (λ effects. IsTermination body.now × (effects ≡ effects_of ended)) }
+    ensures ok { IfOk result (λ effects. IsTermination body.now × (effect_values effects ≡ effects_of ended)) }
     ensures broken { IsErrOf result EntryFault.Broken → IsTermination body.now → ⊥ }
 {
     if !read_termination(body) {
@@ -75,7 +76,7 @@ pub(crate) fn termination(alloc: Global, body: &[u8]) -> Result<EffectList, Entr
 // The effects of a Peer Down Notification (RFC 7854, section 4.9).
 pub(crate) fn peer_down(alloc: Global, key: &PeerKey, rest: &[u8]) -> Result<EffectList, EntryFault>
     requires { length rest.now ≤ most_body }
-    ensures ok { IfOk result (λ effects. (d : DownInfoValue) × IsPeerDown rest.now d × (effects ≡ effects_of (went_down key.now d))) }
+    ensures ok { IfOk result (λ effects. (d : DownInfoValue) × IsPeerDown rest.now d × (effect_values effects ≡ effects_of (went_down key.now d))) }
     ensures broken { IsErrOf result EntryFault.Broken → (d : DownInfoValue) → IsPeerDown rest.now d → ⊥ }
 {
     let Some(info) = read_peer_down(rest) else {
@@ -92,7 +93,7 @@ pub(crate) fn peer_up(
     info: &Arc<PeerInfo>,
     unread: u32,
 ) -> Result<EffectList, NoMemory>
-    ensures { IfOk result (λ effects. effects ≡ up key.now (arc_value info.now) ∷ unread_parts unread) }
+    ensures { IfOk result (λ effects. effect_values effects ≡ up key.now (arc_value info.now) ∷ unread_effect unread) }
 {
     let mut effects = EffectList::with_capacity(alloc, 1 + one_if(unread > 0))?;
     let info = Arc::try_clone(info)?;
@@ -108,7 +109,7 @@ pub(crate) fn statistics(
     rest: &[u8],
 ) -> Result<EffectList, EntryFault>
     requires { length rest.now ≤ most_body }
-    ensures ok { IfOk result (λ effects. (s : StatisticsValue) × IsStatistics rest.now s × (effects ≡ effects_of (counted key.now s))) }
+    ensures ok { IfOk result (λ effects. (s : StatisticsValue) × IsStatistics rest.now s × (effect_values effects ≡ effects_of (counted key.now s))) }
     ensures broken { IsErrOf result EntryFault.Broken → (s : StatisticsValue) → IsStatistics rest.now s → ⊥ }
 {
     let report = read_statistics(alloc, rest)?;
@@ -123,7 +124,7 @@ pub(crate) fn statistics(
 // The effects of a Route Mirroring message (RFC 7854, section 4.7).
 pub(crate) fn mirroring(alloc: Global, rest: &[u8]) -> Result<EffectList, EntryFault>
     requires { length rest.now ≤ most_body }
-    ensures ok { IfOk result (λ effects. (n : ℕ) × IsMirroring rest.now n × (effects ≡ effects_of (mirrored_routes n))) }
+    ensures ok { IfOk result (λ effects. (n : ℕ) × IsMirroring rest.now n × (effect_values effects ≡ effects_of (mirrored_routes n))) }
     ensures broken { IsErrOf result EntryFault.Broken → (n : ℕ) → IsMirroring rest.now n → ⊥ }
 {
     let Some(unread) = read_mirroring(rest) else {

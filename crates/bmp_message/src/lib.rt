@@ -10,7 +10,7 @@
 //! up, and leaves those that are up after it. It answers `EntryFault::Broken` only where the body is in
 //! no grammar, and a refusal leaves the peers as they were. The entries, the offset and the end that a
 //! `StreamWalk` gives are those of the one walk of the bytes fed. `Reading::judge` and
-//! `StreamWalk::judge_next` move alike and give no effects, for who wants types and lengths alone; of an
+//! `Judgements` move alike and give no effects, for who wants types and lengths alone; of an
 //! UPDATE they make nothing.
 //! Begin with `specs/MessageBody.antt` and `specs/MessageEffects.antt` of `bmp_specs`, then
 //! `src/reading.rt` and `src/walk.rt`; `src/routes.rt` and `src/events.rt` read what stands behind the
@@ -26,7 +26,7 @@ mod walk;
 
 pub use fault::EntryFault;
 pub use reading::Reading;
-pub use walk::{Judgement, Progress, StreamWalk};
+pub use walk::{Entries, Judged, Judgements, Progress, Reads, StreamWalk};
 
 #[cfg(test)]
 mod tests;

@@ -3,10 +3,12 @@ ghost use Rattle.std.specs.List.{All};
 ghost use Rattle.bmp_specs.specs.MessageBody.{HasPeer, IsMessage, OfPeer, no_peers, peer_down_notification, peer_up_notification, route_monitoring, statistics_report};
 ghost use Rattle.bmp_specs.specs.MessageEffects.{HasViewOfKey, IsMessageEntry};
 ghost use Rattle.bmp_specs.specs.PeerHeader.{HeaderValue};
+ghost use Rattle.bmp_specs.specs.Session.{effects_in};
 ghost use Rattle.bmp_message.specs.State.{reading_state};
-ghost use Rattle.bmp_message.specs.Effects.{HasEffects, MeansNoEntry, MeansNothing, effects_in, message_type_of};
+ghost use Rattle.bmp_message.specs.Effects.{HasEffects, MeansNoEntry, MeansNothing, message_type_of};
 ghost use Rattle.peer_events.specs.Body.{most_body};
 ghost use Rattle.rib_model.specs.Entries.{entry_value};
+ghost use Rattle.rib_model.specs.Effects.{effect_values};
 
 mod judge;
 
@@ -94,7 +96,7 @@ impl Reading {
         rest: &[u8],
     ) -> Result<EffectList, EntryFault>
         requires { length rest.now ≤ most_body }
-        ensures ok { IfOk result (λ effects. HasEffects (OfPeer route_monitoring (reading_state self.now) head.now key.now rest.now) effects (reading_state self.now)) }
+        ensures ok { IfOk result (λ effects. HasEffects (OfPeer route_monitoring (reading_state self.now) head.now key.now rest.now) (effect_values effects) (reading_state self.now)) }
         ensures broken { IsErrOf result EntryFault.Broken → MeansNothing (OfPeer route_monitoring (reading_state self.now) head.now key.now rest.now) }
     {
         match self.peers.get(key) {
@@ -106,7 +108,7 @@ impl Reading {
     // A Statistics Report (RFC 7854, section 4.8). Where the peer isn't up nothing of it is read.
     fn statistics(&self, key: &PeerKey, rest: &[u8]) -> Result<EffectList, EntryFault>
         requires { length rest.now ≤ most_body }
-        ensures ok { (h : HeaderValue) → IfOk result (λ effects. HasEffects (OfPeer statistics_report (reading_state self.now) h key.now rest.now) effects (reading_state self.now)) }
+        ensures ok { (h : HeaderValue) → IfOk result (λ effects. HasEffects (OfPeer statistics_report (reading_state self.now) h key.now rest.now) (effect_values effects) (reading_state self.now)) }
         ensures broken { (h : HeaderValue) → IsErrOf result EntryFault.Broken → MeansNothing (OfPeer statistics_report (reading_state self.now) h key.now rest.now) }
     {
         if !self.is_up(key) {
@@ -118,7 +120,7 @@ impl Reading {
     // A Peer Down Notification (RFC 7854, section 4.9), after which the peer isn't up.
     fn peer_down(&mut self, key: &PeerKey, rest: &[u8]) -> Result<EffectList, EntryFault>
         requires { length rest.now ≤ most_body }
-        ensures ok { (h : HeaderValue) → IfOk result (λ effects. HasEffects (OfPeer peer_down_notification (reading_state self.old) h key.now rest.now) effects (reading_state self.new)) }
+        ensures ok { (h : HeaderValue) → IfOk result (λ effects. HasEffects (OfPeer peer_down_notification (reading_state self.old) h key.now rest.now) (effect_values effects) (reading_state self.new)) }
         ensures broken { (h : HeaderValue) → IsErrOf result EntryFault.Broken → MeansNothing (OfPeer peer_down_notification (reading_state self.old) h key.now rest.now) }
         ensures unchanged { OnErr result (self.new ≡ self.old) }
     {
@@ -135,7 +137,7 @@ impl Reading {
         rest: &[u8],
     ) -> Result<EffectList, EntryFault>
         requires { length rest.now ≤ most_body }
-        ensures ok { IfOk result (λ effects. HasEffects (OfPeer peer_up_notification (reading_state self.old) head.now key.now rest.now) effects (reading_state self.new)) }
+        ensures ok { IfOk result (λ effects. HasEffects (OfPeer peer_up_notification (reading_state self.old) head.now key.now rest.now) (effect_values effects) (reading_state self.new)) }
         ensures broken { IsErrOf result EntryFault.Broken → MeansNothing (OfPeer peer_up_notification (reading_state self.old) head.now key.now rest.now) }
         ensures unchanged { OnErr result (self.new ≡ self.old) }
     {
@@ -155,7 +157,7 @@ impl Reading {
         rest: &[u8],
     ) -> Result<EffectList, EntryFault>
         requires { length rest.now ≤ most_body }
-        ensures ok { IfOk result (λ effects. HasEffects (OfPeer (message_type_of kind) (reading_state self.old) head.now key.now rest.now) effects (reading_state self.new)) }
+        ensures ok { IfOk result (λ effects. HasEffects (OfPeer (message_type_of kind) (reading_state self.old) head.now key.now rest.now) (effect_values effects) (reading_state self.new)) }
         ensures broken { IsErrOf result EntryFault.Broken → MeansNothing (OfPeer (message_type_of kind) (reading_state self.old) head.now key.now rest.now) }
         ensures unchanged { OnErr result (self.new ≡ self.old) }
     {
@@ -172,7 +174,7 @@ impl Reading {
     // else is read.
     fn with_header(&mut self, kind: PeerMessage, body: &[u8]) -> Result<EffectList, EntryFault>
         requires { length body.now ≤ most_body }
-        ensures ok { IfOk result (λ effects. HasEffects (HasPeer (message_type_of kind) (reading_state self.old) body.now) effects (reading_state self.new)) }
+        ensures ok { IfOk result (λ effects. HasEffects (HasPeer (message_type_of kind) (reading_state self.old) body.now) (effect_values effects) (reading_state self.new)) }
         ensures broken { IsErrOf result EntryFault.Broken → MeansNothing (HasPeer (message_type_of kind) (reading_state self.old) body.now) }
         ensures unchanged { OnErr result (self.new ≡ self.old) }
     {
@@ -189,7 +191,7 @@ impl Reading {
     // What a message of this type does.
     fn effects(&mut self, kind: u8, body: &[u8]) -> Result<EffectList, EntryFault>
         requires { length body.now ≤ most_body }
-        ensures ok { IfOk result (λ effects. HasEffects (IsMessage (reading_state self.old) kind body.now) effects (reading_state self.new)) }
+        ensures ok { IfOk result (λ effects. HasEffects (IsMessage (reading_state self.old) kind body.now) (effect_values effects) (reading_state self.new)) }
         ensures broken { IsErrOf result EntryFault.Broken → MeansNothing (IsMessage (reading_state self.old) kind body.now) }
         ensures unchanged { OnErr result (self.new ≡ self.old) }
     {

@@ -5,6 +5,7 @@ ghost use Rattle.bmp_specs.specs.MessageEffects.{effects_of};
 ghost use Rattle.bmp_specs.specs.PeerHeader.{view_of};
 ghost use Rattle.bmp_specs.specs.Values.{UpdateValue, routes};
 ghost use Rattle.bmp_message.specs.State.{opens_of};
+ghost use Rattle.rib_model.specs.Effects.{effect_values};
 
 use crate::effects::{add_announcements, add_mark, add_unread, add_withdrawals, one_if};
 use crate::fault::EntryFault;
@@ -122,7 +123,7 @@ fn effects_of_update(
     view: View,
     update: &Update,
 ) -> Result<EffectList, NoMemory>
-    ensures { IfOk result (λ effects. effects ≡ effects_of (routes key.now view update.now)) }
+    ensures { IfOk result (λ effects. effect_values effects ≡ effects_of (routes key.now view update.now)) }
 {
     let mut effects = EffectList::with_capacity(alloc, count(update))?;
     add_withdrawals(&mut effects, key, view, update.withdrawn.as_slice())?;
@@ -153,7 +154,7 @@ pub(crate) fn route_monitoring(
     key: &PeerKey,
     rest: &[u8],
 ) -> Result<EffectList, EntryFault>
-    ensures ok { IfOk result (λ effects. (u : UpdateValue) × IsRouteMonitoring (opens_of peer.now) head.now rest.now u × (effects ≡ effects_of (routes key.now (view_of head.now) u))) }
+    ensures ok { IfOk result (λ effects. (u : UpdateValue) × IsRouteMonitoring (opens_of peer.now) head.now rest.now u × (effect_values effects ≡ effects_of (routes key.now (view_of head.now) u))) }
     ensures broken { IsErrOf result EntryFault.Broken → (u : UpdateValue) → IsRouteMonitoring (opens_of peer.now) head.now rest.now u → ⊥ }
 {
     let update = read_routes(alloc, peer, head, rest)?;

@@ -3,13 +3,12 @@ ghost use Rattle.bmp_specs.specs.Values.{EntryValue};
 ghost use Rattle.bmp_frames.specs.Cutter.{with_more};
 ghost use Rattle.bmp_message.specs.StreamWalk.{HasReached, GoesOn, Advances, Repeats, IsAsBefore, fed_of, rest_of, next_stage};
 
-mod judge;
+mod reads;
 
 use crate::{EntryFault, Reading};
 use bmp_frames::{Cutter, Next};
 use bmp_specs::Why;
-pub use judge::Judgement;
-use rib_model::Entry;
+pub use reads::{Entries, Judged, Judgements, Reads};
 use std::alloc::Global;
 use std::marker::Model;
 use wire_io::NoMemory;
@@ -19,9 +18,9 @@ const TERMINATION: u8 = 5;
 
 /// What a walk gives next.
 #[derive(Drop)]
-pub enum Progress {
-    /// The entry of the next message.
-    Entry(Entry),
+pub enum Progress<T> {
+    /// What was made of the next message.
+    Message(T),
     /// No further message is whole yet.
     More,
     /// The last entry was that of a Termination Message (RFC 7854, section 4.5): nothing is read after it.
@@ -96,34 +95,37 @@ impl StreamWalk {
         self.cutter.feed(piece)
     }
 
-    /// Gives the next entry of the bytes fed, or says that there is none yet, or how the walk ended. The
-    /// entry of a Termination Message is given, and then `Terminated`. After an end each later call gives
-    /// the same, whatever is fed between. After `NoMemory` nothing was given, and the next call tries again.
-    pub fn next(&mut self) -> Result<Progress, NoMemory>
-        ensures run { IfOk result (λ answer. (fed : List ℕ) (given : List EntryValue) → HasReached fed given self.old → GoesOn fed given self.new answer) }
+    /// Makes of the next message of the bytes fed what is wanted of it, or says that there is none yet, or how
+    /// the walk ended. A Termination Message is given, and then `Terminated`. After an end each later call
+    /// gives the same, whatever is fed between. After `NoMemory` nothing was given, and the next call tries
+    /// again. Calls for entries and for judgements may be mixed: each goes on where the last one ended.
+    pub fn next<R: Reads>(&mut self) -> Result<Progress<R::Item>, NoMemory>
+        ensures run { IfOk result (λ answer. (fed : List ℕ) (given : List EntryValue) → HasReached fed given self.old → GoesOn R.is_of fed given self.new answer) }
         ensures advances { IfOk result (Advances self.old self.new) }
         ensures repeats { Repeats self.old.stage self.old self.new result }
         ensures err { OnErr result (IsAsBefore self.old self.new) }
+        ensures wants { OnErr result ((kind : ℕ) × (self.new.stage ≡ Stage.Within kind) × R.wants kind) }
     {
         match self.stage {
-            Stage::Between => self.cut(),
-            Stage::Within(kind) => self.judge(kind),
+            Stage::Between => self.cut::<R>(),
+            Stage::Within(kind) => self.read::<R>(kind),
             Stage::Terminated => Ok(Progress::Terminated),
             Stage::Broken(why) => Ok(Progress::Broken(why)),
         }
     }
 
     // Cuts the next message, and reads it.
-    fn cut(&mut self) -> Result<Progress, NoMemory>
+    fn cut<R: Reads>(&mut self) -> Result<Progress<R::Item>, NoMemory>
         requires { self.old.stage ≡ Stage.Between }
-        ensures run { IfOk result (λ answer. (fed : List ℕ) (given : List EntryValue) → HasReached fed given self.old → GoesOn fed given self.new answer) }
+        ensures run { IfOk result (λ answer. (fed : List ℕ) (given : List EntryValue) → HasReached fed given self.old → GoesOn R.is_of fed given self.new answer) }
         ensures advances { IfOk result (Advances self.old self.new) }
         ensures err { OnErr result (IsAsBefore self.old self.new) }
+        ensures wants { OnErr result ((kind : ℕ) × (self.new.stage ≡ Stage.Within kind) × R.wants kind) }
     {
         match self.cutter.next() {
             Next::Frame { kind, .. } => {
                 self.stage = Stage::Within(kind);
-                self.judge(kind)
+                self.read::<R>(kind)
             }
             Next::More => Ok(Progress::More),
             Next::Bad(why) => {
@@ -134,17 +136,18 @@ impl StreamWalk {
     }
 
     // Reads the message that was cut.
-    fn judge(&mut self, kind: u8) -> Result<Progress, NoMemory>
+    fn read<R: Reads>(&mut self, kind: u8) -> Result<Progress<R::Item>, NoMemory>
         requires { self.old.stage ≡ Stage.Within kind }
-        ensures run { IfOk result (λ answer. (fed : List ℕ) (given : List EntryValue) → HasReached fed given self.old → GoesOn fed given self.new answer) }
+        ensures run { IfOk result (λ answer. (fed : List ℕ) (given : List EntryValue) → HasReached fed given self.old → GoesOn R.is_of fed given self.new answer) }
         ensures advances { IfOk result (Advances self.old self.new) }
         ensures err { OnErr result (self.new ≡ self.old) }
+        ensures wants { OnErr result (R.wants kind) }
     {
-        match self.reading.entry(kind, self.cutter.body()) {
-            Ok(entry) => {
+        match R::read(&mut self.reading, kind, self.cutter.body()) {
+            Ok(item) => {
                 self.offset = self.cutter.offset();
                 self.stage = stage_after(kind);
-                Ok(Progress::Entry(entry))
+                Ok(Progress::Message(item))
             }
             Err(EntryFault::Broken) => {
                 self.stage = Stage::Broken(Why::Body);

@@ -15,7 +15,7 @@ still_up es e key info other l = (
   record {
     before = l.before;
     after = l.after ++ e ∷ [];
-    place = ap (λ (xs : List EffectValue). xs ++ e ∷ []) l.place ∙ append_assoc l.before (up key info ∷ l.after) (e ∷ []);
+    split = ap (λ (xs : List EffectValue). xs ++ e ∷ []) l.split ∙ append_assoc l.before (up key info ∷ l.after) (e ∷ []);
     last = all_push (λ d. ¬ (Names key d)) l.after e l.last other;
   },
   refl,
@@ -35,7 +35,7 @@ complete_still es e key view family other c =
 -- a table was complete and this effect doesn't name its peer, or this effect is the mark of a peer that is up
 pub complete_from : (es : List EffectValue) (e : EffectValue) (key : KeyValue) (view : View) (family : Family) → IsComplete (es ++ e ∷ []) key view family
     → ((e ≡ mark key view family) × IsUp es key) ⊎ (IsComplete es key view family × ¬ (Names key e))
-complete_from es e key view family c = go (end_cases es c.up.before c.up.after e (up key c.info) c.up.place)
+complete_from es e key view family c = go (end_cases es c.up.before c.up.after e (up key c.info) c.up.split)
   where
     go : EndCases es c.up.before c.up.after e (up key c.info) → ((e ≡ mark key view family) × IsUp es key) ⊎ (IsComplete es key view family × ¬ (Names key e))
     go (inl (a, s, t)) = let none : Contains [] (mark key view family) = subst (λ (l : List EffectValue). Contains l (mark key view family)) a c.marked in absurd (omega (arith, none.1))
@@ -43,6 +43,6 @@ complete_from es e key view family c = go (end_cases es c.up.before c.up.after e
         let h = all_front (λ d. ¬ (Names key d)) rest e (subst (AllByRecursion (λ d. ¬ (Names key d))) a c.up.last) in
         let marked : Contains (rest ++ e ∷ []) (mark key view family) = subst (λ (l : List EffectValue). Contains l (mark key view family)) a c.marked in
         elim (Contains-push_cases rest e (mark key view family) marked) [
-          | inl there ↦ inr (record { info = c.info; up = record { before = c.up.before; after = rest; place = s; last = h.0 }; marked = there }, h.1)
-          | inr is ↦ inl (is, (c.info, record { before = c.up.before; after = rest; place = s; last = h.0 }))
+          | inl there ↦ inr (record { info = c.info; up = record { before = c.up.before; after = rest; split = s; last = h.0 }; marked = there }, h.1)
+          | inr is ↦ inl (is, (c.info, record { before = c.up.before; after = rest; split = s; last = h.0 }))
         ]

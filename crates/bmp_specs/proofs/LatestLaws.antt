@@ -64,7 +64,7 @@ module _ {X : Type 0} where
   module _ (Replaces : X → Type 0) where
     -- what stands at the end is the latest
     pub latest_now : (es : List X) (x : X) → Latest Replaces (es ++ x ∷ []) x
-    latest_now es x = record { before = es; after = []; place = refl; last = tt }
+    latest_now es x = record { before = es; after = []; split = refl; last = tt }
 
     -- what doesn't replace it leaves it the latest, with the same before it
     pub latest_still : (es : List X) (e x : X) (l : Latest Replaces es x) → ¬ (Replaces e) → (m : Latest Replaces (es ++ e ∷ []) x) × (m.before ≡ l.before)
@@ -72,7 +72,7 @@ module _ {X : Type 0} where
       record {
         before = l.before;
         after = l.after ++ e ∷ [];
-        place = ap (λ (xs : List X). xs ++ e ∷ []) l.place ∙ middle_push l.before l.after x e;
+        split = ap (λ (xs : List X). xs ++ e ∷ []) l.split ∙ middle_push l.before l.after x e;
         last = all_push (λ y. ¬ (Replaces y)) l.after e l.last other;
       },
       refl,
@@ -81,17 +81,17 @@ module _ {X : Type 0} where
     -- the latest is what stands at the end, or it was the latest before and what stands there doesn't replace it
     pub latest_from : (es : List X) (e x : X) (m : Latest Replaces (es ++ e ∷ []) x)
         → ((e ≡ x) × (es ≡ m.before)) ⊎ ((l : Latest Replaces es x) × (l.before ≡ m.before) × ¬ (Replaces e))
-    latest_from es e x m = go (end_cases es m.before m.after e x m.place)
+    latest_from es e x m = go (end_cases es m.before m.after e x m.split)
       where
         go : EndCases es m.before m.after e x → ((e ≡ x) × (es ≡ m.before)) ⊎ ((l : Latest Replaces es x) × (l.before ≡ m.before) × ¬ (Replaces e))
         go (inl (a, s, t)) = inl (t, s)
         go (inr (rest, a, s)) =
             let h = all_front (λ y. ¬ (Replaces y)) rest e (subst (AllByRecursion (λ y. ¬ (Replaces y))) a m.last) in
-            inr (record { before = m.before; after = rest; place = s; last = h.0 }, refl, h.1)
+            inr (record { before = m.before; after = rest; split = s; last = h.0 }, refl, h.1)
 
     -- of values that each replace, one is the latest, at one place
     pub latest_one : (es : List X) (x y : X) (l : Latest Replaces es x) (m : Latest Replaces es y) → Replaces x → Replaces y → (x ≡ y) × (l.before ≡ m.before) × (l.after ≡ m.after)
-    latest_one es x y l m p q = go (place_cases l.before l.after m.before m.after x y (sym l.place ∙ m.place))
+    latest_one es x y l m p q = go (place_cases l.before l.after m.before m.after x y (sym l.split ∙ m.split))
       where
         go : PlaceCases l.before l.after m.before m.after x y → (x ≡ y) × (l.before ≡ m.before) × (l.after ≡ m.after)
         go (inl (a, s, t)) = (s, a, t)
@@ -102,9 +102,9 @@ module _ {X : Type 0} where
   pub latest_stands : (Replaces : X → Type 0) (decides : (x : X) → Replaces x ⊎ ¬ (Replaces x)) (xs : List X) → ((x : X) × Replaces x × Latest Replaces xs x) ⊎ AllByRecursion (λ x. ¬ (Replaces x)) xs
   latest_stands Replaces decides [] = inr tt
   latest_stands Replaces decides (y ∷ xs) = elim (latest_stands Replaces decides xs) [
-    | inl h ↦ inl (h.0, h.1, record { before = y ∷ h.2.before; after = h.2.after; place = ap (λ (l : List X). y ∷ l) h.2.place; last = h.2.last })
+    | inl h ↦ inl (h.0, h.1, record { before = y ∷ h.2.before; after = h.2.after; split = ap (λ (l : List X). y ∷ l) h.2.split; last = h.2.last })
     | inr others ↦ elim (decides y) [
-      | inl r ↦ inl (y, r, record { before = []; after = xs; place = refl; last = others })
+      | inl r ↦ inl (y, r, record { before = []; after = xs; split = refl; last = others })
       | inr other ↦ inr (other, others)
     ]
   ]

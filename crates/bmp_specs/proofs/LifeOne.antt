@@ -6,6 +6,7 @@ use Rattle.bmp_specs.specs.declared.causes.Cause.{Cause}
 use Rattle.bmp_specs.specs.declared.causes.Cause.TheVariants.{Ended, Terminated, CutShort, Broken, ReadFault, Full}
 use Rattle.bmp_specs.specs.Values.{EntryValue, opened, closed}
 use Rattle.bmp_specs.specs.Walk.{Verdict, whole, more, terminated, broken}
+use Rattle.bmp_specs.specs.Meaning.{Meaning, IsExact}
 use Rattle.bmp_specs.specs.Life.{LastRead, gave_none, failed, most_taken, Fits, cause_rank, IsCause, IsLife, IsUndecided}
 use Rattle.bmp_specs.proofs.WalkOne.{walk_one}
 
@@ -78,11 +79,10 @@ cause_of_fault taken v offset u room = record { fits = (refl, refl); first = fir
     first (CutShort at) lower fits = let e = fits.0 in cc
     first (ReadFault at) lower fits = omega arith
 
-module _ {S : Type 0} (Is : S → ℕ → List ℕ → EntryValue → S → Type 0) (one : (s t u : S) (k : ℕ) (b : List ℕ) (m n : EntryValue) → Is s k b m t → Is s k b n u → (m ≡ n) × (t ≡ u)) where
-  -- bytes and a last read have one life
-  pub life_one : (s : S) (bytes : List ℕ) (last : LastRead) (a b : List EntryValue) → IsLife Is s bytes last a → IsLife Is s bytes last b → a ≡ b
-  life_one s bytes last a b p q =
-      let walks = walk_one Is one s bytes p.messages q.messages p.offset q.offset p.verdict q.verdict p.walk q.walk in
-      let moved = subst (λ (v : Verdict). IsCause (length bytes) last v q.offset p.cause) walks.2 (subst (λ (o : ℕ). IsCause (length bytes) last p.verdict o p.cause) walks.1 p.because) in
-      let cause = cause_one (length bytes) last q.verdict q.offset p.cause q.cause moved q.because in
-      p.is ∙ ap (λ (ms : List EntryValue). opened ∷ (ms ++ closed p.cause ∷ [])) walks.0 ∙ ap (λ (c : Cause). opened ∷ (q.messages ++ closed c ∷ [])) cause ∙ sym q.is
+-- bytes and a last read have one life
+pub life_one : (meaning : Meaning) → IsExact meaning → (bytes : List ℕ) (last : LastRead) (a b : List EntryValue) → IsLife meaning bytes last a → IsLife meaning bytes last b → a ≡ b
+life_one meaning exact bytes last a b p q =
+    let walks = walk_one meaning.Means exact meaning.start bytes p.messages q.messages p.offset q.offset p.verdict q.verdict p.walk q.walk in
+    let moved = subst (λ (v : Verdict). IsCause (length bytes) last v q.offset p.cause) walks.2 (subst (λ (o : ℕ). IsCause (length bytes) last p.verdict o p.cause) walks.1 p.because) in
+    let cause = cause_one (length bytes) last q.verdict q.offset p.cause q.cause moved q.because in
+    p.is ∙ ap (λ (ms : List EntryValue). opened ∷ (ms ++ closed p.cause ∷ [])) walks.0 ∙ ap (λ (c : Cause). opened ∷ (q.messages ++ closed c ∷ [])) cause ∙ sym q.is

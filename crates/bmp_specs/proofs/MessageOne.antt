@@ -2,12 +2,13 @@
 use Rattle.std.proofs.Common.{◌≡◌, ℕ, ◌+◌, List, [], length, take, drop, Option, Some, None, refl, sym, ap, ◌∙◌, subst}
 use Rattle.std.specs.Prelude.{MatchOption}
 use Rattle.bmp_specs.specs.MessageBody.{HasPeer, IsMessage, IsRouteMonitoring, MessageType, OfPeer, OfType, ReadingState, id_use, message_type, width_of, with_peer, initiation_message, peer_down_notification, peer_up_notification, route_mirroring, route_monitoring, statistics_report, termination_message, unassigned}
-use Rattle.bmp_specs.specs.MessageEffects.{IsMessageEntry, effects_of}
+use Rattle.bmp_specs.specs.Meaning.{Meaning, IsExact, WalksBy}
+use Rattle.bmp_specs.specs.MessageEffects.{IsMessageEntry, effects_of, strict}
 use Rattle.bmp_specs.specs.PeerHeader.{HeaderValue, IsHeader, header_size, key_of, view_of}
 use Rattle.bmp_specs.specs.Statistics.{IsStatistics}
 use Rattle.bmp_specs.specs.Update.{IsUpdate}
 use Rattle.bmp_specs.specs.Values.{BgpMessageValue, DownInfoValue, EntryValue, InitiationValue, KeyValue, MessageValue, OpensValue, PeerUpValue, StatisticsValue, UpdateValue, initiation, message, mirrored_routes, of_unknown_type, peer_down, peer_up, routes, statistics}
-use Rattle.bmp_specs.specs.Walk.{Verdict, Walks}
+use Rattle.bmp_specs.specs.Walk.{Verdict}
 use Rattle.bmp_specs.proofs.BgpMessageCode.{IsBgpMessage-one}
 use Rattle.bmp_specs.proofs.BodiesOne.{IsInitiation-one, IsMirroring-one, IsPeerDown-one, IsPeerUp-one, IsStatistics-one}
 use Rattle.bmp_specs.proofs.PeerHeaderCode.{header_code}
@@ -97,7 +98,11 @@ IsMessageEntry-one state s t kind body e f p q =
     let same = IsMessage-one state s t kind body p.value q.value p.means q.means in
     (p.entry_is ∙ ap (λ (m : MessageValue). message kind (6 + length body) (effects_of m)) same.0 ∙ sym q.entry_is, same.1)
 
--- a stream has one list of entries, one offset and one verdict
-pub stream_one : (state : ReadingState) (bytes : List ℕ) (es fs : List EntryValue) (o p : ℕ) (v w : Verdict) → Walks IsMessageEntry state bytes es o v → Walks IsMessageEntry state bytes fs p w
+-- the meaning by the RFCs is exact
+pub strict_exact : IsExact strict
+strict_exact = IsMessageEntry-one
+
+-- a stream has one list of entries, one offset and one verdict, under any exact meaning
+pub stream_one : (meaning : Meaning) → IsExact meaning → (bytes : List ℕ) (es fs : List EntryValue) (o p : ℕ) (v w : Verdict) → WalksBy meaning bytes es o v → WalksBy meaning bytes fs p w
     → (es ≡ fs) × (o ≡ p) × (v ≡ w)
-stream_one state bytes es fs o p v w a b = walk_one IsMessageEntry IsMessageEntry-one state bytes es fs o p v w a b
+stream_one meaning exact bytes es fs o p v w a b = walk_one meaning.Means exact meaning.start bytes es fs o p v w a b

@@ -4,7 +4,7 @@ use Rattle.std.specs.Prelude.{MatchOption}
 use Rattle.std.proofs.lemmas.List.Elements.{All-nil, All-cons, All-append}
 use Rattle.bmp_specs.specs.declared.peers.View.{View}
 use Rattle.bmp_specs.specs.MessageBody.{HasPeer, IsMessage, IsRouteMonitoring, MessageType, OfPeer, OfType, ReadingState, message_type, initiation_message, peer_down_notification, peer_up_notification, route_mirroring, route_monitoring, statistics_report, termination_message, unassigned}
-use Rattle.bmp_specs.specs.MessageEffects.{HasViewOfKey, effect_of, effects_of, route_effects, unread_parts}
+use Rattle.bmp_specs.specs.MessageEffects.{HasViewOfKey, effect_of, effects_of, route_effects, unread_effect}
 use Rattle.bmp_specs.specs.PeerHeader.{HeaderValue, IsViewOf, key_of, view_of}
 use Rattle.bmp_specs.specs.Statistics.{IsStatistics}
 use Rattle.bmp_specs.specs.Values.{EffectValue, KeyValue, MessageValue, NlriValue, OpensValue, StatValue, StatisticsValue, UpdateValue, announce, initiation, mark, mirrored_routes, named, described, of_unknown_peer, of_unknown_type, peer_down, peer_up, routes, statistic, statistics, termination, withdraw, up, down, orphan, mirrored, passed, unread}
@@ -32,7 +32,7 @@ counted : (zero : Bool) (n : ℕ) → HaveViews (cond zero [] (unread n ∷ []))
 counted true n = All-nil HasViewOfKey
 counted false n = alone (unread n) tt
 
-unread_views : (n : ℕ) → HaveViews (unread_parts n)
+unread_views : (n : ℕ) → HaveViews (unread_effect n)
 unread_views n = counted _ n
 
 routes_views : (key : KeyValue) (view : View) (u : UpdateValue) → IsViewOf key view → HaveViews (route_effects key view u)
@@ -50,11 +50,11 @@ HasRoutesOfKey _ = Unit {0}
 effects_views : (m : MessageValue) → HasRoutesOfKey m → HaveViews (effects_of m)
 effects_views (initiation i) p = join _ _ (join _ _ (some named (λ n. tt) i.name) (some described (λ n. tt) i.descr)) (unread_views i.unread)
 effects_views termination p = All-nil HasViewOfKey
-effects_views (peer_up key u) p = All-cons HasViewOfKey (up key u.info) (unread_parts u.unread) tt (unread_views u.unread)
+effects_views (peer_up key u) p = All-cons HasViewOfKey (up key u.info) (unread_effect u.unread) tt (unread_views u.unread)
 effects_views (peer_down key d) p = alone (down key d) tt
 effects_views (routes key view u) p = join _ _ (routes_views key view u p) (unread_views u.unread)
 effects_views (statistics key s) p = join _ _ (each (λ (stat : StatValue). statistic key stat) (λ stat. tt) s.stats) (unread_views s.unread)
-effects_views (mirrored_routes n) p = All-cons HasViewOfKey mirrored (unread_parts n) tt (unread_views n)
+effects_views (mirrored_routes n) p = All-cons HasViewOfKey mirrored (unread_effect n) tt (unread_views n)
 effects_views of_unknown_peer p = alone orphan tt
 effects_views of_unknown_type p = alone passed tt
 

@@ -13,9 +13,9 @@ use Rattle.bmp_specs.specs.declared.wire.Family.TheVariants.{V4, V6}
 use Rattle.bmp_specs.specs.declared.peers.View.{View}
 use Rattle.bmp_specs.specs.declared.peers.View.TheVariants.{InPre, InPost, OutPre, OutPost, Loc}
 use Rattle.bmp_specs.specs.Values.{AddressValue, PrefixValue, NlriValue, KeyValue}
-use Rattle.bmp_specs.specs.Rows.{PlaceValue}
+use Rattle.bmp_specs.specs.Rows.{RowKeyValue}
 use Rattle.bmp_specs.specs.Orders.{family_number, family_cmp, view_number, view_cmp, address_cmp, prefix_cmp, nlri_cmp, key_cmp}
-use Rattle.bmp_specs.specs.TableRows.{place_cmp}
+use Rattle.bmp_specs.specs.TableRows.{row_key_cmp}
 
 -- two comparisons in a row tie exactly where both do
 pub both_tie : (a b : Ordering) → ordering_then a b ≡ Equal → (a ≡ Equal) × (b ≡ Equal)
@@ -101,12 +101,12 @@ key_exact a b e =
     let address = address_exact a.address b.address rest.1 in
     λ i. record { kind = kind i; distinguisher = distinguisher i; address = address i }
 
-pub place_total : IsTotalOrder place_cmp
-place_total = then_total (on_total (λ (p : PlaceValue). p.key) key_total)
-    (then_total (on_total (λ (p : PlaceValue). p.view) view_total) (on_total (λ (p : PlaceValue). p.nlri) nlri_total))
+pub row_key_total : IsTotalOrder row_key_cmp
+row_key_total = then_total (on_total (λ (p : RowKeyValue). p.key) key_total)
+    (then_total (on_total (λ (p : RowKeyValue). p.view) view_total) (on_total (λ (p : RowKeyValue). p.nlri) nlri_total))
 
-pub place_exact : CmpEqualImpliesEq place_cmp
-place_exact a b e =
+pub row_key_exact : CmpEqualImpliesEq row_key_cmp
+row_key_exact a b e =
     let first = both_tie (key_cmp a.key b.key) (ordering_then (view_cmp a.view b.view) (nlri_cmp a.nlri b.nlri)) e in
     let rest = both_tie (view_cmp a.view b.view) (nlri_cmp a.nlri b.nlri) first.1 in
     let key = key_exact a.key b.key first.0 in

@@ -15,7 +15,7 @@ v4 a b c d = record { family = V4; octets = a ∷ b ∷ c ∷ d ∷ replicate 12
 
 abbrev usual_row : RowValue
 usual_row = record {
-  place = record {
+  row_key = record {
     key = record { kind = 0; distinguisher = 0; address = v4 192 0 2 1 };
     view = InPre;
     nlri = record { prefix = record { address = v4 10 0 0 0; bits = 8 }; id = None };
@@ -39,7 +39,7 @@ usual_route_line = refl
 
 abbrev full_row : RowValue
 full_row = record {
-  place = record {
+  row_key = record {
     key = record { kind = 3; distinguisher = 1; address = v4 0 0 0 0 };
     view = Loc;
     nlri = record { prefix = record { address = record { family = V6; octets = 32 ∷ 1 ∷ 13 ∷ 184 ∷ replicate 12 0 }; bits = 32 }; id = Some 7 };

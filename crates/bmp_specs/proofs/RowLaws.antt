@@ -5,7 +5,7 @@ use Rattle.bmp_specs.specs.Values.{KeyValue, PeerInfoValue, DownInfoValue, Attrs
 use Rattle.std.specs.List.{AllByRecursion}
 use Rattle.bmp_specs.specs.Orders.{key_cmp}
 use Rattle.bmp_specs.specs.PeerUp.{Names, IsUpWith, IsDownWith, IsUp}
-use Rattle.bmp_specs.specs.Rows.{PlaceValue, RowValue, ReplacesRow, HasRow}
+use Rattle.bmp_specs.specs.Rows.{RowKeyValue, RowValue, ReplacesRow, HasRow}
 use Rattle.bmp_specs.proofs.LatestLaws.{latest_now, latest_still, latest_from, latest_one, latest_stands}
 use Rattle.bmp_specs.proofs.OrderLaws.{key_total, key_exact, same_or_other}
 
@@ -31,30 +31,30 @@ pub up_or_down : (es : List EffectValue) (key : KeyValue) (info : DownInfoValue)
 up_or_down es key info (other, p) q = let e : up key other ≡ down key info = (latest_one (Names key) es (up key other) (down key info) p q refl refl).0 in cc
 
 -- a place has one route
-pub route_one : (es : List EffectValue) (place : PlaceValue) (a b : AttrsValue) → HasRow es (record { place = place; route = a }) → HasRow es (record { place = place; route = b }) → a ≡ b
+pub route_one : (es : List EffectValue) (place : RowKeyValue) (a b : AttrsValue) → HasRow es (record { row_key = place; route = a }) → HasRow es (record { row_key = place; route = b }) → a ≡ b
 route_one es place a b p q =
     let e : announce place.key place.view place.nlri a ≡ announce place.key place.view place.nlri b =
     (latest_one (ReplacesRow place) es (announce place.key place.view place.nlri a) (announce place.key place.view place.nlri b) p.announced q.announced (refl, refl, refl) (refl, refl, refl)).0 in
     cc
 
-pub row_now : (es : List EffectValue) (row : RowValue) → IsUp es row.place.key → HasRow (es ++ announce row.place.key row.place.view row.place.nlri row.route ∷ []) row
-row_now es row is_up = record { announced = record { before = es; after = []; place = refl; last = tt }; while_up = is_up }
+pub row_now : (es : List EffectValue) (row : RowValue) → IsUp es row.row_key.key → HasRow (es ++ announce row.row_key.key row.row_key.view row.row_key.nlri row.route ∷ []) row
+row_now es row is_up = record { announced = record { before = es; after = []; split = refl; last = tt }; while_up = is_up }
 
-pub row_still : (es : List EffectValue) (e : EffectValue) (row : RowValue) → ¬ (ReplacesRow row.place e) → HasRow es row → HasRow (es ++ e ∷ []) row
+pub row_still : (es : List EffectValue) (e : EffectValue) (row : RowValue) → ¬ (ReplacesRow row.row_key e) → HasRow es row → HasRow (es ++ e ∷ []) row
 row_still es e row other h =
-    let m = latest_still (ReplacesRow row.place) es e (announce row.place.key row.place.view row.place.nlri row.route) h.announced other in
-    record { announced = m.0; while_up = subst (λ (before : List EffectValue). IsUp before row.place.key) (sym m.1) h.while_up }
+    let m = latest_still (ReplacesRow row.row_key) es e (announce row.row_key.key row.row_key.view row.row_key.nlri row.route) h.announced other in
+    record { announced = m.0; while_up = subst (λ (before : List EffectValue). IsUp before row.row_key.key) (sym m.1) h.while_up }
 
 -- a row was there and this effect doesn't replace it, or this effect announces it while its peer is up
 pub row_from : (es : List EffectValue) (e : EffectValue) (row : RowValue) → HasRow (es ++ e ∷ []) row
-    → ((e ≡ announce row.place.key row.place.view row.place.nlri row.route) × IsUp es row.place.key) ⊎ (HasRow es row × ¬ (ReplacesRow row.place e))
-row_from es e row h = go (latest_from (ReplacesRow row.place) es e (announce row.place.key row.place.view row.place.nlri row.route) h.announced)
+    → ((e ≡ announce row.row_key.key row.row_key.view row.row_key.nlri row.route) × IsUp es row.row_key.key) ⊎ (HasRow es row × ¬ (ReplacesRow row.row_key e))
+row_from es e row h = go (latest_from (ReplacesRow row.row_key) es e (announce row.row_key.key row.row_key.view row.row_key.nlri row.route) h.announced)
   where
-    go : ((e ≡ announce row.place.key row.place.view row.place.nlri row.route) × (es ≡ h.announced.before))
-        ⊎ ((l : Latest (ReplacesRow row.place) es (announce row.place.key row.place.view row.place.nlri row.route)) × (l.before ≡ h.announced.before) × ¬ (ReplacesRow row.place e))
-        → ((e ≡ announce row.place.key row.place.view row.place.nlri row.route) × IsUp es row.place.key) ⊎ (HasRow es row × ¬ (ReplacesRow row.place e))
-    go (inl (s, t)) = inl (s, subst (λ (before : List EffectValue). IsUp before row.place.key) (sym t) h.while_up)
-    go (inr (l, t, other)) = inr (record { announced = l; while_up = subst (λ (before : List EffectValue). IsUp before row.place.key) (sym t) h.while_up }, other)
+    go : ((e ≡ announce row.row_key.key row.row_key.view row.row_key.nlri row.route) × (es ≡ h.announced.before))
+        ⊎ ((l : Latest (ReplacesRow row.row_key) es (announce row.row_key.key row.row_key.view row.row_key.nlri row.route)) × (l.before ≡ h.announced.before) × ¬ (ReplacesRow row.row_key e))
+        → ((e ≡ announce row.row_key.key row.row_key.view row.row_key.nlri row.route) × IsUp es row.row_key.key) ⊎ (HasRow es row × ¬ (ReplacesRow row.row_key e))
+    go (inl (s, t)) = inl (s, subst (λ (before : List EffectValue). IsUp before row.row_key.key) (sym t) h.while_up)
+    go (inr (l, t, other)) = inr (record { announced = l; while_up = subst (λ (before : List EffectValue). IsUp before row.row_key.key) (sym t) h.while_up }, other)
 
 -- an effect names a peer or not
 pub names_or_other : (key : KeyValue) (e : EffectValue) → Names key e ⊎ ¬ (Names key e)

@@ -17,7 +17,7 @@ IsMessage (closed cause) = ⊥
 -- the session is what stands after an opening, and has messages alone
 pub record IsSession (entries session : List EntryValue) : Type 0 where
   pub before : List EntryValue
-  pub place : entries ≡ before ++ opened ∷ session
+  pub split : entries ≡ before ++ opened ∷ session
   pub messages : AllByRecursion IsMessage session
 
 -- entries without an opening, and a last cause that has no closing
@@ -41,7 +41,7 @@ since_at (closed cause ∷ before) session all = since_at before session all
 
 -- what stands at the end of some entries after the last opening is a session
 pub session_here : (entries session : List EntryValue) → IsSession entries session → present_session entries ≡ Some session
-session_here entries session s = rw (s.place, since_at s.before session s.messages, cause_none session s.messages) refl
+session_here entries session s = rw (s.split, since_at s.before session s.messages, cause_none session s.messages) refl
 
 since_stands : (entries session : List EntryValue) → since_opening entries ≡ Some session → (before : List EntryValue) × (entries ≡ before ++ opened ∷ session) × (since_opening session ≡ None)
 since_stands [] session e = absurd cc
@@ -81,7 +81,7 @@ session_stands entries session e = go (since_opening entries) refl e
         at None none f =
             let same : t ≡ session = cc in
             let h = since_stands entries session (is ∙ ap Some same) in
-            record { before = h.0; place = h.1; messages = messages_alone session h.2 (ap last_cause (sym same) ∙ none) }
+            record { before = h.0; split = h.1; messages = messages_alone session h.2 (ap last_cause (sym same) ∙ none) }
 
 -- one more entry
 since_pushed : (entries : List EntryValue) (e : EntryValue) → IsMessage e ⊎ ((cause : Cause) × (e ≡ closed cause)) → since_opening (entries ++ e ∷ []) ≡ option_map (λ s. s ++ e ∷ []) (since_opening entries)

@@ -7,7 +7,7 @@ use Rattle.bmp_specs.specs.Rows.{ReplacesStatistic, HasStatistic}
 use Rattle.bmp_specs.proofs.LatestLaws.{latest_still, latest_from, latest_one}
 
 pub statistic_now : (es : List EffectValue) (key : KeyValue) (stat : StatValue) → IsUp es key → HasStatistic (es ++ statistic key stat ∷ []) key stat
-statistic_now es key stat is_up = record { reported = record { before = es; after = []; place = refl; last = tt }; while_up = is_up }
+statistic_now es key stat is_up = record { reported = record { before = es; after = []; split = refl; last = tt }; while_up = is_up }
 
 pub statistic_still : (es : List EffectValue) (e : EffectValue) (key : KeyValue) (stat : StatValue) → ¬ (ReplacesStatistic key stat e) → HasStatistic es key stat → HasStatistic (es ++ e ∷ []) key stat
 statistic_still es e key stat other h =

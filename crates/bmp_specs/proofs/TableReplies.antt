@@ -6,17 +6,17 @@ use Rattle.bmp_specs.specs.Session.{session_effects}
 use Rattle.bmp_specs.specs.RouteLine.{route_line}
 use Rattle.bmp_specs.specs.Rows.{RowValue, HasRow}
 use Rattle.bmp_specs.specs.Selection.{SelectValue, AreSelectedRows}
-use Rattle.bmp_specs.specs.TableRows.{place_cmp}
+use Rattle.bmp_specs.specs.TableRows.{row_key_cmp}
 use Rattle.bmp_specs.specs.Reply.{reply}
 use Rattle.bmp_specs.specs.TableReply.{IsTableReply}
 use Rattle.bmp_specs.proofs.LatestLaws.{no_middle}
-use Rattle.bmp_specs.proofs.OrderLaws.{place_total}
+use Rattle.bmp_specs.proofs.OrderLaws.{row_key_total}
 use Rattle.bmp_specs.proofs.ReplyTexts.{reply_of_an_opening}
 use Rattle.bmp_specs.proofs.TableRowsOne.{one_sorted}
 
 -- no effects leave no row
 no_row : (row : RowValue) → HasRow [] row → ⊥
-no_row row h = no_middle h.announced.before h.announced.after (announce row.place.key row.place.view row.place.nlri row.route) h.announced.place
+no_row row h = no_middle h.announced.before h.announced.after (announce row.row_key.key row.row_key.view row.row_key.nlri row.route) h.announced.split
 
 pub no_rows : (select : SelectValue) (lane : ℕ) → AreSelectedRows select lane [] []
 unfolding IsStrictlySortedBy
@@ -24,7 +24,7 @@ no_rows select lane = record { ordered = tt; exact = λ row. (λ c. absurd (omeg
 
 -- effects leave one list of selected rows
 pub selected_rows_one : (select : SelectValue) (lane : ℕ) (effects : List EffectValue) (rows others : List RowValue) → AreSelectedRows select lane effects rows → AreSelectedRows select lane effects others → rows ≡ others
-selected_rows_one select lane effects rows others a b = one_sorted (λ (r : RowValue). r.place) place_cmp place_total rows others a.ordered b.ordered
+selected_rows_one select lane effects rows others a b = one_sorted (λ (r : RowValue). r.row_key) row_key_cmp row_key_total rows others a.ordered b.ordered
     (λ r c. (b.exact r).1 ((a.exact r).0 c))
     (λ r c. (a.exact r).1 ((b.exact r).0 c))
 

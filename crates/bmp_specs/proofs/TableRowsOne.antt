@@ -9,8 +9,8 @@ use Rattle.std.proofs.lemmas.Cmp.{tied_itself}
 use Rattle.std.proofs.lemmas.Map.Keys.{sorted_head, sorted_tail}
 use Rattle.bmp_specs.specs.Values.{EffectValue}
 use Rattle.bmp_specs.specs.Rows.{RowValue}
-use Rattle.bmp_specs.specs.TableRows.{place_cmp, AreTableRows}
-use Rattle.bmp_specs.proofs.OrderLaws.{place_total}
+use Rattle.bmp_specs.specs.TableRows.{row_key_cmp, AreTableRows}
+use Rattle.bmp_specs.proofs.OrderLaws.{row_key_total}
 
 -- a member of a list is its first element or one of the others
 pub contains_cases : {X : Type 0} (y : X) (ys : List X) (x : X) → Contains (y ∷ ys) x → (y ≡ x) ⊎ Contains ys x
@@ -60,6 +60,6 @@ module _ {X K : Type 0} (key : X → K) (cmp : K → K → Ordering) (total : Is
 
 -- effects leave one list of rows
 pub table_rows_one : (effects : List EffectValue) (rows others : List RowValue) → AreTableRows effects rows → AreTableRows effects others → rows ≡ others
-table_rows_one effects rows others a b = one_sorted (λ (r : RowValue). r.place) place_cmp place_total rows others a.ordered b.ordered
+table_rows_one effects rows others a b = one_sorted (λ (r : RowValue). r.row_key) row_key_cmp row_key_total rows others a.ordered b.ordered
     (λ r c. (b.exact r).1 ((a.exact r).0 c))
     (λ r c. (a.exact r).1 ((b.exact r).0 c))

@@ -26,9 +26,9 @@ is_passed passed = true
 is_passed _ = false
 
 -- how many parts of its message were passed over
-abbrev pub unread_parts : EffectValue → ℕ
-unread_parts (unread parts) = parts
-unread_parts _ = 0
+abbrev pub parts_in : EffectValue → ℕ
+parts_in (unread parts) = parts
+parts_in _ = 0
 
 -- the counts of the present session, each at most the greatest number of 64 bits
 abbrev pub counts_of : List EntryValue → CountsValue
@@ -36,7 +36,7 @@ counts_of entries = record {
   messages = told_count (length (session_messages entries));
   bytes = told_count (sum_by length_of (session_messages entries));
   orphans = told_count (count_by is_orphan (session_effects entries));
-  unread = told_count (sum_by unread_parts (session_effects entries));
+  unread = told_count (sum_by parts_in (session_effects entries));
   mirrored = told_count (count_by is_mirrored (session_effects entries));
   passed = told_count (count_by is_passed (session_effects entries));
 }

@@ -6,5 +6,5 @@ use Rattle.std.specs.List.{AllByRecursion}
 pub record Latest {X : Type 0} (Replaces : X → Type 0) (xs : List X) (x : X) : Type 0 where
   pub before : List X
   pub after : List X
-  pub place : xs ≡ before ++ x ∷ after
+  pub split : xs ≡ before ++ x ∷ after
   pub last : AllByRecursion (λ y. ¬ (Replaces y)) after

@@ -28,6 +28,7 @@ pub mod Counted
 pub mod Update
 pub mod Frame
 pub mod Walk
+pub mod Meaning
 pub mod Address
 pub mod NumberText
 pub mod AddressText

@@ -3,7 +3,8 @@ use Rattle.std.specs.Prelude.{◌≡◌, ℕ, ◌-◌, ◌^◌, ◌<◌, ◌≤�
 use Rattle.bmp_specs.specs.declared.causes.Cause.{Cause}
 use Rattle.bmp_specs.specs.declared.causes.Cause.TheVariants.{Ended, Terminated, CutShort, Broken, ReadFault, Full}
 use Rattle.bmp_specs.specs.Values.{EntryValue, opened, closed}
-use Rattle.bmp_specs.specs.Walk.{Verdict, whole, more, terminated, broken, Walks}
+use Rattle.bmp_specs.specs.Meaning.{Meaning, WalksBy}
+use Rattle.bmp_specs.specs.Walk.{Verdict, whole, more, terminated, broken}
 
 -- how the last read of a connection went: it gave bytes, or none was made; it gave no bytes; it failed
 pub data LastRead : Type 0 where
@@ -43,25 +44,24 @@ pub record IsCause (taken : ℕ) (last : LastRead) (verdict : Verdict) (offset :
   pub fits : Fits taken last verdict offset cause
   pub first : (other : Cause) → cause_rank other < cause_rank cause → Fits taken last verdict offset other → ⊥
 
--- The entries are the life of a connection of which these bytes were taken. Is says what a body means under a state,
--- and s is the state as the connection begins.
-pub record IsLife {S : Type 0} (Is : S → ℕ → List ℕ → EntryValue → S → Type 0) (s : S) (bytes : List ℕ) (last : LastRead) (life : List EntryValue) : Type 0 where
+-- the entries are the life of a connection of which these bytes were taken
+pub record IsLife (meaning : Meaning) (bytes : List ℕ) (last : LastRead) (life : List EntryValue) : Type 0 where
   pub messages : List EntryValue
   pub offset : ℕ
   pub verdict : Verdict
   pub cause : Cause
   pub within : length bytes ≤ most_taken
-  pub walk : Walks Is s bytes messages offset verdict
+  pub walk : WalksBy meaning bytes messages offset verdict
   pub because : IsCause (length bytes) last verdict offset cause
   pub is : life ≡ opened ∷ (messages ++ closed cause ∷ [])
 
 -- the same of a connection that wasn't closed
-pub record IsOpenLife {S : Type 0} (Is : S → ℕ → List ℕ → EntryValue → S → Type 0) (s : S) (bytes : List ℕ) (life : List EntryValue) : Type 0 where
+pub record IsOpenLife (meaning : Meaning) (bytes : List ℕ) (life : List EntryValue) : Type 0 where
   pub messages : List EntryValue
   pub offset : ℕ
   pub verdict : Verdict
   pub within : length bytes ≤ most_taken
-  pub walk : Walks Is s bytes messages offset verdict
+  pub walk : WalksBy meaning bytes messages offset verdict
   pub is : life ≡ opened ∷ messages
 
 -- the walk goes on where more bytes come
@@ -72,9 +72,9 @@ IsUndecided terminated = ⊥
 IsUndecided (broken why) = ⊥
 
 -- what was taken before the last read, or more of it, doesn't decide the walk: nothing is read once it is decided
-pub record IsReadNoFurther {S M : Type 0} (Is : S → ℕ → List ℕ → M → S → Type 0) (s : S) (bytes : List ℕ) : Type 0 where
-  pub messages : List M
+pub record IsReadNoFurther (meaning : Meaning) (bytes : List ℕ) : Type 0 where
+  pub messages : List EntryValue
   pub offset : ℕ
   pub verdict : Verdict
-  pub walk : Walks Is s (take (length bytes - most_read) bytes) messages offset verdict
+  pub walk : WalksBy meaning (take (length bytes - most_read) bytes) messages offset verdict
   pub undecided : IsUndecided verdict

@@ -3,7 +3,8 @@
 use Rattle.std.specs.Prelude.{◌≡◌, ℕ, ◌+◌, ◌==◌, if◌then◌else◌, List, [], ◌∷◌, ◌++◌, length, map, Option, Some, None, ⊤}
 use Rattle.bmp_specs.specs.declared.peers.View.{View}
 use Rattle.bmp_specs.specs.Frame.{least}
-use Rattle.bmp_specs.specs.MessageBody.{IsMessage, ReadingState}
+use Rattle.bmp_specs.specs.Meaning.{Meaning}
+use Rattle.bmp_specs.specs.MessageBody.{IsMessage, ReadingState, no_peers}
 use Rattle.bmp_specs.specs.PeerHeader.{IsViewOf}
 use Rattle.bmp_specs.specs.Values.{EffectValue, EntryValue, KeyValue, MessageValue, UpdateValue, initiation, termination, peer_up, peer_down, routes, statistics, mirrored_routes, of_unknown_peer, of_unknown_type, up, down, announce, withdraw, mark, statistic, named, described, orphan, mirrored, passed, unread, message}
 
@@ -13,8 +14,8 @@ effect_of effect None = []
 effect_of effect (Some v) = effect v ∷ []
 
 -- the parts that were passed over, where there are any
-abbrev pub unread_parts : ℕ → List EffectValue
-unread_parts n = if n == 0 then [] else unread n ∷ []
+abbrev pub unread_effect : ℕ → List EffectValue
+unread_effect n = if n == 0 then [] else unread n ∷ []
 
 -- withdrawn routes, routes with the next hop in NEXT_HOP, those with it in MP_REACH_NLRI, and the End-of-RIB marker
 abbrev pub route_effects : KeyValue → View → UpdateValue → List EffectValue
@@ -25,13 +26,13 @@ route_effects key view u =
     ++ effect_of (λ family. mark key view family) u.mark
 
 abbrev pub effects_of : MessageValue → List EffectValue
-effects_of (initiation i) = effect_of named i.name ++ effect_of described i.descr ++ unread_parts i.unread
+effects_of (initiation i) = effect_of named i.name ++ effect_of described i.descr ++ unread_effect i.unread
 effects_of termination = []
-effects_of (peer_up key u) = up key u.info ∷ unread_parts u.unread
+effects_of (peer_up key u) = up key u.info ∷ unread_effect u.unread
 effects_of (peer_down key d) = down key d ∷ []
-effects_of (routes key view u) = route_effects key view u ++ unread_parts u.unread
-effects_of (statistics key s) = map (λ stat. statistic key stat) s.stats ++ unread_parts s.unread
-effects_of (mirrored_routes n) = mirrored ∷ unread_parts n
+effects_of (routes key view u) = route_effects key view u ++ unread_effect u.unread
+effects_of (statistics key s) = map (λ stat. statistic key stat) s.stats ++ unread_effect s.unread
+effects_of (mirrored_routes n) = mirrored ∷ unread_effect n
 effects_of of_unknown_peer = orphan ∷ []
 effects_of of_unknown_type = passed ∷ []
 
@@ -47,3 +48,7 @@ pub record IsMessageEntry (state : ReadingState) (kind : ℕ) (body : List ℕ) 
   pub value : MessageValue
   pub means : IsMessage state kind body value next
   pub entry_is : entry ≡ message kind (least + length body) (effects_of value)
+
+-- the meaning of bodies by the RFCs alone
+abbrev pub strict : Meaning
+strict = record { State = ReadingState; start = no_peers; Means = IsMessageEntry }

@@ -111,10 +111,10 @@ id_fields (Some id) = (codes "id=" ++ number_text id) ∷ []
 -- the fields of a route from its peer on
 abbrev pub route_fields : RowValue → List (List ℕ)
 route_fields row =
-    key_text row.place.key
-    ∷ view_text row.place.view
-    ∷ prefix_text row.place.nlri.prefix
-    ∷ (attribute_fields row.route ++ id_fields row.place.nlri.id)
+    key_text row.row_key.key
+    ∷ view_text row.row_key.view
+    ∷ prefix_text row.row_key.nlri.prefix
+    ∷ (attribute_fields row.route ++ id_fields row.row_key.nlri.id)
 
 -- the line of a row of this lane
 abbrev pub route_line : ℕ → RowValue → List ℕ

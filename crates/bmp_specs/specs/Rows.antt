@@ -6,19 +6,19 @@ use Rattle.bmp_specs.specs.Latest.{Latest}
 use Rattle.bmp_specs.specs.PeerUp.{IsUp}
 
 -- where a route stands: its peer, the RIB that it was seen in, its prefix and its path identifier
-pub record PlaceValue : Type 0 where
+pub record RowKeyValue : Type 0 where
   pub key : KeyValue
   pub view : View
   pub nlri : NlriValue
 
 -- a route at its place
 pub record RowValue : Type 0 where
-  pub place : PlaceValue
+  pub row_key : RowKeyValue
   pub route : AttrsValue
 
 -- The effect ends what stood at the place: it announces or withdraws a route there (RFC 7854, section 4.6), or its peer
 -- comes up or goes down, in whatever view (RFC 7854, section 4.9).
-abbrev pub ReplacesRow : PlaceValue → EffectValue → Type 0
+abbrev pub ReplacesRow : RowKeyValue → EffectValue → Type 0
 ReplacesRow place (up key info) = key ≡ place.key
 ReplacesRow place (down key info) = key ≡ place.key
 ReplacesRow place (announce key view nlri route) = (key ≡ place.key) × (view ≡ place.view) × (nlri ≡ place.nlri)
@@ -27,8 +27,8 @@ ReplacesRow place _ = ⊥
 
 -- The route stands at the place: it was announced there, while the peer was up, and nothing replaced it since.
 pub record HasRow (effects : List EffectValue) (row : RowValue) : Type 0 where
-  pub announced : Latest (ReplacesRow row.place) effects (announce row.place.key row.place.view row.place.nlri row.route)
-  pub while_up : IsUp announced.before row.place.key
+  pub announced : Latest (ReplacesRow row.row_key) effects (announce row.row_key.key row.row_key.view row.row_key.nlri row.route)
+  pub while_up : IsUp announced.before row.row_key.key
 
 -- The effect ends the peer's statistic of this code and family: it is another one of them (RFC 7854, section 4.8), or
 -- the peer comes up or goes down.

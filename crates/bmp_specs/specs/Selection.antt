@@ -4,8 +4,8 @@ use Rattle.std.specs.List.{Contains}
 use Rattle.std.specs.List.Sorted.{IsStrictlySortedBy}
 use Rattle.bmp_specs.specs.declared.peers.View.{View}
 use Rattle.bmp_specs.specs.declared.wire.Family.{Family}
-use Rattle.bmp_specs.specs.Rows.{PlaceValue, RowValue, HasRow}
-use Rattle.bmp_specs.specs.TableRows.{place_cmp}
+use Rattle.bmp_specs.specs.Rows.{RowKeyValue, RowValue, HasRow}
+use Rattle.bmp_specs.specs.TableRows.{row_key_cmp}
 use Rattle.bmp_specs.specs.Values.{KeyValue, EffectValue}
 
 -- the lane, the peer, the view and the family that rows are asked for, each where one is named
@@ -20,18 +20,18 @@ abbrev pub select_all : SelectValue
 select_all = record { router = None; peer = None; view = None; family = None }
 
 -- the value is the one that is named, or none is named
-abbrev pub IsNamed : {A : Type 0} → Option A → A → Type 0
-IsNamed None value = Unit {0}
-IsNamed (Some named) value = named ≡ value
+abbrev pub IsAskedFor : {A : Type 0} → Option A → A → Type 0
+IsAskedFor None value = Unit {0}
+IsAskedFor (Some named) value = named ≡ value
 
 -- the place, on this lane, has all values that are named
-pub record IsSelected (select : SelectValue) (lane : ℕ) (place : PlaceValue) : Type 0 where
-  pub router : IsNamed select.router lane
-  pub peer : IsNamed select.peer place.key
-  pub view : IsNamed select.view place.view
-  pub family : IsNamed select.family place.nlri.prefix.address.family
+pub record IsSelected (select : SelectValue) (lane : ℕ) (place : RowKeyValue) : Type 0 where
+  pub router : IsAskedFor select.router lane
+  pub peer : IsAskedFor select.peer place.key
+  pub view : IsAskedFor select.view place.view
+  pub family : IsAskedFor select.family place.nlri.prefix.address.family
 
 -- the list has exactly the selected rows that the effects leave on this lane, each once, in the order of our replies
 pub record AreSelectedRows (select : SelectValue) (lane : ℕ) (effects : List EffectValue) (rows : List RowValue) : Type 0 where
-  pub ordered : IsStrictlySortedBy place_cmp (map (λ row. row.place) rows)
-  pub exact : (row : RowValue) → Contains rows row ↔ (HasRow effects row × IsSelected select lane row.place)
+  pub ordered : IsStrictlySortedBy row_key_cmp (map (λ row. row.row_key) rows)
+  pub exact : (row : RowValue) → Contains rows row ↔ (HasRow effects row × IsSelected select lane row.row_key)

@@ -8,7 +8,7 @@ use Rattle.std.specs.Set.{remove_key}
 use Rattle.std.specs.List.{AllByRecursion, insert, list_any}
 use Rattle.std.proofs.lemmas.Bool.{cases_lt}
 use Rattle.std.proofs.lemmas.List.{append-nil}
-use Rattle.bmp_specs.specs.Rows.{PlaceValue}
+use Rattle.bmp_specs.specs.Rows.{RowKeyValue}
 use Rattle.origin_index.specs.Pairs.{pair_cmp}
 use Rattle.origin_index.specs.Parts.{joined, IsPartOf}
 use Rattle.origin_index.proofs.Cuts.{any_between, insert_between, remove_between}
@@ -32,7 +32,7 @@ past_end [] n d le = refl
 past_end (x ∷ xs) zero d le = absurd (omega (arith, le))
 past_end (x ∷ xs) (suc n) d le = past_end xs n d (omega (arith, le))
 
-only_one : (test : ℕ × PlaceValue → Bool) (xs : List (ℕ × PlaceValue)) → length xs ≡ 1 → list_any test xs ≡ true → remove_key test xs ≡ []
+only_one : (test : ℕ × RowKeyValue → Bool) (xs : List (ℕ × RowKeyValue)) → length xs ≡ 1 → list_any test xs ≡ true → remove_key test xs ≡ []
 only_one test [] e any = absurd (omega (arith, e))
 only_one test (x ∷ []) e any = one_cases (test x) any
   where
@@ -41,35 +41,35 @@ only_one test (x ∷ []) e any = one_cases (test x) any
     one_cases false any = absurd cc
 only_one test (x ∷ y ∷ xs) e any = absurd (omega (arith, e))
 
-module _ (ps : List (List (ℕ × PlaceValue))) (n : ℕ) where
-  pub divided : (x q r : List (ℕ × PlaceValue)) (m : ℕ) → n < length ps → m ≡ n + 1 → x ≡ get_or ps n x → x ≡ q ++ r → joined (insert (set ps n q) m r) ≡ joined ps
+module _ (ps : List (List (ℕ × RowKeyValue))) (n : ℕ) where
+  pub divided : (x q r : List (ℕ × RowKeyValue)) (m : ℕ) → n < length ps → m ≡ n + 1 → x ≡ get_or ps n x → x ≡ q ++ r → joined (insert (set ps n q) m r) ≡ joined ps
   divided x q r m lt e is two =
       ap (λ i. joined (insert (set ps n q) i r)) {x = m} {y = suc n} (omega (arith, e)) ∙ joined_halves ps n q r lt
       ∙ ap (λ l. joined (take n ps) ++ (l ++ joined (drop (suc n) ps))) (sym two ∙ is) ∙ sym (joined_at ps n x lt)
 
-  module _ (k : ℕ × PlaceValue) (own : IsPartOf ps k n) where
-    pub pushed : (part : List (ℕ × PlaceValue)) → length ps ≤ n → part ≡ k ∷ [] → joined (ps ++ part ∷ []) ≡ insert_key pair_cmp (joined ps) k
+  module _ (k : ℕ × RowKeyValue) (own : IsPartOf ps k n) where
+    pub pushed : (part : List (ℕ × RowKeyValue)) → length ps ≤ n → part ≡ k ∷ [] → joined (ps ++ part ∷ []) ≡ insert_key pair_cmp (joined ps) k
     pushed part le e =
-        joined_append ps (part ∷ []) ∙ ap (λ (l : List (ℕ × PlaceValue)). joined ps ++ (l ++ [])) e
+        joined_append ps (part ∷ []) ∙ ap (λ (l : List (ℕ × RowKeyValue)). joined ps ++ (l ++ [])) e
         ∙ sym (ap (λ l. insert_key pair_cmp l k) (sym (append-nil (joined ps))) ∙ insert_between pair_cmp k (joined ps) [] [] (subst (λ qs. AllByRecursion (λ e. pair_cmp k e ≡ Greater) (joined qs)) (all_taken ps n le) own.before) tt)
 
-    pub added : (x q : List (ℕ × PlaceValue)) → n < length ps → x ≡ get_or ps n x → q ≡ insert_key pair_cmp x k → joined (set ps n q) ≡ insert_key pair_cmp (joined ps) k
+    pub added : (x q : List (ℕ × RowKeyValue)) → n < length ps → x ≡ get_or ps n x → q ≡ insert_key pair_cmp x k → joined (set ps n q) ≡ insert_key pair_cmp (joined ps) k
     added x q lt is e =
         joined_set ps n q lt ∙ ap (λ l. joined (take n ps) ++ (l ++ joined (drop (suc n) ps))) (e ∙ ap (λ l. insert_key pair_cmp l k) is)
         ∙ sym (ap (λ l. insert_key pair_cmp l k) (joined_at ps n x lt) ∙ insert_between pair_cmp k (joined (take n ps)) (get_or ps n x) (joined (drop (suc n) ps)) own.before own.after)
 
     -- without the pair, by what is left of its part
-    left : (x : List (ℕ × PlaceValue)) → n < length ps → joined (take n ps) ++ (remove_key (is_at (pair_cmp k)) (get_or ps n x) ++ joined (drop (suc n) ps)) ≡ remove_key (is_at (pair_cmp k)) (joined ps)
+    left : (x : List (ℕ × RowKeyValue)) → n < length ps → joined (take n ps) ++ (remove_key (is_at (pair_cmp k)) (get_or ps n x) ++ joined (drop (suc n) ps)) ≡ remove_key (is_at (pair_cmp k)) (joined ps)
     left x lt = sym (ap (remove_key (is_at (pair_cmp k))) (joined_at ps n x lt) ∙ remove_between pair_cmp k (joined (take n ps)) (get_or ps n x) (joined (drop (suc n) ps)) own.before own.after)
 
-    pub taken : (x q : List (ℕ × PlaceValue)) → n < length ps → x ≡ get_or ps n x → q ≡ remove_key (is_at (pair_cmp k)) x → joined (set ps n q) ≡ remove_key (is_at (pair_cmp k)) (joined ps)
+    pub taken : (x q : List (ℕ × RowKeyValue)) → n < length ps → x ≡ get_or ps n x → q ≡ remove_key (is_at (pair_cmp k)) x → joined (set ps n q) ≡ remove_key (is_at (pair_cmp k)) (joined ps)
     taken x q lt is e = joined_set ps n q lt ∙ ap (λ l. joined (take n ps) ++ (l ++ joined (drop (suc n) ps))) (e ∙ ap (remove_key (is_at (pair_cmp k))) is) ∙ left x lt
 
-    pub gone : (qs : List (List (ℕ × PlaceValue))) (m : ℕ) → n < length ps → m ≡ n + 1 → length (get_or ps n []) ≡ 1 → list_any (is_at (pair_cmp k)) (get_or ps n []) ≡ true → qs ≡ take n ps ++ drop m ps
+    pub gone : (qs : List (List (ℕ × RowKeyValue))) (m : ℕ) → n < length ps → m ≡ n + 1 → length (get_or ps n []) ≡ 1 → list_any (is_at (pair_cmp k)) (get_or ps n []) ≡ true → qs ≡ take n ps ++ drop m ps
         → joined qs ≡ remove_key (is_at (pair_cmp k)) (joined ps)
     gone qs m lt e one any is =
         ap joined is ∙ joined_append (take n ps) (drop m ps) ∙ ap (λ i. joined (take n ps) ++ joined (drop i ps)) {x = m} {y = suc n} (omega (arith, e))
-        ∙ ap (λ (l : List (ℕ × PlaceValue)). joined (take n ps) ++ (l ++ joined (drop (suc n) ps))) (sym (only_one (is_at (pair_cmp k)) (get_or ps n []) one any)) ∙ left [] lt
+        ∙ ap (λ (l : List (ℕ × RowKeyValue)). joined (take n ps) ++ (l ++ joined (drop (suc n) ps))) (sym (only_one (is_at (pair_cmp k)) (get_or ps n []) one any)) ∙ left [] lt
 
     -- whether the pair is there at all, by its part
     pub there_by_part : list_any (is_at (pair_cmp k)) (joined ps) ≡ list_any (is_at (pair_cmp k)) (get_or ps n [])

@@ -4,19 +4,19 @@ use Rattle.std.specs.declared.cmp.Ordering.TheVariants.{Less, Greater}
 use Rattle.std.specs.Ordering.{is_gt}
 use Rattle.std.specs.List.{AllByRecursion, slice_get}
 use Rattle.std.specs.List.Sorted.{IsStrictlySortedBy}
-use Rattle.bmp_specs.specs.Rows.{PlaceValue}
+use Rattle.bmp_specs.specs.Rows.{RowKeyValue}
 use Rattle.origin_index.specs.Pairs.{pair_cmp}
 use Rattle.origin_index.specs.Parts.{joined, IsPartOf}
 use Rattle.origin_index.proofs.Joining.{none_left, all_later, from_here, up_to_here}
 
 -- every pair of a part before `low - 1` is before the pair, and every pair of a part from `high` on after it
-pub record IsBetween (parts : List (List (ℕ × PlaceValue))) (pair : ℕ × PlaceValue) (low high : ℕ) : Type 0 where
+pub record IsBetween (parts : List (List (ℕ × RowKeyValue))) (pair : ℕ × RowKeyValue) (low high : ℕ) : Type 0 where
   pub ordered : low ≤ high
   pub within : high ≤ length parts
   pub before : AllByRecursion (λ e. pair_cmp pair e ≡ Greater) (joined (take (low - 1) parts))
   pub after : AllByRecursion (λ e. pair_cmp pair e ≡ Less) (joined (drop high parts))
 
-module _ (ps : List (List (ℕ × PlaceValue))) (k : ℕ × PlaceValue) where
+module _ (ps : List (List (ℕ × RowKeyValue))) (k : ℕ × RowKeyValue) where
   pub all_between : IsBetween ps k 0 (length ps)
   all_between = record {
     ordered = omega arith;
@@ -35,8 +35,8 @@ module _ (ps : List (List (ℕ × PlaceValue))) (k : ℕ × PlaceValue) where
     after = subst (λ n. AllByRecursion (λ e. pair_cmp k e ≡ Less) (joined (drop n ps))) {x = high} {y = suc (suc low - 1)} (let o = between.ordered in omega (arith, le, o)) between.after;
   }
 
-  module _ (s : IsStrictlySortedBy pair_cmp (joined ps)) (low high middle : ℕ) (between : IsBetween ps k low high) (from : low ≤ middle) (to : middle < high) (part : List (ℕ × PlaceValue)) (is : part ≡ get_or ps middle part)
-      (f : ℕ × PlaceValue) (first : slice_get part 0 ≡ Some f) where
+  module _ (s : IsStrictlySortedBy pair_cmp (joined ps)) (low high middle : ℕ) (between : IsBetween ps k low high) (from : low ≤ middle) (to : middle < high) (part : List (ℕ × RowKeyValue)) (is : part ≡ get_or ps middle part)
+      (f : ℕ × RowKeyValue) (first : slice_get part 0 ≡ Some f) where
     inside : middle < length ps
     inside = let w = between.within in omega (arith, to, w)
 

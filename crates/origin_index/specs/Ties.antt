@@ -15,9 +15,9 @@ use Rattle.bmp_specs.specs.declared.peers.View.TheVariants.{InPre, InPost, OutPr
 use Rattle.bmp_specs.specs.declared.wire.Family.{Family}
 use Rattle.bmp_specs.specs.declared.wire.Family.TheVariants.{V4, V6}
 use Rattle.bmp_specs.specs.Orders.{address_cmp, family_cmp, key_cmp, nlri_cmp, prefix_cmp, view_cmp}
-use Rattle.bmp_specs.specs.Rows.{PlaceValue}
+use Rattle.bmp_specs.specs.Rows.{RowKeyValue}
 use Rattle.bmp_specs.specs.Values.{AddressValue, PrefixValue, KeyValue}
-use Rattle.bmp_specs.specs.TableRows.{place_cmp}
+use Rattle.bmp_specs.specs.TableRows.{row_key_cmp}
 
 view_tied : (a b : View) → same_view.ghosts.eq a b ≡ is_eq (view_cmp a b)
 view_tied InPre InPre = refl
@@ -69,7 +69,7 @@ key_tied k j =
     both_tied _ _ (nat_cmp k.kind j.kind) (ordering_then (nat_cmp k.distinguisher j.distinguisher) (address_cmp k.address j.address)) (unsigned_ties k.kind j.kind)
     (both_tied _ _ (nat_cmp k.distinguisher j.distinguisher) (address_cmp k.address j.address) (unsigned_ties k.distinguisher j.distinguisher) (address_tied k.address j.address))
 
-pub row_tied : (a b : PlaceValue) → same_row.ghosts.eq a b ≡ is_eq (place_cmp a b)
+pub row_tied : (a b : RowKeyValue) → same_row.ghosts.eq a b ≡ is_eq (row_key_cmp a b)
 row_tied a b =
     both_tied _ _ (key_cmp a.key b.key) (ordering_then (view_cmp a.view b.view) (nlri_cmp a.nlri b.nlri)) (key_tied a.key b.key)
     (both_tied _ _ (view_cmp a.view b.view) (nlri_cmp a.nlri b.nlri) (view_tied a.view b.view)

@@ -29,10 +29,10 @@ pub struct Origins {
 impl Model for Origins {
     ghost use Rattle.std.specs.Prelude.{ℕ, List};
     ghost use Rattle.std.specs.Arc.{arc_value};
-    ghost use Rattle.bmp_specs.specs.Rows.{PlaceValue};
+    ghost use Rattle.bmp_specs.specs.Rows.{RowKeyValue};
     ghost use Rattle.origin_index.specs.Parts.{joined, IsWhole};
 
-    ghost Value = { List (ℕ × PlaceValue) };
+    ghost Value = { List (ℕ × RowKeyValue) };
 
     ghost view = { λ o. joined (arc_value o.parts).items };
 

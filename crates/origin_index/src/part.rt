@@ -29,9 +29,9 @@ impl Model for Part {
     ghost use Rattle.std.specs.Prelude.{◌≡◌, ℕ, List, Some};
     ghost use Rattle.std.specs.Arc.{arc_value};
     ghost use Rattle.std.specs.List.{slice_get};
-    ghost use Rattle.bmp_specs.specs.Rows.{PlaceValue};
+    ghost use Rattle.bmp_specs.specs.Rows.{RowKeyValue};
 
-    ghost Value = { List (ℕ × PlaceValue) };
+    ghost Value = { List (ℕ × RowKeyValue) };
 
     ghost view = { λ p. (arc_value p.pairs).keys };
 

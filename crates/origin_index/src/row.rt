@@ -3,8 +3,8 @@ ghost use Rattle.std.proofs.Common.{rules};
 ghost use Rattle.std.specs.Cmp.{partial_order_from_own_ties, partial_order_from_total};
 ghost use Rattle.std.specs.Cmp.Rules.{comparing};
 ghost use Rattle.std.specs.Ordering.{as_partial_cmp};
-ghost use Rattle.bmp_specs.specs.TableRows.{place_cmp};
-ghost use Rattle.bmp_specs.proofs.OrderLaws.{place_total};
+ghost use Rattle.bmp_specs.specs.TableRows.{row_key_cmp};
+ghost use Rattle.bmp_specs.proofs.OrderLaws.{row_key_total};
 ghost use Rattle.origin_index.specs.Ties.{row_tied};
 
 use bmp_frames::{PeerKey, View};
@@ -27,9 +27,9 @@ pub struct OriginRow {
 }
 
 impl Model for OriginRow {
-    ghost use Rattle.bmp_specs.specs.Rows.{PlaceValue};
+    ghost use Rattle.bmp_specs.specs.Rows.{RowKeyValue};
 
-    ghost Value = { PlaceValue };
+    ghost Value = { RowKeyValue };
 
     ghost view = { λ r. record { key = r.key; view = r.view; nlri = record { prefix = r.prefix; id = r.id } } };
 
@@ -37,9 +37,9 @@ impl Model for OriginRow {
 }
 
 impl Ord for OriginRow {
-    ghost cmp = { place_cmp };
+    ghost cmp = { row_key_cmp };
 
-    ghost total = { place_total };
+    ghost total = { row_key_total };
 
     ghost matches_partial_cmp = { Prim.search (comparing, rules) depth 9 };
 
@@ -55,9 +55,9 @@ impl Ord for OriginRow {
 }
 
 impl PartialOrd for OriginRow {
-    ghost partial_cmp = { as_partial_cmp place_cmp };
+    ghost partial_cmp = { as_partial_cmp row_key_cmp };
 
-    ghost laws = { partial_order_from_own_ties (partial_order_from_total place_total) row_tied };
+    ghost laws = { partial_order_from_own_ties (partial_order_from_total row_key_total) row_tied };
 
     fn partial_cmp(&self, other: &OriginRow) -> Option<Ordering> {
         Some(self.cmp(other))

@@ -1,6 +1,6 @@
 ghost use Rattle.std.specs.Prelude.{◌≡◌, IfOk};
 
-use crate::others::OtherList;
+use crate::others::{OtherList, copy_others};
 use as_path::{AsPath, Numbers};
 use std::marker::Model;
 use wire_io::{ByteList, NoMemory};
@@ -99,15 +99,6 @@ fn copy_bytes(bytes: &Option<ByteList>) -> Result<Option<ByteList>, NoMemory>
     }
 }
 
-fn copy_numbers(numbers: &Numbers) -> Result<Numbers, NoMemory>
-    ensures { IfOk result (λ copy. copy ≡ numbers.now) }
-{
-    match numbers.copy() {
-        Ok(copy) => Ok(copy),
-        Err(_) => Err(NoMemory),
-    }
-}
-
 impl Attrs {
     /// Equal attributes. It copies each byte and each number.
     pub fn copy(&self) -> Result<Attrs, NoMemory>
@@ -121,8 +112,8 @@ impl Attrs {
             pref: self.pref,
             atomic: self.atomic,
             aggregator: self.aggregator,
-            communities: copy_numbers(&self.communities)?,
-            others: self.others.copy()?,
+            communities: self.communities.copy()?,
+            others: copy_others(&self.others)?,
         })
     }
 }

@@ -34,26 +34,10 @@ impl From<NoMemory> for AttrFault {
     }
 }
 
-impl From<as_path::NoMemory> for AttrFault {
-    ghost from_gives = { λ _ fault. fault ≡ OutOfMemory };
-
-    fn from(_: as_path::NoMemory) -> Self {
-        AttrFault::NoMemory
-    }
-}
-
 impl<T: Drop> From<Unplaced<T>> for AttrFault {
     ghost from_gives = { λ _ fault. fault ≡ OutOfMemory };
 
     fn from(_: Unplaced<T>) -> Self {
-        AttrFault::NoMemory
-    }
-}
-
-impl<T: Drop> From<as_path::Unplaced<T>> for AttrFault {
-    ghost from_gives = { λ _ fault. fault ≡ OutOfMemory };
-
-    fn from(_: as_path::Unplaced<T>) -> Self {
         AttrFault::NoMemory
     }
 }

@@ -38,7 +38,7 @@ module _ (es : List EffectValue) (e : EffectValue) (key : KeyValue) (other : ¬ 
 named_there : (es : List EffectValue) (key : KeyValue) (x : EffectValue) → Latest (Names key) es x → Names key x → IsNamed es key
 named_there es key x l names =
     let here : Contains (l.before ++ x ∷ l.after) x = Contains-append_right l.before (x ∷ l.after) x (0, omega arith, refl) in
-    let there : Contains es x = subst (λ (xs : List EffectValue). Contains xs x) (sym l.place) here in
+    let there : Contains es x = subst (λ (xs : List EffectValue). Contains xs x) (sym l.split) here in
     (there.0, x, there.1, there.2, names)
 
 pub named_up : (es : List EffectValue) (key : KeyValue) (info : PeerInfoValue) → IsUpWith es key info → IsNamed es key

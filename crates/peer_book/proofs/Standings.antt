@@ -47,9 +47,9 @@ stands_by peers es ups downs completes = record { up = ups; down = downs; named 
 
 -- no effect names a peer
 pub stands_empty : StandsForPeers [] []
-stands_empty = stands_by [] [] (λ key info. (λ h. absurd cc, λ l. absurd (nothing l.before l.after (up key info) l.place)))
-    (λ key info. (λ h. absurd cc, λ l. absurd (nothing l.before l.after (down key info) l.place)))
-    (λ key view family. (λ h. absurd cc, λ c. absurd (nothing c.up.before c.up.after (up key c.info) c.up.place)))
+stands_empty = stands_by [] [] (λ key info. (λ h. absurd cc, λ l. absurd (nothing l.before l.after (up key info) l.split)))
+    (λ key info. (λ h. absurd cc, λ l. absurd (nothing l.before l.after (down key info) l.split)))
+    (λ key view family. (λ h. absurd cc, λ c. absurd (nothing c.up.before c.up.after (up key c.info) c.up.split)))
   where
     nothing : (before after : List EffectValue) (e : EffectValue) → [] ≡ before ++ e ∷ after → ⊥
     nothing [] after e h = cc

@@ -10,61 +10,11 @@ use crate::tlvs::{Tlv, are_tlvs, read_tlv};
 use byteorder::{BigEndian, ByteOrder};
 use std::alloc::Global;
 use std::marker::Model;
-use wire_io::{NoMemory, Unplaced};
+use wire_io::{List, NoMemory};
 use wire_tables::{Shape, Stat, statistic_table};
 
-/// A list of statistics, in the order of the wire. It keeps its allocator.
-#[derive(Debug, Drop)]
-pub struct StatList {
-    items: Vec<Stat>,
-}
-
-impl Model for StatList {
-    ghost use Rattle.std.specs.Prelude.{List};
-    ghost use Rattle.bmp_specs.specs.Values.{StatValue};
-
-    ghost Value = { List StatValue };
-
-    ghost view = { λ stats. stats.items.items };
-}
-
-impl StatList {
-    /// The empty list. It takes no memory.
-    pub fn new(alloc: Global) -> StatList
-        ensures { result ≡ [] }
-    {
-        StatList {
-            items: Vec::new(alloc),
-        }
-    }
-
-    /// Appends the item. After want of memory the list is as before.
-    pub fn push(&mut self, item: Stat) -> Result<(), Unplaced<Stat>>
-        ensures ok { OnOk result (self.new ≡ self.old ++ item ∷ []) }
-        ensures err { OnErr result (self.new ≡ self.old) }
-        ensures handed_back { IfErr result (λ unplaced. unplaced ≡ Unplaced.NoMemory item) }
-    {
-        match self.items.push(item) {
-            Ok(()) => Ok(()),
-            Err(failed) => Err(Unplaced::NoMemory { item: failed.value }),
-        }
-    }
-
-    /// Takes out the last item. `None` exactly where the list is empty.
-    pub fn pop(&mut self) -> Option<Stat>
-        ensures last { self.old ≡ self.new ++ option_to_list result }
-        ensures none { IsNone result ↔ (self.old ≡ []) }
-    {
-        self.items.pop()
-    }
-
-    /// Lends the items.
-    pub fn as_slice(&self) -> &[Stat]
-        ensures { result.now ≡ self.now }
-    {
-        self.items.as_slice()
-    }
-}
+/// A list of statistics, in the order of the wire.
+pub type StatList = List<Stat>;
 
 /// A Statistics Report (RFC 7854, section 4.8).
 #[derive(Drop)]

@@ -4,10 +4,10 @@ use Rattle.bmp_specs.specs.declared.wire.Family.TheVariants.{V4}
 use Rattle.bmp_specs.specs.declared.wire.SegmentKind.TheVariants.{Sequence}
 use Rattle.bmp_specs.specs.declared.peers.Detail.TheVariants.{Unread}
 use Rattle.bmp_specs.specs.Values.{AddressValue, AttrsValue, KeyValue, OpenValue, PeerInfoValue, EffectValue, up, down, announce, withdraw, mark, passed}
-use Rattle.bmp_specs.specs.Rows.{PlaceValue, RowValue}
+use Rattle.bmp_specs.specs.Rows.{RowKeyValue, RowValue}
 use Rattle.plain_model.specs.declared.values.Address.{Address}
 use Rattle.plain_model.specs.declared.values.Peer.{Peer}
-use Rattle.plain_model.specs.declared.values.Place.{Place}
+use Rattle.plain_model.specs.declared.values.RowKey.{RowKey}
 use Rattle.plain_model.specs.declared.values.Route.{Route}
 use Rattle.plain_model.specs.declared.values.Row.{Row}
 use Rattle.plain_model.specs.declared.values.Effect.{Effect}
@@ -19,8 +19,8 @@ address_value a = record { family = a.family; octets = a.octets }
 abbrev pub key_value : Peer → KeyValue
 key_value p = record { kind = p.kind; distinguisher = p.distinguisher; address = address_value p.address }
 
-abbrev pub place_value : Place → PlaceValue
-place_value p = record {
+abbrev pub row_key_value : RowKey → RowKeyValue
+row_key_value p = record {
   key = key_value p.peer;
   view = p.view;
   nlri = record { prefix = record { address = address_value p.address; bits = p.bits }; id = p.id };
@@ -41,7 +41,7 @@ route_value r = record {
 }
 
 abbrev pub row_value : Row → RowValue
-row_value r = record { place = place_value r.place; route = route_value r.route }
+row_value r = record { row_key = row_key_value r.row_key; route = route_value r.route }
 
 -- an OPEN and an address of which nothing is told
 abbrev pub plain_open : OpenValue
@@ -67,7 +67,7 @@ info_value asn = record {
 abbrev pub effect_value : Effect → EffectValue
 effect_value (Up peer asn) = up (key_value peer) (info_value asn)
 effect_value (Down peer reason) = down (key_value peer) (record { reason = reason; detail = Unread })
-effect_value (Announce row) = announce (key_value row.place.peer) row.place.view (place_value row.place).nlri (route_value row.route)
-effect_value (Withdraw place) = withdraw (key_value place.peer) place.view (place_value place).nlri
+effect_value (Announce row) = announce (key_value row.row_key.peer) row.row_key.view (row_key_value row.row_key).nlri (route_value row.route)
+effect_value (Withdraw place) = withdraw (key_value place.peer) place.view (row_key_value place).nlri
 effect_value (Mark peer view family) = mark (key_value peer) view family
 effect_value Passed = passed

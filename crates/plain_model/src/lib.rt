@@ -19,7 +19,7 @@ mod tests;
 mod values;
 
 pub use bmp_specs::{Family, View, Why};
-pub use order::place_order;
+pub use order::row_key_order;
 pub use stream::{End, Meaning, Walked, walk};
 pub use table::{row_at, rows};
-pub use values::{Address, Effect, Peer, Place, Route, Row};
+pub use values::{Address, Effect, Peer, RowKey, Route, Row};

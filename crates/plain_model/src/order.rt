@@ -1,9 +1,9 @@
 ghost use Rattle.std.specs.Prelude.{◌≡◌, ◌↔◌, IsTrue};
 ghost use Rattle.bmp_specs.specs.Orders.{family_number, view_number, address_cmp, key_cmp};
-ghost use Rattle.bmp_specs.specs.TableRows.{place_cmp};
-ghost use Rattle.plain_model.specs.Values.{address_value, key_value, place_value};
+ghost use Rattle.bmp_specs.specs.TableRows.{row_key_cmp};
+ghost use Rattle.plain_model.specs.Values.{address_value, key_value, row_key_value};
 
-use crate::values::{Address, Peer, Place};
+use crate::values::{Address, Peer, RowKey};
 use bmp_specs::{Family, View};
 use std::cmp::Ordering;
 
@@ -47,8 +47,8 @@ fn peer_order(a: &Peer, b: &Peer) -> Ordering
 
 /// Which of two places comes first in a reply: by peer, then by view, then by prefix and path
 /// identifier.
-pub fn place_order(a: &Place, b: &Place) -> Ordering
-    ensures { result ≡ place_cmp (place_value a.now) (place_value b.now) }
+pub fn row_key_order(a: &RowKey, b: &RowKey) -> Ordering
+    ensures { result ≡ row_key_cmp (row_key_value a.now) (row_key_value b.now) }
 {
     let prefix = address_order(&a.address, &b.address).then(a.bits.cmp(&b.bits));
     let nlri = prefix.then(a.id.cmp(&b.id));
@@ -64,8 +64,8 @@ pub fn is_same_peer(a: &Peer, b: &Peer) -> bool
 }
 
 /// Tells whether two places are one.
-pub fn is_same_place(a: &Place, b: &Place) -> bool
-    ensures { IsTrue result ↔ (place_value a.now ≡ place_value b.now) }
+pub fn is_same_row_key(a: &RowKey, b: &RowKey) -> bool
+    ensures { IsTrue result ↔ (row_key_value a.now ≡ row_key_value b.now) }
 {
-    place_order(a, b).is_eq()
+    row_key_order(a, b).is_eq()
 }

@@ -3,32 +3,32 @@ ghost use Rattle.plain_model.specs.declared.values.Row.{Row};
 ghost use Rattle.std.specs.List.Sorted.{IsStrictlySortedBy};
 ghost use Rattle.bmp_specs.specs.PeerUp.{IsUp};
 ghost use Rattle.bmp_specs.specs.Rows.{RowValue, ReplacesRow};
-ghost use Rattle.bmp_specs.specs.TableRows.{place_cmp, AreTableRows};
-ghost use Rattle.plain_model.specs.Rows.{IsRowAt, LeaveRow, KeepsUp, places_of, IsGap, Puts};
-ghost use Rattle.plain_model.specs.Values.{key_value, place_value, row_value, effect_value};
+ghost use Rattle.bmp_specs.specs.TableRows.{row_key_cmp, AreTableRows};
+ghost use Rattle.plain_model.specs.Rows.{IsRowAt, LeaveRow, KeepsUp, row_keys_of, IsGap, Puts};
+ghost use Rattle.plain_model.specs.Values.{key_value, row_key_value, row_value, effect_value};
 
-use crate::order::{is_same_peer, is_same_place, place_order};
-use crate::values::{Effect, Peer, Place, Row};
+use crate::order::{is_same_peer, is_same_row_key, row_key_order};
+use crate::values::{Effect, Peer, RowKey, Row};
 use std::alloc::{AllocError, Global};
 use std::cmp::Ordering;
 
 // Tells whether the effect ends what stands at the place.
-fn replaces(effect: &Effect, place: &Place) -> bool
-    ensures { IsTrue result ↔ ReplacesRow (place_value place.now) (effect_value effect.now) }
+fn replaces(effect: &Effect, place: &RowKey) -> bool
+    ensures { IsTrue result ↔ ReplacesRow (row_key_value place.now) (effect_value effect.now) }
 {
     match effect {
         Effect::Up { peer, .. } => is_same_peer(peer, &place.peer),
         Effect::Down { peer, .. } => is_same_peer(peer, &place.peer),
-        Effect::Announce(row) => is_same_place(&row.place, place),
-        Effect::Withdraw(other) => is_same_place(other, place),
+        Effect::Announce(row) => is_same_row_key(&row.row_key, place),
+        Effect::Withdraw(other) => is_same_row_key(other, place),
         Effect::Mark { .. } => false,
         Effect::Passed => false,
     }
 }
 
 // Tells whether the effects end nothing that stands at the place.
-fn leave(effects: &[Effect], place: &Place) -> bool
-    ensures { IsTrue result ↔ LeaveRow (place_value place.now) (map effect_value effects.now) }
+fn leave(effects: &[Effect], place: &RowKey) -> bool
+    ensures { IsTrue result ↔ LeaveRow (row_key_value place.now) (map effect_value effects.now) }
 {
     for effect in effects {
         if replaces(effect, place) {
@@ -69,22 +69,22 @@ pub fn row_at(effects: &[Effect], at: usize) -> Option<Row>
     let Effect::Announce(row) = effects[at] else {
         return None;
     };
-    if !is_up(&effects[..at], &row.place.peer) {
+    if !is_up(&effects[..at], &row.row_key.peer) {
         return None;
     }
-    if !leave(&effects[at + 1..], &row.place) {
+    if !leave(&effects[at + 1..], &row.row_key) {
         return None;
     }
     Some(row)
 }
 
 // Finds the place among rows in order: the index where it stands, or where it has to stand.
-fn find_place(rows: &[Row], place: &Place) -> Result<usize, usize>
-    ensures there { IfOk result (λ at. (row : Row) × (slice_get rows.now at ≡ Some row) × (place_value row.place ≡ place_value place.now)) }
-    ensures gap { IfErr result (λ at. IsGap (places_of (map row_value rows.now)) (place_value place.now) at) }
+fn find_place(rows: &[Row], place: &RowKey) -> Result<usize, usize>
+    ensures there { IfOk result (λ at. (row : Row) × (slice_get rows.now at ≡ Some row) × (row_key_value row.row_key ≡ row_key_value place.now)) }
+    ensures gap { IfErr result (λ at. IsGap (row_keys_of (map row_value rows.now)) (row_key_value place.now) at) }
 {
     for (at, row) in rows.iter().enumerate() {
-        match place_order(&row.place, place) {
+        match row_key_order(&row.row_key, place) {
             Ordering::Less => {}
             Ordering::Equal => return Ok(at),
             Ordering::Greater => return Err(at),
@@ -95,10 +95,10 @@ fn find_place(rows: &[Row], place: &Place) -> Result<usize, usize>
 
 // Puts the row where it belongs, unless a row stands at its place.
 fn put(rows: &mut Vec<Row>, row: Row) -> Result<(), AllocError>
-    requires { IsStrictlySortedBy place_cmp (places_of (map row_value rows.old.items)) }
+    requires { IsStrictlySortedBy row_key_cmp (row_keys_of (map row_value rows.old.items)) }
     ensures { OnOk result (Puts (map row_value rows.old.items) (row_value row) (map row_value rows.new.items)) }
 {
-    if let Err(at) = find_place(rows, &row.place) {
+    if let Err(at) = find_place(rows, &row.row_key) {
         rows.insert(at, row)?;
     }
     Ok(())

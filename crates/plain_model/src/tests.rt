@@ -1,7 +1,7 @@
 ghost use Rattle.std.specs.Prelude.{◌≡◌, ◌≢◌, ◌==◌, length, if◌then◌else◌};
 
 use crate::{
-    Address, Effect, End, Family, Meaning, Peer, Place, Route, Row, View, Why, rows, walk,
+    Address, Effect, End, Family, Meaning, Peer, RowKey, Route, Row, View, Why, rows, walk,
 };
 use std::alloc::{AllocError, Global};
 use std::process::Abort;
@@ -139,13 +139,13 @@ fn up(kind: u8) -> Effect {
 }
 
 // 10.0.0.0/8 of a peer, or 10.1.0.0/16 where `second` is set.
-fn place(kind: u8, view: View, second: bool, id: Option<u32>) -> Place {
+fn place(kind: u8, view: View, second: bool, id: Option<u32>) -> RowKey {
     let (address, bits) = if second {
         (address([10, 1, 0, 0]), 16)
     } else {
         (address([10, 0, 0, 0]), 8)
     };
-    Place {
+    RowKey {
         peer: peer(kind),
         view,
         address,
@@ -154,9 +154,9 @@ fn place(kind: u8, view: View, second: bool, id: Option<u32>) -> Place {
     }
 }
 
-fn row(place: Place, origin: u32) -> Row {
+fn row(row_key: RowKey, origin: u32) -> Row {
     Row {
-        place,
+        row_key,
         route: Route { origin },
     }
 }
@@ -188,7 +188,7 @@ fn announced_routes_stand_in_order(rt: HostRuntime) -> Result<(), Fail> {
     let again = [
         up(0),
         Effect::Announce(first),
-        Effect::Withdraw(first.place),
+        Effect::Withdraw(first.row_key),
         Effect::Announce(first),
     ];
     check_rows(&rt, alloc, &again, &[first])?;
@@ -227,7 +227,7 @@ fn routes_go_with_their_peer_and_by_their_path(rt: HostRuntime) -> Result<(), Fa
         Effect::Announce(nine),
         Effect::Announce(seven),
         Effect::Announce(inward),
-        Effect::Withdraw(seven.place),
+        Effect::Withdraw(seven.row_key),
     ];
     check_rows(&rt, alloc, &paths, &[inward, nine])?;
     Ok(())

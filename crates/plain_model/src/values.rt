@@ -17,7 +17,7 @@ pub struct Peer {
 
 /// Where a route stands: its peer, the RIB that it was seen in, its prefix and its path identifier.
 #[derive(Clone, Copy, Debug, PartialEq, Eq)]
-pub struct Place {
+pub struct RowKey {
     pub peer: Peer,
     pub view: View,
     pub address: Address,
@@ -34,7 +34,7 @@ pub struct Route {
 /// A route at its place.
 #[derive(Clone, Copy, Debug, PartialEq, Eq)]
 pub struct Row {
-    pub place: Place,
+    pub row_key: RowKey,
     pub route: Route,
 }
 
@@ -54,7 +54,7 @@ pub enum Effect {
     /// A route is announced.
     Announce(Row),
     /// The route at the place is withdrawn.
-    Withdraw(Place),
+    Withdraw(RowKey),
     /// An End-of-RIB marker (RFC 4724, section 2).
     Mark {
         peer: Peer,

@@ -130,7 +130,7 @@ nine_fields next origin path med pref atomic agg comm other = simp (append_assoc
 pub attribute_parts : (a : AttrsValue) → spaced (attribute_fields a) ≡ mandatory_text a ++ (metrics_text a ++ remaining_text a)
 attribute_parts a = nine_fields (text_or_absent hop_text a.hop) (text_or_absent origin_text a.origin) (text_or_absent path_text a.path) (text_or_absent number_text a.med) (text_or_absent number_text a.pref) (yes_or_no a.atomic) (text_or_absent aggregator_text a.aggregator) (comma_list (map community_text a.communities)) (others_text a.others)
 
-pub route_parts : (row : RowValue) → further (route_fields row) ≡ spaced (key_text row.place.key ∷ view_text row.place.view ∷ prefix_text row.place.nlri.prefix ∷ []) ++ (spaced (attribute_fields row.route) ++ further (id_fields row.place.nlri.id))
+pub route_parts : (row : RowValue) → further (route_fields row) ≡ spaced (key_text row.row_key.key ∷ view_text row.row_key.view ∷ prefix_text row.row_key.nlri.prefix ∷ []) ++ (spaced (attribute_fields row.route) ++ further (id_fields row.row_key.nlri.id))
 route_parts row =
-    let place : List (List ℕ) = key_text row.place.key ∷ view_text row.place.view ∷ prefix_text row.place.nlri.prefix ∷ [] in
-    further-append place (attribute_fields row.route ++ id_fields row.place.nlri.id) ∙ ap (λ (l : List ℕ). spaced place ++ l) (further-append (attribute_fields row.route) (id_fields row.place.nlri.id))
+    let place : List (List ℕ) = key_text row.row_key.key ∷ view_text row.row_key.view ∷ prefix_text row.row_key.nlri.prefix ∷ [] in
+    further-append place (attribute_fields row.route ++ id_fields row.row_key.nlri.id) ∙ ap (λ (l : List ℕ). spaced place ++ l) (further-append (attribute_fields row.route) (id_fields row.row_key.nlri.id))

@@ -98,7 +98,7 @@ fn put_id<O: Sink>(out: &mut O, id: Option<u32>) -> Result<(), Failed>
 
 // Writes the fields of a route from its peer on, and the end of the line.
 fn put_fields<O: Sink>(out: &mut O, row: &OriginRow, attrs: &Attrs) -> Result<(), Failed>
-    ensures { Writes O.faults O.told O.aside out.old (further (route_fields (record { place = row.now; route = attrs.now }))) result out.new }
+    ensures { Writes O.faults O.told O.aside out.old (further (route_fields (record { row_key = row.now; route = attrs.now }))) result out.new }
 {
     put_place(out, row)?;
     put_attributes(out, attrs)?;
@@ -114,7 +114,7 @@ pub fn put_route<O: Sink>(
     row: &OriginRow,
     attrs: &Attrs,
 ) -> Result<(), Failed>
-    ensures { Writes O.faults O.told O.aside out.old (route_line lane (record { place = row.now; route = attrs.now })) result out.new }
+    ensures { Writes O.faults O.told O.aside out.old (route_line lane (record { row_key = row.now; route = attrs.now })) result out.new }
 {
     put_number(out, b"route ", lane)?;
     put_fields(out, row, attrs)

@@ -7,60 +7,10 @@ ghost use Rattle.station_doors.specs.MemPort.{MemPortValue};
 use crate::{MemPort, Port, Yard};
 use std::alloc::Global;
 use std::marker::Model;
-use wire_io::{Failed, NoMemory, Unplaced};
+use wire_io::{Failed, List, NoMemory};
 
-/// A list of ports that keeps its allocator.
-#[derive(Drop)]
-pub struct PortList {
-    items: Vec<MemPort>,
-}
-
-impl Model for PortList {
-    ghost use Rattle.std.specs.Prelude.{List};
-    ghost use Rattle.station_doors.specs.MemPort.{MemPortValue};
-
-    ghost Value = { List MemPortValue };
-
-    ghost view = { λ l. l.items.items };
-}
-
-impl PortList {
-    /// The empty list. It takes no memory.
-    pub fn new(alloc: Global) -> PortList
-        ensures { result ≡ [] }
-    {
-        PortList {
-            items: Vec::new(alloc),
-        }
-    }
-
-    /// Appends the port. On want of memory it is handed back, and the list is as before.
-    pub fn push(&mut self, item: MemPort) -> Result<(), Unplaced<MemPort>>
-        ensures ok { OnOk result (self.new ≡ self.old ++ item ∷ []) }
-        ensures err { OnErr result (self.new ≡ self.old) }
-        ensures handed_back { IfErr result (λ unplaced. unplaced ≡ Unplaced.NoMemory item) }
-    {
-        match self.items.push(item) {
-            Ok(()) => Ok(()),
-            Err(full) => Err(Unplaced::NoMemory { item: full.value }),
-        }
-    }
-
-    /// Takes out the last port. None where the list is empty.
-    pub fn pop(&mut self) -> Option<MemPort>
-        ensures some { IfSome result (λ port. self.old ≡ self.new ++ port ∷ []) }
-        ensures none { IfNone result ((self.old ≡ []) × (self.new ≡ [])) }
-    {
-        self.items.pop()
-    }
-
-    /// Lends the ports.
-    pub fn as_slice(&self) -> &[MemPort]
-        ensures { result.now ≡ self.now }
-    {
-        self.items.as_slice()
-    }
-}
+/// A list of ports.
+pub type PortList = List<MemPort>;
 
 // A port that was given back under this number.
 #[derive(Drop)]
@@ -103,7 +53,7 @@ impl MemYard {
         requires { All IsUntouched ports }
         ensures { IfOk result (λ y. y ≡ record { tells = record { ports = map plan_of ports; fails = fails.now; out = []; back = [] }; calls = 0; faults = 0 }) }
     {
-        let PortList { items: ports } = ports;
+        let ports = ports.into_vec();
         let fails = Vec::from_slice(alloc, fails)?;
         let out = Vec::with_capacity(alloc, ports.len())?;
         let back = Vec::with_capacity(alloc, ports.len())?;

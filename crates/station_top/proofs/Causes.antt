@@ -6,8 +6,8 @@ use Rattle.std.proofs.lemmas.List.{take_all}
 use Rattle.bmp_specs.specs.declared.causes.Cause.{Cause}
 use Rattle.bmp_specs.specs.declared.causes.Cause.TheVariants.{Ended, Terminated, CutShort, Broken, ReadFault, Full}
 use Rattle.bmp_specs.specs.Life.{LastRead, gave, gave_none, failed, most_taken, IsUndecided, IsCause}
-use Rattle.bmp_specs.specs.MessageBody.{no_peers}
-use Rattle.bmp_specs.specs.MessageEffects.{IsMessageEntry}
+use Rattle.bmp_specs.specs.Meaning.{WalksBy}
+use Rattle.bmp_specs.specs.MessageEffects.{strict}
 use Rattle.bmp_specs.specs.Values.{EntryValue}
 use Rattle.bmp_specs.specs.Walk.{Verdict, whole, more, terminated, broken, Walks}
 use Rattle.bmp_specs.proofs.LifeOne.{cause_of_termination, cause_of_break, cause_of_fullness, cause_of_end, cause_of_cut, cause_of_fault}
@@ -26,22 +26,22 @@ undecided (suc n) = subst (λ (b : Bool). IsUndecided (if b then whole else more
 
 module _ (bytes : List ℕ) (messages : List EntryValue) (offset : ℕ) where
   -- the last read gave no byte
-  pub come_end : (rest : ℕ) → length bytes < most_taken → Walks IsMessageEntry no_peers bytes messages offset (verdict_with rest) → HasCome (record { bytes = bytes; last = gave_none }) messages (cause_at_end rest offset)
+  pub come_end : (rest : ℕ) → length bytes < most_taken → WalksBy strict bytes messages offset (verdict_with rest) → HasCome (record { bytes = bytes; last = gave_none }) messages (cause_at_end rest offset)
   come_end zero room w = record { offset = offset; verdict = whole; within = omega (arith, room); walk = w; because = cause_of_end (length bytes) offset (below_most (length bytes) room) }
   come_end (suc n) room w = subst (λ (b : Bool). HasCome (record { bytes = bytes; last = gave_none }) messages (if b then Ended else CutShort offset)) (sym (eqb-suc-zero n)) (record {
     offset = offset;
     verdict = more;
     within = omega (arith, room);
-    walk = subst (λ (b : Bool). Walks IsMessageEntry no_peers bytes messages offset (if b then whole else more)) (eqb-suc-zero n) w;
+    walk = subst (λ (b : Bool). WalksBy strict bytes messages offset (if b then whole else more)) (eqb-suc-zero n) w;
     because = cause_of_cut (length bytes) offset (below_most (length bytes) room);
   })
 
   -- the last read failed
-  pub come_fault : (rest : ℕ) → length bytes < most_taken → Walks IsMessageEntry no_peers bytes messages offset (verdict_with rest) → HasCome (record { bytes = bytes; last = failed }) messages (ReadFault (length bytes))
+  pub come_fault : (rest : ℕ) → length bytes < most_taken → WalksBy strict bytes messages offset (verdict_with rest) → HasCome (record { bytes = bytes; last = failed }) messages (ReadFault (length bytes))
   come_fault rest room w = record { offset = offset; verdict = verdict_with rest; within = omega (arith, room); walk = w; because = cause_of_fault (length bytes) (verdict_with rest) offset (undecided rest) (below_most (length bytes) room) }
 
   -- the limit was reached
-  pub come_full : (rest : ℕ) → length bytes ≡ most_taken → Walks IsMessageEntry no_peers bytes messages offset (verdict_with rest) → HasCome (record { bytes = bytes; last = gave }) messages Full
+  pub come_full : (rest : ℕ) → length bytes ≡ most_taken → WalksBy strict bytes messages offset (verdict_with rest) → HasCome (record { bytes = bytes; last = gave }) messages Full
   come_full rest full w = record { offset = offset; verdict = verdict_with rest; within = omega (arith, full); walk = w; because = cause_of_fullness (length bytes) gave (verdict_with rest) offset (undecided rest) full }
 
 -- the walk ended in the bytes

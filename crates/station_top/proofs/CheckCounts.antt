@@ -9,10 +9,8 @@ use Rattle.bmp_specs.specs.Check.{check_counts, check_lines, length_of, is_messa
 use Rattle.bmp_specs.specs.Lines.{number_line}
 use Rattle.bmp_specs.specs.Reply.{told_count}
 use Rattle.bmp_specs.specs.Values.{EffectValue, EntryValue, opened, message, closed}
-use Rattle.bmp_message.specs.StreamWalk.{WalkValue, HasReached}
-use Rattle.station_top.specs.Ledger.{DrawsNext}
-use Rattle.station_top.specs.declared.ledger.Drawn.TheVariants as drawn
 use Rattle.station_top.specs.Check.{AreCounts, counts_more, lines_of, number_lines}
+use Rattle.rib_model.specs.declared.effect.Effect.{Effect}
 use Rattle.rib_model.specs.declared.entry.Entry.{Entry}
 use Rattle.rib_model.specs.declared.entry.Entry.TheVariants.{Opened, Message, Closed}
 use Rattle.rib_model.specs.Entries.{entry_value}
@@ -86,10 +84,9 @@ counts_message c kind len effects entries h =
       other = told_where entries m is_of_other_kind c.other e.other;
     })
 
--- a message of this type and length was drawn of a walk, and counted, whatever its effects are
-pub draws_counted : (c now : Counts) (kind len : ℕ) (fed : List ℕ) (given : List EntryValue) (walk : WalkValue) → now ≡ counts_more c kind len
-    → (effects : List EffectValue) × HasReached fed (given ++ message kind len effects ∷ []) walk → DrawsNext (AreCounts c) (AreCounts now) fed given walk drawn.Message
-draws_counted c now kind len fed given walk is (effects, reached) = (message kind len effects, reached, λ entries h. rw is (counts_message c kind len effects entries h))
+-- a message of this type and length was counted, whatever its effects are
+pub takes_counted : (c now : Counts) (kind len : ℕ) → now ≡ counts_more c kind len → (e : EntryValue) → (effects : List EffectValue) × (e ≡ message kind len effects) → (entries : List EntryValue) → AreCounts c entries → AreCounts now (entries ++ e ∷ [])
+takes_counted c now kind len is e (effects, same) entries h = rw (is, same) (counts_message c kind len effects entries h)
 
 -- no count counts it
 record IsUncounted (e : EntryValue) : Type 0 where
@@ -119,7 +116,7 @@ uncounted c entries e none h = let each_one = each c entries h in all c (entries
     of_kind k = same (λ m. cond (is_of_kind k m) 1 0) (none.kind k)
 
 -- an opening or a closing is counted by none
-pub counts_other : (c : Counts) (entry : Entry) (entries : List EntryValue) → ((kind len : ℕ) (effects : List EffectValue) → entry ≡ Message kind len effects → ⊥) → AreCounts c entries → AreCounts c (entries ++ entry_value entry ∷ [])
+pub counts_other : (c : Counts) (entry : Entry) (entries : List EntryValue) → ((kind len : ℕ) (effects : List Effect) → entry ≡ Message kind len effects → ⊥) → AreCounts c entries → AreCounts c (entries ++ entry_value entry ∷ [])
 counts_other c Opened entries none h = uncounted c entries opened (record { bytes = refl; message = refl; kind = λ k. refl; other = refl }) h
 counts_other c (Closed cause) entries none h = uncounted c entries (closed cause) (record { bytes = refl; message = refl; kind = λ k. refl; other = refl }) h
 counts_other c (Message kind len effects) entries none h = absurd (none kind len effects refl)

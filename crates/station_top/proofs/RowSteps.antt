@@ -7,12 +7,12 @@ use Rattle.std.specs.BTreeMap.{get, is_at}
 use Rattle.std.specs.Map.{lookup}
 use Rattle.bmp_specs.specs.Orders.{key_cmp}
 use Rattle.bmp_specs.specs.PeerUp.{Names, IsUp}
-use Rattle.bmp_specs.specs.Rows.{PlaceValue, ReplacesRow, HasRow}
-use Rattle.bmp_specs.specs.TableRows.{place_cmp}
+use Rattle.bmp_specs.specs.Rows.{RowKeyValue, ReplacesRow, HasRow}
+use Rattle.bmp_specs.specs.TableRows.{row_key_cmp}
 use Rattle.bmp_specs.specs.Values.{NlriValue, KeyValue, PeerInfoValue, DownInfoValue, AttrsValue, EffectValue, up, down, announce, withdraw, mark, statistic, named, described, orphan, mirrored, passed, unread}
 use Rattle.bmp_specs.specs.declared.peers.View.{View}
 use Rattle.bmp_specs.proofs.LatestLaws.{no_middle}
-use Rattle.bmp_specs.proofs.OrderLaws.{place_total, place_exact, same_or_other}
+use Rattle.bmp_specs.proofs.OrderLaws.{row_key_total, row_key_exact, same_or_other}
 use Rattle.bmp_specs.proofs.RowLaws.{up_now, up_still, up_from, row_now, row_still, row_from, names_or_other}
 use Rattle.rib_model.specs.declared.effect.Effect.{Effect}
 use Rattle.rib_model.specs.declared.effect.Effect.TheVariants.{Up, Down, Announce, Withdraw}
@@ -27,21 +27,21 @@ pub on_ok : {T E P Q : Type 0} (r : Result T E) → (P → Q) → OnOk r P → O
 on_ok (Ok t) f p = f p
 on_ok (Err e) f p = tt
 
-at_place : (key : KeyValue) (place : Place) (p : PlaceValue) → (key ≡ p.key) × (place.view ≡ p.view) × (place.nlri ≡ p.nlri) → place_of key place ≡ p
+at_place : (key : KeyValue) (place : Place) (p : RowKeyValue) → (key ≡ p.key) × (place.view ≡ p.view) × (place.nlri ≡ p.nlri) → place_of key place ≡ p
 at_place key place p (k, v, n) = λ i. record { key = k i; view = v i; nlri = n i }
 
-of_place : (key : KeyValue) (place : Place) (p : PlaceValue) → place_of key place ≡ p → (key ≡ p.key) × (place.view ≡ p.view) × (place.nlri ≡ p.nlri)
-of_place key place p same = (ap (λ (q : PlaceValue). q.key) same, ap (λ (q : PlaceValue). q.view) same, ap (λ (q : PlaceValue). q.nlri) same)
+of_place : (key : KeyValue) (place : Place) (p : RowKeyValue) → place_of key place ≡ p → (key ≡ p.key) × (place.view ≡ p.view) × (place.nlri ≡ p.nlri)
+of_place key place p same = (ap (λ (q : RowKeyValue). q.key) same, ap (λ (q : RowKeyValue). q.view) same, ap (λ (q : RowKeyValue). q.nlri) same)
 
-place_or_other : (key : KeyValue) (place : Place) (p : PlaceValue)
+place_or_other : (key : KeyValue) (place : Place) (p : RowKeyValue)
     → ((key ≡ p.key) × (place.view ≡ p.view) × (place.nlri ≡ p.nlri)) ⊎ ¬ ((key ≡ p.key) × (place.view ≡ p.view) × (place.nlri ≡ p.nlri))
-place_or_other key place p = elim (same_or_other place_cmp place_total place_exact (place_of key place) p) [
+place_or_other key place p = elim (same_or_other row_key_cmp row_key_total row_key_exact (place_of key place) p) [
   | inl same ↦ inl (of_place key place p same)
   | inr other ↦ inr (λ t. other (at_place key place p t))
 ]
 
 -- an effect ends what stands at a place or not
-pub replaces_or_other : (p : PlaceValue) (e : EffectValue) → ReplacesRow p e ⊎ ¬ (ReplacesRow p e)
+pub replaces_or_other : (p : RowKeyValue) (e : EffectValue) → ReplacesRow p e ⊎ ¬ (ReplacesRow p e)
 replaces_or_other p (up k info) = same_key k p.key
 replaces_or_other p (down k info) = same_key k p.key
 replaces_or_other p (announce k view nlri route) = place_or_other k (record { view = view; nlri = nlri }) p
@@ -59,8 +59,8 @@ replaces_or_other p (unread parts) = inr (λ n. n)
 pub record Follows (old new : Peers) (e : EffectValue) : Type 0 where
   pub named : (key : KeyValue) → Names key e → IsTrue (has_peer new key) ↔ ((info : PeerInfoValue) × (e ≡ up key info))
   pub others : (key : KeyValue) → ¬ (Names key e) → has_peer new key ≡ has_peer old key
-  pub replaced : (p : PlaceValue) (route : AttrsValue) → ReplacesRow p e → (route_at new p ≡ Some route) ↔ ((e ≡ announce p.key p.view p.nlri route) × IsTrue (has_peer old p.key))
-  pub kept : (p : PlaceValue) → ¬ (ReplacesRow p e) → route_at new p ≡ route_at old p
+  pub replaced : (p : RowKeyValue) (route : AttrsValue) → ReplacesRow p e → (route_at new p ≡ Some route) ↔ ((e ≡ announce p.key p.view p.nlri route) × IsTrue (has_peer old p.key))
+  pub kept : (p : RowKeyValue) → ¬ (ReplacesRow p e) → route_at new p ≡ route_at old p
 
 pub holds_step : (old new : Peers) (e : EffectValue) → Follows old new e → (es : List EffectValue) → Holds old es → Holds new (es ++ e ∷ [])
 holds_step old new e f es h = record {
@@ -74,14 +74,14 @@ holds_step old new e f es h = record {
       λ u. elim (up_from es e key u) [ inl is ↦ absurd (other (subst (Names key) (sym is.1) refl)) | inr v ↦ f.others key other ∙ (h.up key).1 v.0 ],
     )
   ];
-  rows = λ row. elim (replaces_or_other row.place e) [
+  rows = λ row. elim (replaces_or_other row.row_key e) [
     | inl here ↦ (
-      λ t. let u = (f.replaced row.place row.route here).0 t in subst (λ (d : EffectValue). HasRow (es ++ d ∷ []) row) (sym u.0) (row_now es row ((h.up row.place.key).0 u.1)),
-      λ u. elim (row_from es e row u) [ inl is ↦ (f.replaced row.place row.route here).1 (is.0, (h.up row.place.key).1 is.1) | inr v ↦ absurd (v.1 here) ],
+      λ t. let u = (f.replaced row.row_key row.route here).0 t in subst (λ (d : EffectValue). HasRow (es ++ d ∷ []) row) (sym u.0) (row_now es row ((h.up row.row_key.key).0 u.1)),
+      λ u. elim (row_from es e row u) [ inl is ↦ (f.replaced row.row_key row.route here).1 (is.0, (h.up row.row_key.key).1 is.1) | inr v ↦ absurd (v.1 here) ],
     )
     | inr other ↦ (
-      λ t. row_still es e row other ((h.rows row).0 (sym (f.kept row.place other) ∙ t)),
-      λ u. elim (row_from es e row u) [ inl is ↦ absurd (other (subst (ReplacesRow row.place) (sym is.0) (refl, refl, refl))) | inr v ↦ f.kept row.place other ∙ (h.rows row).1 v.0 ],
+      λ t. row_still es e row other ((h.rows row).0 (sym (f.kept row.row_key other) ∙ t)),
+      λ u. elim (row_from es e row u) [ inl is ↦ absurd (other (subst (ReplacesRow row.row_key) (sym is.0) (refl, refl, refl))) | inr v ↦ f.kept row.row_key other ∙ (h.rows row).1 v.0 ],
     )
   ];
 }
@@ -120,7 +120,7 @@ pub follows_announce : (old new : Peers) (k : KeyValue) (place : Place) (route :
 follows_announce old new k place route c = record {
   named = λ key n. absurd n;
   others = λ key other. c.peers key;
-  replaced = λ p other same. subst (λ (q : PlaceValue). (route_at new q ≡ Some other) ↔ ((announce k place.view place.nlri route ≡ announce q.key q.view q.nlri other) × IsTrue (has_peer old q.key)))
+  replaced = λ p other same. subst (λ (q : RowKeyValue). (route_at new q ≡ Some other) ↔ ((announce k place.view place.nlri route ≡ announce q.key q.view q.nlri other) × IsTrue (has_peer old q.key)))
       (at_place k place p same) (put_here (has_peer old k) k place route other (route_at new (place_of k place)) c.here);
   kept = λ p other. c.others p (λ same. other (of_place k place p same));
 }
@@ -134,14 +134,14 @@ follows_withdraw old new k place c = record {
   named = λ key n. absurd n;
   others = λ key other. c.peers key;
   replaced = λ p route same. (
-    λ t. absurd (none_some route (route_at new p) (subst (λ (q : PlaceValue). route_at new q ≡ None) (at_place k place p same) (c.here ∙ either_none (has_peer old k))) t),
+    λ t. absurd (none_some route (route_at new p) (subst (λ (q : RowKeyValue). route_at new q ≡ None) (at_place k place p same) (c.here ∙ either_none (has_peer old k))) t),
     λ t. let e : withdraw k place.view place.nlri ≡ announce p.key p.view p.nlri route = t.0 in absurd cc,
   );
   kept = λ p other. c.others p (λ same. other (of_place k place p same));
 }
 
 -- an effect that names no peer and ends no row
-pub follows_other : (peers : Peers) (e : EffectValue) → ((key : KeyValue) → ¬ (Names key e)) → ((p : PlaceValue) → ¬ (ReplacesRow p e)) → Follows peers peers e
+pub follows_other : (peers : Peers) (e : EffectValue) → ((key : KeyValue) → ¬ (Names key e)) → ((p : RowKeyValue) → ¬ (ReplacesRow p e)) → Follows peers peers e
 follows_other peers e unnamed no_row = record {
   named = λ key n. absurd (unnamed key n);
   others = λ key other. refl;
@@ -157,7 +157,7 @@ module _ (peers : Peers) (e : Effect) (not_up : (key : KeyValue) (info : Arc Pee
   names_none (Down k info) is key n = not_down k info is
   names_none _ is key n = n
 
-  replaces_none : (f : Effect) → e ≡ f → (p : PlaceValue) → ¬ (ReplacesRow p (effect_value f))
+  replaces_none : (f : Effect) → e ≡ f → (p : RowKeyValue) → ¬ (ReplacesRow p (effect_value f))
   replaces_none (Up k info) is p n = not_up k info is
   replaces_none (Down k info) is p n = not_down k info is
   replaces_none (Announce k view nlri route) is p n = not_announce k view nlri route is
@@ -172,11 +172,11 @@ pub holds_nothing : (peers : Peers) → peers.entries ≡ [] → Holds peers []
 holds_nothing peers empty = record {
   up = λ key. (
     λ t. let e : false ≡ true = sym (ap is_some (none key)) ∙ t in absurd cc,
-    λ u. absurd (no_middle u.1.before u.1.after (up key u.0) u.1.place),
+    λ u. absurd (no_middle u.1.before u.1.after (up key u.0) u.1.split),
   );
   rows = λ row. (
-    λ t. absurd (none_some row.route (route_at peers row.place) (ap (λ o. route_in o (record { view = row.place.view; nlri = row.place.nlri })) (none row.place.key)) t),
-    λ u. absurd (no_middle u.announced.before u.announced.after (announce row.place.key row.place.view row.place.nlri row.route) u.announced.place),
+    λ t. absurd (none_some row.route (route_at peers row.row_key) (ap (λ o. route_in o (record { view = row.row_key.view; nlri = row.row_key.nlri })) (none row.row_key.key)) t),
+    λ u. absurd (no_middle u.announced.before u.announced.after (announce row.row_key.key row.row_key.view row.row_key.nlri row.route) u.announced.split),
   );
 }
   where

@@ -8,7 +8,8 @@ use Rattle.bmp_specs.specs.declared.causes.Cause.{Cause}
 use Rattle.bmp_specs.specs.declared.causes.Cause.TheVariants.{ReadFault, Full}
 use Rattle.bmp_specs.specs.Life.{LastRead, gave, gave_none, failed, most_taken, most_read, IsReadNoFurther}
 use Rattle.bmp_specs.specs.MessageBody.{no_peers}
-use Rattle.bmp_specs.specs.MessageEffects.{IsMessageEntry}
+use Rattle.bmp_specs.specs.Meaning.{WalksBy}
+use Rattle.bmp_specs.specs.MessageEffects.{strict}
 use Rattle.bmp_specs.specs.Values.{EntryValue, opened}
 use Rattle.bmp_specs.specs.Walk.{Verdict, Walks}
 use Rattle.wire_io.specs.declared.sink.Failed.{Failed}
@@ -142,13 +143,13 @@ taking_none Stands a calls walk new first reached (place, none) = record {
 }
 
 -- as many entries as there are: fewer than 64 bits hold
-exact : (Stands : List EntryValue → Type 0) (bytes : List ℕ) (messages : List EntryValue) (offset revision : ℕ) (v : Verdict) → length bytes ≤ most_taken → Walks IsMessageEntry no_peers bytes messages offset v → HasNoted Stands messages revision
+exact : (Stands : List EntryValue → Type 0) (bytes : List ℕ) (messages : List EntryValue) (offset revision : ℕ) (v : Verdict) → length bytes ≤ most_taken → WalksBy strict bytes messages offset v → HasNoted Stands messages revision
     → revision ≡ length (opened ∷ messages)
 exact Stands bytes messages offset revision v within w noted = let long = walk_lengths no_peers bytes messages offset v w in omega (arith, within, noted.count, long.count, long.within)
 
 -- a walk that waits was read no further
-waits : (bytes : List ℕ) (messages : List EntryValue) (offset rest : ℕ) → Walks IsMessageEntry no_peers bytes messages offset (verdict_with rest) → IsReadNoFurther IsMessageEntry no_peers bytes
-waits bytes messages offset rest w = subst (λ (l : List ℕ). IsReadNoFurther IsMessageEntry no_peers l) (append-nil bytes) (read_no_further bytes messages offset (verdict_with rest) w (undecided rest) [] (omega arith))
+waits : (bytes : List ℕ) (messages : List EntryValue) (offset rest : ℕ) → WalksBy strict bytes messages offset (verdict_with rest) → IsReadNoFurther strict bytes
+waits bytes messages offset rest w = subst (λ (l : List ℕ). IsReadNoFurther strict l) (append-nil bytes) (read_no_further bytes messages offset (verdict_with rest) w (undecided rest) [] (omega arith))
 
 module _ (Stands : List EntryValue → Type 0) (a0 a : Aside) (calls0 c n : ℕ) (walk : WalkValue) (revision : ℕ) (t : Taking Stands a0 a calls0 c n walk revision) where
   -- a read gave none

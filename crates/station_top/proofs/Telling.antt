@@ -11,7 +11,7 @@ use Rattle.std.proofs.lemmas.List.{append-nil}
 use Rattle.std.proofs.lemmas.List.Elements.{filter-append}
 use mathlib.Core.Bool.{true, false}
 use Rattle.bmp_specs.specs.RouteLine.{route_line}
-use Rattle.bmp_specs.specs.Rows.{PlaceValue, RowValue}
+use Rattle.bmp_specs.specs.Rows.{RowKeyValue, RowValue}
 use Rattle.bmp_specs.specs.Selection.{SelectValue}
 use Rattle.bmp_specs.specs.Values.{KeyValue, AttrsValue}
 use Rattle.wire_io.specs.declared.sink.Failed.{Failed}
@@ -53,10 +53,10 @@ lines_append [] ys = refl
 lines_append (x ∷ xs) ys = ap (λ (l : List ℕ). route_line 0 x ++ l) (lines_append xs ys) ∙ sym (append_assoc (route_line 0 x) (lines_of xs) (lines_of ys))
 
 -- the line of a row that is kept, or none
-pub told_row : (select : SelectValue) (key : KeyValue) (e : Place × Arc AttrsValue Global) (place : PlaceValue) (route : AttrsValue) → place ≡ place_of key e.0 → route ≡ arc_value e.1 → keeps_row select (row_of key e) ≡ true
-    → route_line 0 (record { place = place; route = route }) ≡ lines_of (filter (keeps_row select) (row_of key e ∷ []))
+pub told_row : (select : SelectValue) (key : KeyValue) (e : Place × Arc AttrsValue Global) (place : RowKeyValue) (route : AttrsValue) → place ≡ place_of key e.0 → route ≡ arc_value e.1 → keeps_row select (row_of key e) ≡ true
+    → route_line 0 (record { row_key = place; route = route }) ≡ lines_of (filter (keeps_row select) (row_of key e ∷ []))
 told_row select key e place route p r kept =
-    ap (λ (row : RowValue). route_line 0 row) (λ i. record { place = p i; route = r i })
+    ap (λ (row : RowValue). route_line 0 row) (λ i. record { row_key = p i; route = r i })
     ∙ sym (append-nil (route_line 0 (row_of key e)))
     ∙ sym (ap lines_of (cond-true (keeps_row select (row_of key e)) (row_of key e ∷ []) [] kept))
 

@@ -2,8 +2,8 @@
 use Rattle.std.specs.Prelude.{ℕ, ◌≤◌, Bool, true, false, List, [], ◌∷◌, length}
 use Rattle.bmp_specs.specs.declared.causes.Cause.{Cause}
 use Rattle.bmp_specs.specs.Life.{gave_none, failed, IsCause, most_taken}
-use Rattle.bmp_specs.specs.MessageBody.{no_peers}
-use Rattle.bmp_specs.specs.MessageEffects.{IsMessageEntry}
+use Rattle.bmp_specs.specs.Meaning.{WalksBy}
+use Rattle.bmp_specs.specs.MessageEffects.{strict}
 use Rattle.bmp_specs.specs.Values.{EntryValue}
 use Rattle.bmp_specs.specs.Walk.{Verdict, Walks}
 use Rattle.wire_io.specs.Aside.{Given}
@@ -20,5 +20,5 @@ pub record HasCome (input : Given) (messages : List EntryValue) (cause : Cause) 
   pub offset : ℕ
   pub verdict : Verdict
   pub within : length input.bytes ≤ most_taken
-  pub walk : Walks IsMessageEntry no_peers input.bytes messages offset verdict
+  pub walk : WalksBy strict input.bytes messages offset verdict
   pub because : IsCause (length input.bytes) input.last verdict offset cause

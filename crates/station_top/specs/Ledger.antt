@@ -3,15 +3,12 @@ use Rattle.std.specs.Prelude.{◌≡◌, ℕ, ◌^◌, ◌<◌, List, [], ◌∷
 use Rattle.bmp_specs.specs.declared.causes.Cause.{Cause}
 use Rattle.bmp_specs.specs.declared.causes.Cause.TheVariants as cause
 use Rattle.bmp_specs.specs.Check.{length_of}
-use Rattle.bmp_specs.specs.MessageBody.{no_peers}
-use Rattle.bmp_specs.specs.MessageEffects.{IsMessageEntry}
+use Rattle.bmp_specs.specs.Meaning.{WalksBy}
+use Rattle.bmp_specs.specs.MessageEffects.{strict}
 use Rattle.bmp_specs.specs.Reply.{told_count}
 use Rattle.bmp_specs.specs.Values.{EntryValue, opened}
 use Rattle.bmp_specs.specs.Walk.{Walks, terminated, broken}
-use Rattle.bmp_message.specs.StreamWalk.{WalkValue, HasReached, GoesOn, EndsAt, rest_of, verdict_with}
-use Rattle.bmp_message.specs.declared.walk.Progress.TheVariants as progress
-use Rattle.station_top.specs.declared.ledger.Drawn.{Drawn}
-use Rattle.station_top.specs.declared.ledger.Drawn.TheVariants as drawn
+use Rattle.bmp_message.specs.StreamWalk.{WalkValue, HasReached, EndsAt, rest_of, verdict_with}
 
 -- The text is the reply on the entries that the ledger stands for, where this is their number, and fewer than 2^64 bytes came.
 abbrev pub RepliesBy : (List EntryValue → Type 0) → (List EntryValue → List ℕ → Type 0) → ℕ → List ℕ → Type 0
@@ -21,18 +18,6 @@ RepliesBy Stands Replies revision text = (entries : List EntryValue) → Stands 
 pub record HasNoted (Stands : List EntryValue → Type 0) (messages : List EntryValue) (revision : ℕ) : Type 0 where
   pub noted : Stands (opened ∷ messages)
   pub count : revision ≡ told_count (length (opened ∷ messages))
-
--- a ledger that stood for some entries stands for them still
-abbrev pub Stays : (List EntryValue → Type 0) → (List EntryValue → Type 0) → Type 0
-Stays Old New = (entries : List EntryValue) → Old entries → New entries
-
--- What a ledger drew of a walk: the entry of the next message, with which the run goes on; or none, and the walk gives none
--- here either.
-abbrev pub DrawsNext : (List EntryValue → Type 0) → (List EntryValue → Type 0) → List ℕ → List EntryValue → WalkValue → Drawn → Type 0
-DrawsNext Old New fed given walk drawn.Message = (e : EntryValue) × HasReached fed (given ++ e ∷ []) walk × ((entries : List EntryValue) → Old entries → New (entries ++ e ∷ []))
-DrawsNext Old New fed given walk drawn.More = GoesOn fed given walk progress.More × Stays Old New
-DrawsNext Old New fed given walk drawn.Terminated = GoesOn fed given walk progress.Terminated × Stays Old New
-DrawsNext Old New fed given walk (drawn.Broken why) = GoesOn fed given walk (progress.Broken why) × Stays Old New
 
 -- a walk of these bytes gave the messages that were noted
 pub record HasDrawn (Stands : List EntryValue → Type 0) (fed : List ℕ) (walk : WalkValue) (revision : ℕ) : Type 0 where
@@ -53,7 +38,7 @@ EndsBy fed messages cause.Full = ⊥
 pub record IsDrained (Stands : List EntryValue → Type 0) (fed : List ℕ) (walk : WalkValue) (revision : ℕ) : Type 0 where
   pub messages : List EntryValue
   pub reached : HasReached fed messages walk
-  pub walks : Walks IsMessageEntry no_peers fed messages walk.offset (verdict_with (rest_of walk))
+  pub walks : WalksBy strict fed messages walk.offset (verdict_with (rest_of walk))
   pub noted : HasNoted Stands messages revision
 
 -- all messages of the bytes were noted, and the walk ends here

@@ -5,8 +5,7 @@ use Rattle.bmp_specs.specs.declared.causes.Cause.{Cause}
 use Rattle.bmp_specs.specs.Check.{check_lines}
 use Rattle.bmp_specs.specs.Lines.{stop_line, usage_line}
 use Rattle.bmp_specs.specs.Life.{IsReadNoFurther}
-use Rattle.bmp_specs.specs.MessageBody.{no_peers}
-use Rattle.bmp_specs.specs.MessageEffects.{IsMessageEntry}
+use Rattle.bmp_specs.specs.MessageEffects.{strict}
 use Rattle.bmp_specs.specs.TableReply.{IsTableReply}
 use Rattle.bmp_specs.specs.Values.{EntryValue, opened}
 use Rattle.wire_io.specs.Aside.{Aside, Given, Plan}
@@ -55,7 +54,7 @@ pub data Runs (Replies : List EntryValue → List ℕ → Type 0) (old new : Opt
   refused : Refuses old new number → Runs Replies old new number YardFault []
   -- the input was taken, and no further than its walk goes: the reply on its opening and its messages, then the stop
   -- line, and the port is given back
-  replied : (input : Given) (messages : List EntryValue) (cause : Cause) (reply : List ℕ) → HasCome input messages cause → IsReadNoFurther IsMessageEntry no_peers input.bytes → Replies (opened ∷ messages) reply
+  replied : (input : Given) (messages : List EntryValue) (cause : Cause) (reply : List ℕ) → HasCome input messages cause → IsReadNoFurther strict input.bytes → Replies (opened ∷ messages) reply
       → LendsWhereTold (λ plan shows. Comes plan shows input messages cause) old new → Runs Replies old new number (status_of cause) (reply ++ stop_line cause)
   -- want of memory while the input was taken: nothing is written, and the port is given back, with what it gave until then
   starved : LendsWhereTold BreaksOff old new → Runs Replies old new number NoMemory []
@@ -101,7 +100,7 @@ pub record IsTaken (Stands : List EntryValue → Type 0) (old new : Option YardV
   pub come : HasCome input messages taken.cause
   pub noted : Stands (opened ∷ messages)
   pub count : taken.revision ≡ length (opened ∷ messages)
-  pub no_further : IsReadNoFurther IsMessageEntry no_peers input.bytes
+  pub no_further : IsReadNoFurther strict input.bytes
   pub lends : LendsWhereTold (λ plan shows. Comes plan shows input messages taken.cause) old new
 
 abbrev pub FromYard : (List EntryValue → Type 0) → Option YardValue → Option YardValue → ℕ → Result Taken Status → Type 0

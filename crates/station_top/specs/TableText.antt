@@ -32,11 +32,11 @@ abbrev pub keeps_place : SelectValue → Place → Bool
 keeps_place select place = is_named view_cmp select.view place.view && is_named family_cmp select.family place.nlri.prefix.address.family
 
 abbrev pub keeps_row : SelectValue → RowValue → Bool
-keeps_row select row = keeps_peer select row.place.key && keeps_place select (within_peer row.place)
+keeps_row select row = keeps_peer select row.row_key.key && keeps_place select (within_peer row.row_key)
 
 -- a row of a peer
 abbrev pub row_of : KeyValue → Place × Arc AttrsValue Global → RowValue
-row_of key row = record { place = place_of key row.0; route = arc_value row.1 }
+row_of key row = record { row_key = place_of key row.0; route = arc_value row.1 }
 
 -- the rows of a peer, and of all peers, in their order
 abbrev pub rows_of : KeyValue × Rows → List RowValue

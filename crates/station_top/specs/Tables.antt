@@ -7,7 +7,7 @@ use Rattle.std.specs.BTreeMap.{BTreeMap, get}
 use Rattle.std.specs.Option.{option_map}
 use Rattle.bmp_specs.specs.Orders.{key_cmp}
 use Rattle.bmp_specs.specs.PeerUp.{IsUp}
-use Rattle.bmp_specs.specs.Rows.{PlaceValue, RowValue, HasRow}
+use Rattle.bmp_specs.specs.Rows.{RowKeyValue, RowValue, HasRow}
 use Rattle.bmp_specs.specs.Session.{live, state_of, session_effects}
 use Rattle.bmp_specs.specs.Values.{KeyValue, AttrsValue, EffectValue, EntryValue}
 use Rattle.station_top.specs.declared.place.Place.{Place}
@@ -30,13 +30,13 @@ abbrev pub route_in : Option Rows → Place → Option AttrsValue
 route_in None place = None
 route_in (Some rows) place = option_map arc_value (get peer_place_cmp rows place)
 
-abbrev pub route_at : Peers → PlaceValue → Option AttrsValue
+abbrev pub route_at : Peers → RowKeyValue → Option AttrsValue
 route_at peers place = route_in (get key_cmp peers place.key) (within_peer place)
 
 -- the peers are those that are up after the effects, and their rows those that the effects leave
 pub record Holds (peers : Peers) (effects : List EffectValue) : Type 0 where
   pub up : (key : KeyValue) → IsTrue (has_peer peers key) ↔ IsUp effects key
-  pub rows : (row : RowValue) → (route_at peers row.place ≡ Some row.route) ↔ HasRow effects row
+  pub rows : (row : RowValue) → (route_at peers row.row_key ≡ Some row.route) ↔ HasRow effects row
 
 -- the tables tell whether a session goes on after the entries, its peers that are up, and its rows
 pub record StandsFor (tables : Tables) (entries : List EntryValue) : Type 0 where
@@ -47,11 +47,11 @@ pub record StandsFor (tables : Tables) (entries : List EntryValue) : Type 0 wher
 pub record Puts (old new : Peers) (key : KeyValue) (place : Place) (route : Option AttrsValue) : Type 0 where
   pub peers : (k : KeyValue) → has_peer new k ≡ has_peer old k
   pub here : route_at new (place_of key place) ≡ (if has_peer old key then route else None)
-  pub others : (p : PlaceValue) → ¬ (place_of key place ≡ p) → route_at new p ≡ route_at old p
+  pub others : (p : RowKeyValue) → ¬ (place_of key place ≡ p) → route_at new p ≡ route_at old p
 
 -- this peer is there or not, without a row; all else is as before
 pub record Clears (old new : Peers) (key : KeyValue) (is_there : Bool) : Type 0 where
   pub here : has_peer new key ≡ is_there
-  pub empty : (p : PlaceValue) → key ≡ p.key → route_at new p ≡ None
+  pub empty : (p : RowKeyValue) → key ≡ p.key → route_at new p ≡ None
   pub peers : (k : KeyValue) → ¬ (key ≡ k) → has_peer new k ≡ has_peer old k
-  pub others : (p : PlaceValue) → ¬ (key ≡ p.key) → route_at new p ≡ route_at old p
+  pub others : (p : RowKeyValue) → ¬ (key ≡ p.key) → route_at new p ≡ route_at old p

@@ -4,8 +4,7 @@ use Rattle.std.specs.Io.KnownBytes.{Consumes, IsAtEnd}
 use Rattle.bmp_specs.specs.declared.causes.Cause.{Cause}
 use Rattle.bmp_specs.specs.declared.causes.Cause.TheVariants.{Ended, Terminated, CutShort, Broken, ReadFault, Full}
 use Rattle.bmp_specs.specs.Life.{LastRead, gave, gave_none, failed, most_taken, most_read, IsReadNoFurther}
-use Rattle.bmp_specs.specs.MessageBody.{no_peers}
-use Rattle.bmp_specs.specs.MessageEffects.{IsMessageEntry}
+use Rattle.bmp_specs.specs.MessageEffects.{strict}
 use Rattle.bmp_specs.specs.Values.{EntryValue, opened}
 use Rattle.wire_io.specs.Aside.{Aside, Given, Plan}
 use Rattle.wire_io.specs.Faults.{Rose}
@@ -67,7 +66,7 @@ pub record TakesBytes (old new : Aside) (calls : ℕ) (bytes : List ℕ) (last :
   pub given : GivesMore old.given new.given bytes last
   pub refused : new.refused ≡ old.refused
   pub within : length bytes ≤ most_taken
-  pub no_further : IsReadNoFurther IsMessageEntry no_peers bytes
+  pub no_further : IsReadNoFurther strict bytes
   pub end : last ≡ gave_none → IsAtEnd new.rest
   pub planned : calls ≡ 0 → IfSome old.plan (λ plan. ReadsAsPlanned plan bytes last)
   pub open_faults : new.open_faults ≡ old.open_faults
@@ -119,7 +118,7 @@ pub record HasBegun (plan : Plan) (shows : Aside) : Type 0 where
   pub rest : List ℕ
   pub front : first_of plan.connections ≡ bytes ++ rest
   pub within : length bytes ≤ most_taken
-  pub no_further : IsReadNoFurther IsMessageEntry no_peers bytes
+  pub no_further : IsReadNoFurther strict bytes
   pub reads : ℕ
   pub gives : Gives plan reads bytes
   pub opening : shows.open_faults ≡ 0
@@ -137,5 +136,5 @@ pub record TakesInput (Stands : List EntryValue → Type 0) (old new : Aside) (c
   pub come : HasCome input messages taken.cause
   pub noted : Stands (opened ∷ messages)
   pub count : taken.revision ≡ length (opened ∷ messages)
-  pub no_further : IsReadNoFurther IsMessageEntry no_peers input.bytes
+  pub no_further : IsReadNoFurther strict input.bytes
   pub shows : (plan : Plan) → old ≡ untouched plan → calls ≡ 0 → Comes plan new input messages taken.cause

@@ -4,8 +4,8 @@ ghost use Rattle.bmp_specs.specs.Values.{EntryValue};
 ghost use Rattle.wire_io.specs.Writes.{Writes};
 ghost use Rattle.station_top.specs.Check.{AreCounts, counted, counts_more, number_lines};
 
-use crate::ledger::{Drawn, Ledger};
-use bmp_message::{Judgement, StreamWalk};
+use crate::ledger::Ledger;
+use bmp_message::{Judged, Judgements};
 use itoa::Buffer;
 use rib_model::Entry;
 use wire_io::{Failed, NoMemory, Sink, write_pieces};
@@ -70,6 +70,8 @@ impl Ledger for Counts {
     // all ten counts are told
     type Ask = ();
 
+    type Wants = Judgements;
+
     ghost stands = { AreCounts };
 
     ghost replies = { λ _ entries bytes. bytes ≡ check_lines entries };
@@ -84,16 +86,9 @@ impl Ledger for Counts {
     }
 
     // The effects of a message aren't made, since no count needs them.
-    fn draw(&mut self, walk: &mut StreamWalk) -> Result<Drawn, NoMemory> {
-        match walk.judge_next()? {
-            Judgement::Message { kind, length } => {
-                self.count(kind, length);
-                Ok(Drawn::Message)
-            }
-            Judgement::More => Ok(Drawn::More),
-            Judgement::Terminated => Ok(Drawn::Terminated),
-            Judgement::Broken(why) => Ok(Drawn::Broken(why)),
-        }
+    fn take(&mut self, item: Judged) -> Result<(), NoMemory> {
+        self.count(item.kind, item.length);
+        Ok(())
     }
 
     fn put_reply<O: Sink>(&self, out: &mut O, _ask: &(), revision: u64) -> Result<(), Failed> {

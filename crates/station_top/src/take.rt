@@ -7,8 +7,8 @@ ghost use Rattle.bmp_message.specs.StreamWalk.{rest_of, fed_of};
 ghost use Rattle.station_top.specs.Ledger.{HasDrawn, Draws};
 ghost use Rattle.station_top.specs.Take.{IsNew, Takes, TakesBytes, TakesInput, BreaksOff, cause_at_end};
 
-use crate::ledger::{Drawn, Ledger};
-use bmp_message::StreamWalk;
+use crate::ledger::Ledger;
+use bmp_message::{Progress, StreamWalk};
 use bmp_specs::Cause;
 use rib_model::Entry;
 use station_doors::Port;
@@ -124,11 +124,14 @@ fn drain<L: Ledger>(
     ensures fed { IfOk result (λ end. fed_of walk.new ≡ fed_of walk.old) }
 {
     loop {
-        match ledger.draw(walk)? {
-            Drawn::Message => *revision = revision.saturating_add(1),
-            Drawn::More => return Ok(None),
-            Drawn::Terminated => return Ok(Some(Cause::Terminated)),
-            Drawn::Broken(why) => return Ok(Some(Cause::Broken {
+        match walk.next::<L::Wants>()? {
+            Progress::Message(item) => {
+                ledger.take(item)?;
+                *revision = revision.saturating_add(1);
+            }
+            Progress::More => return Ok(None),
+            Progress::Terminated => return Ok(Some(Cause::Terminated)),
+            Progress::Broken(why) => return Ok(Some(Cause::Broken {
                 offset: walk.offset(),
                 why,
             })),

@@ -3,7 +3,7 @@ use Rattle.std.proofs.Common.{◌≡◌, ℕ, ◌+◌, cond, List, [], ◌∷◌
 use Rattle.std.specs.Prelude.{count_by, sum_by}
 use Rattle.std.proofs.lemmas.List.Sums.{sum_by-append}
 use Rattle.bmp_specs.specs.Check.{length_of}
-use Rattle.bmp_specs.specs.Counts.{CountsValue, counts_of, is_orphan, is_mirrored, is_passed, unread_parts}
+use Rattle.bmp_specs.specs.Counts.{CountsValue, counts_of, is_orphan, is_mirrored, is_passed, parts_in}
 use Rattle.bmp_specs.specs.Reply.{told_count}
 use Rattle.bmp_specs.specs.Session.{live, state_of, session_messages, session_effects}
 use Rattle.bmp_specs.specs.Values.{EffectValue, EntryValue, message}
@@ -30,7 +30,7 @@ counts_pushed entries kind len effects is_live =
     let messages = told_pushed (length (session_messages entries)) 1 _ (ap length all ∙ length-append (session_messages entries) one) in
     let bytes = told_pushed (sum_by length_of (session_messages entries)) len _ (ap (sum_by length_of) all ∙ sum_pushed length_of (session_messages entries) (message kind len effects)) in
     let orphans = told_pushed (count_by is_orphan (session_effects entries)) (count_by is_orphan effects) _ (ap (count_by is_orphan) told ∙ sum_by-append (λ e. cond (is_orphan e) 1 0) (session_effects entries) effects) in
-    let unheard = told_pushed (sum_by unread_parts (session_effects entries)) (sum_by unread_parts effects) _ (ap (sum_by unread_parts) told ∙ sum_by-append unread_parts (session_effects entries) effects) in
+    let unheard = told_pushed (sum_by parts_in (session_effects entries)) (sum_by parts_in effects) _ (ap (sum_by parts_in) told ∙ sum_by-append parts_in (session_effects entries) effects) in
     let mirrored = told_pushed (count_by is_mirrored (session_effects entries)) (count_by is_mirrored effects) _ (ap (count_by is_mirrored) told ∙ sum_by-append (λ e. cond (is_mirrored e) 1 0) (session_effects entries) effects) in
     let passed = told_pushed (count_by is_passed (session_effects entries)) (count_by is_passed effects) _ (ap (count_by is_passed) told ∙ sum_by-append (λ e. cond (is_passed e) 1 0) (session_effects entries) effects) in
     λ i. record { messages = messages i; bytes = bytes i; orphans = orphans i; unread = unheard i; mirrored = mirrored i; passed = passed i }
@@ -41,7 +41,7 @@ message_pushed a len effects e =
     let messages = told_more a.messages 1 0 1 (omega arith) in
     let bytes = told_more a.bytes len 0 len (omega arith) in
     let orphans = told_more a.orphans (count_by is_orphan effects) (cond (is_orphan e) 1 0) _ (sum_pushed (λ d. cond (is_orphan d) 1 0) effects e) in
-    let unheard = told_more a.unread (sum_by unread_parts effects) (unread_parts e) _ (sum_pushed unread_parts effects e) in
+    let unheard = told_more a.unread (sum_by parts_in effects) (parts_in e) _ (sum_pushed parts_in effects e) in
     let mirrored = told_more a.mirrored (count_by is_mirrored effects) (cond (is_mirrored e) 1 0) _ (sum_pushed (λ d. cond (is_mirrored d) 1 0) effects e) in
     let passed = told_more a.passed (count_by is_passed effects) (cond (is_passed e) 1 0) _ (sum_pushed (λ d. cond (is_passed d) 1 0) effects e) in
     λ i. record { messages = messages i; bytes = bytes i; orphans = orphans i; unread = unheard i; mirrored = mirrored i; passed = passed i }

@@ -29,7 +29,7 @@ kept es e key stat other = (
 
 -- no effect reports a statistic
 pub stands_empty : StandsForStats [] []
-stands_empty = record { values = λ key stat. (λ h. absurd cc, λ s. absurd (nothing s.reported.before s.reported.after (statistic key stat) s.reported.place)) }
+stands_empty = record { values = λ key stat. (λ h. absurd cc, λ s. absurd (nothing s.reported.before s.reported.after (statistic key stat) s.reported.split)) }
   where
     nothing : (before after : List EffectValue) (e : EffectValue) → [] ≡ before ++ e ∷ after → ⊥
     nothing [] after e h = cc
@@ -149,7 +149,7 @@ up_by_statistic es key stat h =
       record {
         before = l.before;
         after = l.after ++ statistic key stat ∷ r.after;
-        place = r.place ∙ ap (λ (xs : List EffectValue). xs ++ statistic key stat ∷ r.after) l.place ∙ append_assoc l.before (up key u.0 ∷ l.after) (statistic key stat ∷ r.after);
+        place = r.row_key ∙ ap (λ (xs : List EffectValue). xs ++ statistic key stat ∷ r.after) l.place ∙ append_assoc l.before (up key u.0 ∷ l.after) (statistic key stat ∷ r.after);
         last = none_after l.after r.after l.last r.last;
       },
     )

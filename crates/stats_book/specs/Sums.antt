@@ -1,6 +1,6 @@
 -- Counts that are added up. Each ends at the greatest number of 64 bits.
 use Rattle.std.specs.Prelude.{ℕ, ◌+◌, List, count_by, sum_by, if◌then◌else◌}
-use Rattle.bmp_specs.specs.Counts.{CountsValue, is_orphan, is_mirrored, is_passed, unread_parts}
+use Rattle.bmp_specs.specs.Counts.{CountsValue, is_orphan, is_mirrored, is_passed, parts_in}
 use Rattle.bmp_specs.specs.Reply.{told_count}
 use Rattle.bmp_specs.specs.Values.{EffectValue}
 
@@ -23,7 +23,7 @@ effect_counts e = record {
   messages = 0;
   bytes = 0;
   orphans = if is_orphan e then 1 else 0;
-  unread = unread_parts e;
+  unread = parts_in e;
   mirrored = if is_mirrored e then 1 else 0;
   passed = if is_passed e then 1 else 0;
 }
@@ -34,7 +34,7 @@ message_counts len effects = record {
   messages = 1;
   bytes = len;
   orphans = count_by is_orphan effects;
-  unread = sum_by unread_parts effects;
+  unread = sum_by parts_in effects;
   mirrored = count_by is_mirrored effects;
   passed = count_by is_passed effects;
 }

@@ -2,13 +2,13 @@ ghost use Rattle.std.specs.Prelude.{◌≡◌, ◌++◌, OnOk, IfOk};
 ghost use Rattle.as_path.specs.Leading.{Takes};
 ghost use Rattle.bmp_specs.specs.MergedPath.{lead, merged_path};
 
-use crate::faults::NoMemory;
 use crate::numbers::Numbers;
 use crate::path::count::total_count;
 use crate::path::{AsPath, append};
 use crate::segment::Segment;
 use bmp_specs::SegmentKind;
 use std::alloc::Global;
+use wire_io::NoMemory;
 
 // What the leading part of a path takes of one segment.
 enum Taken {

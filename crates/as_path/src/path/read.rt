@@ -3,13 +3,14 @@ ghost use Rattle.bmp_specs.specs.AsPath.{as_width, IsAsNumber, AreAsNumbers, Are
 ghost use Rattle.bmp_specs.specs.Values.{SegmentValue};
 ghost use Rattle.as_path.specs.Reading.{HasHeader};
 
-use crate::faults::{NoMemory, PathFault};
+use crate::faults::PathFault;
 use crate::numbers::Numbers;
 use crate::path::AsPath;
 use crate::segment::Segment;
 use bmp_specs::{SegmentKind, Width};
 use byteorder::{BigEndian, ByteOrder};
 use std::alloc::Global;
+use wire_io::NoMemory;
 
 // "path segment type" (RFC 4271, section 4.3; RFC 5065, section 3).
 const AS_SET: u8 = 1;

@@ -1,10 +1,9 @@
 //! Streams that come in two pieces, cut at every place.
 
-ghost use Rattle.std.specs.Prelude.{◌≡◌, ◌+◌, ◌≤◌, [], length, IfOk};
-ghost use Rattle.bmp_message.specs.Judgement.{progress_of};
+ghost use Rattle.std.specs.Prelude.{◌≡◌, ◌+◌, ◌≤◌, length, IfOk};
 ghost use Rattle.bmp_message.specs.StreamWalk.{Advances, fed_of};
 
-use super::{Judgement, Progress, StreamWalk};
+use super::{Entries, Judged, Judgements, Progress, StreamWalk};
 use bmp_specs::Why;
 use rib_model::Entry;
 use std::alloc::Global;
@@ -28,21 +27,21 @@ const ROUTES: &str =
 // The reason is "Session administratively closed".
 const TERMINATION: &str = "030000000c05000100020000";
 
-// The next message, as `next` or as `judge_next` gives it.
-fn step(walk: &mut StreamWalk, judges: bool) -> Result<Judgement, Fail>
-    ensures { IfOk result (λ judged. Advances walk.old walk.new (progress_of [] judged)) }
+// The next message, as the one or the other reading gives it.
+fn step(walk: &mut StreamWalk, judges: bool) -> Result<Progress<Judged>, Fail>
+    ensures { IfOk result (Advances walk.old walk.new) }
 {
     if judges {
-        return Ok(walk.judge_next()?);
+        return Ok(walk.next::<Judgements>()?);
     }
-    match walk.next()? {
-        Progress::Entry(Entry::Message { kind, length, .. }) => {
-            Ok(Judgement::Message { kind, length })
+    match walk.next::<Entries>()? {
+        Progress::Message(Entry::Message { kind, length, .. }) => {
+            Ok(Progress::Message(Judged { kind, length }))
         }
-        Progress::Entry(_) => Err("no message".into()),
-        Progress::More => Ok(Judgement::More),
-        Progress::Terminated => Ok(Judgement::Terminated),
-        Progress::Broken(why) => Ok(Judgement::Broken(why)),
+        Progress::Message(_) => Err("no message".into()),
+        Progress::More => Ok(Progress::More),
+        Progress::Terminated => Ok(Progress::Terminated),
+        Progress::Broken(why) => Ok(Progress::Broken(why)),
     }
 }
 
@@ -57,12 +56,12 @@ fn drain(
 {
     loop {
         match step(walk, calls[messages.len() % 2])? {
-            Judgement::Message { kind, length } => messages.push((kind, length))?,
-            Judgement::More => return Ok("more"),
-            Judgement::Terminated => return Ok("terminated"),
-            Judgement::Broken(Why::Version) => return Ok("version"),
-            Judgement::Broken(Why::Length) => return Ok("length"),
-            Judgement::Broken(Why::Body) => return Ok("body"),
+            Progress::Message(Judged { kind, length }) => messages.push((kind, length))?,
+            Progress::More => return Ok("more"),
+            Progress::Terminated => return Ok("terminated"),
+            Progress::Broken(Why::Version) => return Ok("version"),
+            Progress::Broken(Why::Length) => return Ok("length"),
+            Progress::Broken(Why::Body) => return Ok("body"),
         }
     }
 }

@@ -3,11 +3,11 @@ use Rattle.bmp_message.specs.StreamWalk.{fed_of, rest_of}
 use Rattle.station_top.specs.Ledger.{HasDrawn}
 use Rattle.station_top.proofs.take.drain.Given as goal
 
-abbrev pub invariant-loop-revision : goal.invariant-loop-revision
-invariant-loop-revision g l = record {
+abbrev pub invariant-loop-item : goal.invariant-loop-item
+invariant-loop-item g l = record {
   fed : fed_of l.walk ≡ fed_of l.initial.walk;
   drawn : (fed : List ℕ) → HasDrawn (g.L.Ledger.stands l.initial.ledger) fed l.initial.walk l.initial.revision → HasDrawn (g.L.Ledger.stands l.ledger) fed l.walk l.revision;
 }
 
-abbrev pub decreases-loop-revision : goal.decreases-loop-revision
-decreases-loop-revision g l = rest_of l.walk
+abbrev pub decreases-loop-item : goal.decreases-loop-item
+decreases-loop-item g l = rest_of l.walk

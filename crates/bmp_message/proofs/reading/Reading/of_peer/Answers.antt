@@ -1,4 +1,5 @@
 use Rattle.std.proofs.lemmas.Result.{IfOk-weaker}
+use Rattle.rib_model.specs.Effects.{effect_values}
 use Rattle.bmp_message.specs.State.{reading_state}
 use Rattle.bmp_message.proofs.Meanings.{mirrored_of, no_mirroring}
 use Rattle.bmp_message.proofs.reading.Reading.of_peer.Goals as goal
@@ -20,7 +21,7 @@ returns-in-PeerUp-clause-broken c = rw c.in-PeerUp.is c.peer_up.ensures.broken
 
 pub returns-in-RouteMirroring-clause-ok : goal.returns-in-RouteMirroring-clause-ok
 returns-in-RouteMirroring-clause-ok c =
-    rw c.in-RouteMirroring.is (IfOk-weaker c.mirroring.result _ _ (mirrored_of (reading_state c.args.self.now) c.args.head.now c.args.key.now c.args.rest.now) c.mirroring.ensures.ok)
+    rw c.in-RouteMirroring.is (IfOk-weaker c.mirroring.result _ _ (λ effects. mirrored_of (reading_state c.args.self.now) c.args.head.now c.args.key.now c.args.rest.now (effect_values effects)) c.mirroring.ensures.ok)
 
 pub returns-in-RouteMirroring-clause-broken : goal.returns-in-RouteMirroring-clause-broken
 returns-in-RouteMirroring-clause-broken c =

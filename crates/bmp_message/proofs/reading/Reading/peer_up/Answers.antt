@@ -2,7 +2,7 @@ use Rattle.std.proofs.Common.{◌≡◌, ℕ, ◌∷◌, Some, refl, ap, ◌∙�
 use Rattle.std.specs.Arc.{arc_value}
 use Rattle.std.proofs.lemmas.Result.{err_from_is_err_and}
 use Rattle.bmp_specs.specs.MessageBody.{with_peer}
-use Rattle.bmp_specs.specs.MessageEffects.{unread_parts}
+use Rattle.bmp_specs.specs.MessageEffects.{unread_effect}
 use Rattle.bmp_specs.specs.Values.{PeerInfoValue, PeerUpValue, peer_up, up}
 use Rattle.bmp_message.specs.State.{UpPeers, opens_of, reading_state}
 use Rattle.bmp_message.proofs.Faults.{event_broken}
@@ -33,6 +33,6 @@ returns-clause-ok c =
       );
       effects_are =
           c.in_ok-effects.ensures
-          ∙ ap (λ (i : PeerInfoValue). up key i ∷ unread_parts c.up.inside.unread) info
-          ∙ ap (λ (n : ℕ). up key told.info ∷ unread_parts n) unread;
+          ∙ ap (λ (i : PeerInfoValue). up key i ∷ unread_effect c.up.inside.unread) info
+          ∙ ap (λ (n : ℕ). up key told.info ∷ unread_effect n) unread;
     }

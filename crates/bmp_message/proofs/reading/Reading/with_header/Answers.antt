@@ -1,4 +1,5 @@
 use Rattle.std.proofs.lemmas.Result.{IfOk-weaker}
+use Rattle.rib_model.specs.Effects.{effect_values}
 use Rattle.bmp_message.specs.Effects.{message_type_of}
 use Rattle.bmp_message.specs.State.{reading_state}
 use Rattle.bmp_message.proofs.Meanings.{no_header, no_meaning, of_unknown, with_key}
@@ -11,7 +12,7 @@ pub returns-in-Some-key-clause-ok : goal.returns-in-Some-key-clause-ok
 returns-in-Some-key-clause-ok c =
     let cut = c.in-Some.ensures.cases in
     IfOk-weaker c.of_peer.result _ _
-    (with_key (message_type_of c.args.kind) (reading_state c.args.self.now) c.args.body.now c.in-Some.front.now c.in-Some.rest.now c.read-head.result c.in-Some-key.key cut.0 cut.1 c.read-head.ensures c.in-Some-key.ensures (reading_state c.of_peer.new.self))
+    (λ effects. with_key (message_type_of c.args.kind) (reading_state c.args.self.now) c.args.body.now c.in-Some.front.now c.in-Some.rest.now c.read-head.result c.in-Some-key.key cut.0 cut.1 c.read-head.ensures c.in-Some-key.ensures (reading_state c.of_peer.new.self) (effect_values effects))
     c.of_peer.ensures.ok
 
 pub returns-in-Some-key-clause-broken : goal.returns-in-Some-key-clause-broken
@@ -23,4 +24,4 @@ returns-in-Some-key-clause-broken c broken =
 pub returns-in_ok-only-in-None-clause-ok : goal.returns-in_ok-only-in-None-clause-ok
 returns-in_ok-only-in-None-clause-ok c =
     of_unknown (message_type_of c.args.kind) (reading_state c.args.self.now) c.args.body.now c.in-Some.front.now c.read-head.result c.in-Some.ensures.cases.0 c.read-head.ensures c.in-None.ensures
-    c.in_ok-only-in-None.field-0 c.in_ok-only-in-None.ensures
+    (effect_values c.in_ok-only-in-None.field-0) c.in_ok-only-in-None.ensures

@@ -3,15 +3,14 @@ use Rattle.bmp_specs.specs.MessageBody.{no_peers}
 use Rattle.bmp_specs.specs.MessageEffects.{IsMessageEntry}
 use Rattle.bmp_specs.specs.Walk.{Walks, broken}
 use Rattle.bmp_frames.specs.Cutter.{CutterValue}
-use Rattle.bmp_message.specs.StreamWalk.{WalkValue, HasReached, FitsStage, EndsAt, verdict_with, rest_of, Advances}
-use Rattle.std.specs.Prelude.{IfOk}
+use Rattle.bmp_message.specs.StreamWalk.{WalkValue, HasReached, FitsStage, EndsAt, verdict_with, rest_of}
 use Rattle.bmp_message.specs.declared.walk.Stage.{Stage}
 use Rattle.bmp_message.specs.declared.walk.Stage.TheVariants.{Broken}
-use Rattle.bmp_message.proofs.Reaching.{advances_cut, reached_end, ends_bad, walks_more}
+use Rattle.bmp_message.proofs.Reaching.{reached_end, ends_bad, walks_more}
 use Rattle.bmp_message.proofs.walk.StreamWalk.cut.Goals as goal
 
 pub returns-in-More-clause-run : goal.returns-in-More-clause-run
-returns-in-More-clause-run c fed given r =
+returns-in-More-clause-run g c fed given r =
     let i = c.self.inside in
     let old : WalkValue = record { peers = i.reading; cutter = i.cutter; offset = i.offset; stage = i.stage } in
     let reached = subst (λ (w : WalkValue). HasReached fed given w) (sym c.self.view_is) r in
@@ -21,17 +20,10 @@ returns-in-More-clause-run c fed given r =
     subst (λ (k : CutterValue). HasReached fed given (record old { cutter = k }) × Walks IsMessageEntry no_peers fed given i.offset (verdict_with (rest_of (record old { cutter = k })))) (sym c.in-More.ensures.moves) (reached, walks)
 
 pub returns-in-Bad-clause-run : goal.returns-in-Bad-clause-run
-returns-in-Bad-clause-run c fed given r =
+returns-in-Bad-clause-run g c fed given r =
     let i = c.self.inside in
     let old : WalkValue = record { peers = i.reading; cutter = i.cutter; offset = i.offset; stage = i.stage } in
     let reached = subst (λ (w : WalkValue). HasReached fed given w) (sym c.self.view_is) r in
     let at = ap (λ (w : WalkValue). w.stage) c.self.view_is ∙ c.requires in
     let ends = ends_bad old fed given reached c.in-Bad.why at c.in-Bad.ensures.front in
     subst (λ (k : CutterValue). HasReached fed given (record old { cutter = k; stage = Broken c.in-Bad.why }) × EndsAt fed given i.offset (broken c.in-Bad.why)) (sym c.in-Bad.ensures.moves) (reached_end old fed given reached c.in-Bad.why i.reading ends, ends)
-
-pub returns-in-Frame-clause-advances : goal.returns-in-Frame-clause-advances
-returns-in-Frame-clause-advances c =
-    let i = c.self.inside in
-    let old : WalkValue = record { peers = i.reading; cutter = i.cutter; offset = i.offset; stage = i.stage } in
-    let moved = advances_cut old c.judge.new.self c.next.new.self c.in-Frame.kind c.in-Frame.length c.judge.result c.in-Frame.ensures.front.0 c.in-Frame.ensures.moves c.judge.ensures.advances in
-    subst (λ (w : WalkValue). IfOk c.judge.result (Advances w c.judge.new.self)) c.self.view_is moved

@@ -1,0 +1,84 @@
+ghost use Rattle.std.specs.Prelude.{◌≡◌, ◌≢◌, ◌≤◌, ◌+◌, ⊤, List, ℕ, length, IfOk, OnErr, IsErrOf};
+ghost use Rattle.bmp_specs.specs.Frame.{least};
+ghost use Rattle.bmp_specs.specs.MessageEffects.{IsMessageEntry};
+ghost use Rattle.bmp_specs.specs.Values.{EffectValue, EntryValue, message};
+ghost use Rattle.peer_events.specs.Body.{most_body};
+ghost use Rattle.rib_model.specs.Entries.{entry_value};
+ghost use Rattle.bmp_message.specs.Effects.{MeansNoEntry};
+ghost use Rattle.bmp_message.specs.State.{reading_state};
+
+use crate::reading::COMMON_HEADER;
+use crate::{EntryFault, Reading};
+use rib_model::Entry;
+
+/// What is wanted of a message that was cut.
+pub trait Reads {
+    /// What is made of it.
+    type Item;
+
+    /// It is made of the message with this entry.
+    ghost is_of: { Self.Item → EntryValue → Type 0 };
+
+    /// A message of this type may want memory.
+    ghost wants: { ℕ → Type 0 };
+
+    /// Makes it of the message of this type with this body. After a refusal the same peers are up.
+    fn read(reading: &mut Reading, kind: u8, body: &[u8]) -> Result<Self::Item, EntryFault>
+        requires { length body.now ≤ most_body }
+        ensures ok { IfOk result (λ item. (entry : EntryValue) × is_of item entry × IsMessageEntry (reading_state reading.old) kind body.now entry (reading_state reading.new)) }
+        ensures broken { IsErrOf result EntryFault.Broken → MeansNoEntry (IsMessageEntry (reading_state reading.old) kind body.now) }
+        ensures unchanged { OnErr result (reading.new ≡ reading.old) }
+        ensures wants { IsErrOf result EntryFault.NoMemory → wants kind };
+}
+
+/// Entries are wanted.
+pub struct Entries;
+
+impl Reads for Entries {
+    type Item = Entry;
+
+    ghost is_of = { λ item entry. entry ≡ entry_value item };
+
+    ghost wants = { λ _. ⊤ };
+
+    fn read(reading: &mut Reading, kind: u8, body: &[u8]) -> Result<Entry, EntryFault> {
+        reading.entry(kind, body)
+    }
+}
+
+/// The type and the length alone are wanted, and a judgement. A Route Monitoring message then costs its bytes
+/// and takes no memory.
+pub struct Judgements;
+
+/// A message that has an entry, with this "Message Type" and this "Message Length" (RFC 7854, section 4.1).
+#[derive(Clone, Copy, Debug, PartialEq, Eq)]
+pub struct Judged {
+    pub kind: u8,
+    pub length: u32,
+}
+
+// The length of the message with this body.
+fn message_length(body: &[u8]) -> u32
+    requires { length body.now ≤ most_body }
+    ensures { result ≡ least + length body.now }
+{
+    COMMON_HEADER + body.len() as u32
+}
+
+impl Reads for Judgements {
+    type Item = Judged;
+
+    ghost is_of = { λ item entry. (effects : List EffectValue) × (entry ≡ message item.kind item.length effects) };
+
+    ghost wants = { λ kind. kind ≢ 0 };
+
+    fn read(reading: &mut Reading, kind: u8, body: &[u8]) -> Result<Judged, EntryFault> {
+        match reading.judge(kind, body) {
+            Ok(()) => Ok(Judged {
+                kind,
+                length: message_length(body),
+            }),
+            Err(fault) => Err(fault),
+        }
+    }
+}
