@@ -15,6 +15,7 @@ use Rattle.bmp_specs.specs.declared.peers.View.TheVariants.{InPre, InPost, OutPr
 use Rattle.bmp_specs.specs.Values.{AddressValue, PrefixValue, NlriValue, KeyValue}
 use Rattle.bmp_specs.specs.Rows.{RowKeyValue}
 use Rattle.bmp_specs.specs.Orders.{family_number, family_cmp, view_number, view_cmp, address_cmp, prefix_cmp, nlri_cmp, key_cmp}
+use Rattle.bmp_specs.specs.StatKind.{KindValue, kind_cmp}
 use Rattle.bmp_specs.specs.TableRows.{row_key_cmp}
 
 -- two comparisons in a row tie exactly where both do
@@ -113,6 +114,18 @@ row_key_exact a b e =
     let view = view_exact a.view b.view rest.0 in
     let nlri = nlri_exact a.nlri b.nlri rest.1 in
     λ i. record { key = key i; view = view i; nlri = nlri i }
+
+pub kind_total : IsTotalOrder kind_cmp
+kind_total = then_total (on_total (λ (k : KindValue). k.code) nat_cmp_total) (then_total (on_total (λ (k : KindValue). k.afi) nat_cmp_total) (on_total (λ (k : KindValue). k.safi) nat_cmp_total))
+
+pub kind_exact : CmpEqualImpliesEq kind_cmp
+kind_exact a b e =
+    let first = both_tie (nat_cmp a.code b.code) (ordering_then (nat_cmp a.afi b.afi) (nat_cmp a.safi b.safi)) e in
+    let rest = both_tie (nat_cmp a.afi b.afi) (nat_cmp a.safi b.safi) first.1 in
+    let code = exact_unsigned a.code b.code first.0 in
+    let afi = exact_unsigned a.afi b.afi rest.0 in
+    let safi = exact_unsigned a.safi b.safi rest.1 in
+    λ i. record { code = code i; afi = afi i; safi = safi i }
 
 -- two values are one or not, where an order tells
 pub same_or_other : {K : Type 0} (cmp : K → K → Ordering) → IsTotalOrder cmp → CmpEqualImpliesEq cmp → (a b : K) → (a ≡ b) ⊎ ¬ (a ≡ b)

@@ -47,7 +47,13 @@ pub mod Complete
 pub mod TableRows
 pub mod Selection
 pub mod Query
-pub mod TableReply
+pub mod StatKind
+pub mod Listed
+pub mod QueryRows
+pub mod Changes
+pub mod PeerLines
+pub mod ChangeLines
+pub mod QueryReply
 pub mod Life
 pub mod MessageBody
 pub mod MessageEffects

@@ -26,3 +26,13 @@ IsDownWith effects key info = Latest (Names key) effects (down key info)
 -- the peer is up
 abbrev pub IsUp : List EffectValue → KeyValue → Type 0
 IsUp effects key = (info : PeerInfoValue) × IsUpWith effects key info
+
+-- a peer that is up, by its last Peer Up, or down, by its last Peer Down
+pub data StateValue : Type 0 where
+  up_state : PeerInfoValue → StateValue
+  down_state : DownInfoValue → StateValue
+
+-- the peer is up or down, with what its last Peer Up or Peer Down told
+abbrev pub IsPeerAs : List EffectValue → KeyValue → StateValue → Type 0
+IsPeerAs effects key (up_state info) = IsUpWith effects key info
+IsPeerAs effects key (down_state info) = IsDownWith effects key info

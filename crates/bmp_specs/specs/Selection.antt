@@ -1,12 +1,9 @@
 -- The selectors of our query language, which keep some of the rows.
-use Rattle.std.specs.Prelude.{◌≡◌, ◌↔◌, ℕ, List, Option, Some, None, map}
-use Rattle.std.specs.List.{Contains}
-use Rattle.std.specs.List.Sorted.{IsStrictlySortedBy}
+use Rattle.std.specs.Prelude.{◌≡◌, ℕ, Option, Some, None}
 use Rattle.bmp_specs.specs.declared.peers.View.{View}
 use Rattle.bmp_specs.specs.declared.wire.Family.{Family}
-use Rattle.bmp_specs.specs.Rows.{RowKeyValue, RowValue, HasRow}
-use Rattle.bmp_specs.specs.TableRows.{row_key_cmp}
-use Rattle.bmp_specs.specs.Values.{KeyValue, EffectValue}
+use Rattle.bmp_specs.specs.Rows.{RowValue}
+use Rattle.bmp_specs.specs.Values.{KeyValue}
 
 -- the lane, the peer, the view and the family that rows are asked for, each where one is named
 pub record SelectValue : Type 0 where
@@ -24,14 +21,17 @@ abbrev pub IsAskedFor : {A : Type 0} → Option A → A → Type 0
 IsAskedFor None value = Unit {0}
 IsAskedFor (Some named) value = named ≡ value
 
--- the place, on this lane, has all values that are named
-pub record IsSelected (select : SelectValue) (lane : ℕ) (place : RowKeyValue) : Type 0 where
-  pub router : IsAskedFor select.router lane
-  pub peer : IsAskedFor select.peer place.key
-  pub view : IsAskedFor select.view place.view
-  pub family : IsAskedFor select.family place.nlri.prefix.address.family
+-- the peer, on this lane, is the one that is named, where one is, and so is the lane
+pub record IsPeerSelected (router : Option ℕ) (peer : Option KeyValue) (lane : ℕ) (key : KeyValue) : Type 0 where
+  pub router_is : IsAskedFor router lane
+  pub peer_is : IsAskedFor peer key
 
--- the list has exactly the selected rows that the effects leave on this lane, each once, in the order of our replies
-pub record AreSelectedRows (select : SelectValue) (lane : ℕ) (effects : List EffectValue) (rows : List RowValue) : Type 0 where
-  pub ordered : IsStrictlySortedBy row_key_cmp (map (λ row. row.row_key) rows)
-  pub exact : (row : RowValue) → Contains rows row ↔ (HasRow effects row × IsSelected select lane row.row_key)
+-- the routes of this family that a peer has in this view, on this lane, have all values that are named
+pub record IsSelected (select : SelectValue) (lane : ℕ) (key : KeyValue) (view : View) (family : Family) : Type 0 where
+  pub of_peer : IsPeerSelected select.router select.peer lane key
+  pub view_is : IsAskedFor select.view view
+  pub family_is : IsAskedFor select.family family
+
+-- the row, on this lane, has all values that are named
+abbrev pub IsRowSelected : SelectValue → ℕ → RowValue → Type 0
+IsRowSelected select lane row = IsSelected select lane row.row_key.key row.row_key.view row.row_key.nlri.prefix.address.family

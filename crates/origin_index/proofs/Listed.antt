@@ -11,7 +11,7 @@ use Rattle.std.proofs.lemmas.Map.Lookups.{exact_unsigned}
 use Rattle.bmp_specs.specs.Rows.{RowKeyValue}
 use Rattle.bmp_specs.specs.TableRows.{row_key_cmp}
 use Rattle.bmp_specs.proofs.OrderLaws.{row_key_exact}
-use Rattle.bmp_specs.proofs.TableRowsOne.{contains_cases, contains_first, contains_later}
+use Rattle.bmp_specs.proofs.ListedOne.{contains_cases, contains_first, contains_later}
 use Rattle.origin_index.specs.Pairs.{pair_cmp}
 use Rattle.origin_index.specs.Parts.{joined, IsPartOf}
 use Rattle.origin_index.proofs.Edits.{there_by_part}

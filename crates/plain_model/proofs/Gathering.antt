@@ -5,11 +5,11 @@ use Rattle.std.specs.List.{Contains}
 use Rattle.std.specs.List.Sorted.{IsStrictlySortedBy}
 use Rattle.std.proofs.lemmas.Bool.{cases_lt}
 use Rattle.bmp_specs.specs.Rows.{RowKeyValue, RowValue, HasRow}
-use Rattle.bmp_specs.specs.TableRows.{row_key_cmp, AreTableRows}
+use Rattle.bmp_specs.specs.TableRows.{row_key_cmp, AreRows}
 use Rattle.bmp_specs.specs.Values.{EffectValue, announce}
 use Rattle.bmp_specs.proofs.OrderLaws.{row_key_total}
 use Rattle.bmp_specs.proofs.RowLaws.{route_one}
-use Rattle.bmp_specs.proofs.TableRowsOne.{contains_first, contains_later}
+use Rattle.bmp_specs.proofs.ListedOne.{contains_first, contains_later}
 use Rattle.plain_model.specs.declared.values.Row.{Row}
 use Rattle.plain_model.specs.Rows.{IsRowAt, row_keys_of, IsGap, Puts}
 use Rattle.plain_model.specs.Values.{row_key_value, row_value}
@@ -99,8 +99,8 @@ gathers_none effects at rows g none = record { ordered = g.ordered; sound = g.so
       | inr later ↦ let same : i ≡ at = omega arith in absurd (none r (subst (λ (n : ℕ). IsRowAt effects n r) same is))
     ]
 
-pub gathers_all : (effects : List EffectValue) (at : ℕ) (rows : List RowValue) → length effects ≤ at → Gathers effects at rows → AreTableRows effects rows
-gathers_all effects at rows past g = record { ordered = g.ordered; exact = λ row. (g.sound row, λ h. g.complete (length h.announced.before) row (within row h) (record { has = h; announced_at = refl })) }
+pub gathers_all : (effects : List EffectValue) (at : ℕ) (rows : List RowValue) → length effects ≤ at → Gathers effects at rows → AreRows (λ row. ⊤) effects rows
+gathers_all effects at rows past g = record { ordered = g.ordered; exact = λ row. (λ c. (g.sound row c, tt), λ h. g.complete (length h.0.announced.before) row (within row h.0) (record { has = h.0; announced_at = refl })) }
   where
     within : (row : RowValue) (h : HasRow effects row) → length h.announced.before < at
     within row h =

@@ -6,7 +6,7 @@ use Rattle.std.specs.List.Sorted.{IsStrictlySortedBy}
 use Rattle.std.specs.declared.cmp.Ordering.{Ordering}
 use Rattle.std.specs.declared.cmp.Ordering.TheVariants.{Less}
 use Rattle.std.specs.Cmp.{IsTotalOrder}
-use Rattle.bmp_specs.proofs.TableRowsOne.{contains_cases, contains_first, contains_later}
+use Rattle.bmp_specs.proofs.ListedOne.{contains_cases, contains_first, contains_later}
 
 module _ {A B : Type 0} (f : A → B) where
   -- an element of a mapped list, and what stands around it

@@ -3,7 +3,7 @@ ghost use Rattle.plain_model.specs.declared.values.Row.{Row};
 ghost use Rattle.std.specs.List.Sorted.{IsStrictlySortedBy};
 ghost use Rattle.bmp_specs.specs.PeerUp.{IsUp};
 ghost use Rattle.bmp_specs.specs.Rows.{RowValue, ReplacesRow};
-ghost use Rattle.bmp_specs.specs.TableRows.{row_key_cmp, AreTableRows};
+ghost use Rattle.bmp_specs.specs.TableRows.{row_key_cmp, AreRows};
 ghost use Rattle.plain_model.specs.Rows.{IsRowAt, LeaveRow, KeepsUp, row_keys_of, IsGap, Puts};
 ghost use Rattle.plain_model.specs.Values.{key_value, row_key_value, row_value, effect_value};
 
@@ -107,7 +107,7 @@ fn put(rows: &mut Vec<Row>, row: Row) -> Result<(), AllocError>
 /// Gives the rows that the effects leave, in the order of a reply. It looks at each effect and, for each
 /// announcement, at all the others.
 pub fn rows(alloc: Global, effects: &[Effect]) -> Result<Vec<Row>, AllocError>
-    ensures { IfOk result (λ rows. AreTableRows (map effect_value effects.now) (map row_value rows.items)) }
+    ensures { IfOk result (λ rows. AreRows (λ row. ⊤) (map effect_value effects.now) (map row_value rows.items)) }
 {
     let mut rows = Vec::new(alloc);
     for at in 0..effects.len() {

@@ -1,4 +1,5 @@
 -- Which rows the tests keep: those that are selected, in the order in which they stood.
+use Rattle.std.specs.Prelude.{⊤}
 use Rattle.std.proofs.Common.{◌≡◌, inl, inr, Bool, true, false, cond, ◌&&◌, List, [], ◌∷◌, length, map, arith, Option, None, Some, refl, sym, ap, ◌∙◌, subst, Decides, is_some}
 use Rattle.std.specs.declared.sync.Arc.{Arc}
 use Rattle.std.specs.declared.alloc.Global.{Global}
@@ -15,11 +16,11 @@ use Rattle.std.proofs.lemmas.Cmp.{tied_itself, nat_cmp_total}
 use Rattle.std.proofs.lemmas.Map.Lookups.{CmpEqualImpliesEq, exact_unsigned}
 use Rattle.bmp_specs.specs.Orders.{family_cmp, key_cmp, view_cmp}
 use Rattle.bmp_specs.specs.Rows.{RowValue}
-use Rattle.bmp_specs.specs.Selection.{SelectValue, IsAskedFor, IsSelected, AreSelectedRows}
-use Rattle.bmp_specs.specs.TableRows.{row_key_cmp, AreTableRows}
+use Rattle.bmp_specs.specs.Selection.{SelectValue, IsAskedFor, IsRowSelected}
+use Rattle.bmp_specs.specs.TableRows.{row_key_cmp, AreRows}
 use Rattle.bmp_specs.specs.Values.{KeyValue, AttrsValue, EffectValue}
 use Rattle.bmp_specs.proofs.OrderLaws.{family_total, family_exact, view_total, view_exact, key_total, key_exact}
-use Rattle.bmp_specs.proofs.TableRowsOne.{contains_cases, contains_first, contains_later}
+use Rattle.bmp_specs.proofs.ListedOne.{contains_cases, contains_first, contains_later}
 use Rattle.station_top.specs.declared.place.Place.{Place}
 use Rattle.station_top.specs.TableText.{is_named, keeps_peer, keeps_place, keeps_row, row_of}
 
@@ -29,12 +30,12 @@ module _ {A : Type 0} (cmp : A → A → Ordering) (total : IsTotalOrder cmp) (e
   named_decides None value = (λ _. tt, λ _. refl)
   named_decides (Some named) value = Decides-like (is_eq (cmp named value)) (exact named value) (λ same. subst (λ (v : A). cmp named v ≡ Equal) same (tied_itself total named)) (Equal-is (cmp named value))
 
-pub keeps_decides : (select : SelectValue) (row : RowValue) → Decides (keeps_row select row) (IsSelected select 0 row.row_key)
+pub keeps_decides : (select : SelectValue) (row : RowValue) → Decides (keeps_row select row) (IsRowSelected select 0 row)
 keeps_decides select row =
     let place = row.row_key in
     let peer = Decides-and _ _ (named_decides nat_cmp nat_cmp_total exact_unsigned select.router 0) (named_decides key_cmp key_total key_exact select.peer place.key) in
     let within = Decides-and _ _ (named_decides view_cmp view_total view_exact select.view place.view) (named_decides family_cmp family_total family_exact select.family place.nlri.prefix.address.family) in
-    Decides-like (keeps_row select row) (λ h. record { router = h.0.0; peer = h.0.1; view = h.1.0; family = h.1.1 }) (λ s. ((s.router, s.peer), (s.view, s.family))) (Decides-and _ _ peer within)
+    Decides-like (keeps_row select row) (λ h. record { of_peer = record { router_is = h.0.0; peer_is = h.0.1 }; view_is = h.1.0; family_is = h.1.1 }) (λ s. ((s.of_peer.router_is, s.of_peer.peer_is), (s.view_is, s.family_is))) (Decides-and _ _ peer within)
 
 -- what a filter keeps, and in which order
 module _ {X : Type 0} (test : X → Bool) where
@@ -72,12 +73,12 @@ module _ {X : Type 0} (test : X → Bool) where
       (λ passed. sorted_kept key cmp xs s.1)
 
 -- those of a table's rows that the tests keep are those that are selected
-pub are_selected_rows : (select : SelectValue) (effects : List EffectValue) (rows : List RowValue) → AreTableRows effects rows → AreSelectedRows select 0 effects (filter (keeps_row select) rows)
+pub are_selected_rows : (select : SelectValue) (effects : List EffectValue) (rows : List RowValue) → AreRows (λ row. ⊤) effects rows → AreRows (IsRowSelected select 0) effects (filter (keeps_row select) rows)
 are_selected_rows select effects rows a = record {
   ordered = sorted_kept (keeps_row select) (λ (row : RowValue). row.row_key) row_key_cmp rows a.ordered;
   exact = λ row. (
-    λ c. let h = from_filter (keeps_row select) rows row c in ((a.exact row).0 h.0, (keeps_decides select row).0 h.1),
-    λ h. to_filter (keeps_row select) rows row ((a.exact row).1 h.0) ((keeps_decides select row).1 h.1),
+    λ c. let h = from_filter (keeps_row select) rows row c in (((a.exact row).0 h.0).0, (keeps_decides select row).0 h.1),
+    λ h. to_filter (keeps_row select) rows row ((a.exact row).1 (h.0, tt)) ((keeps_decides select row).1 h.1),
   );
 }
 

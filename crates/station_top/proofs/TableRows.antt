@@ -1,7 +1,7 @@
 -- The rows that tables tell are those that the entries leave, in the order of a reply.
 use Rattle.std.proofs.Common.{◌≡◌, inl, inr, ℕ, List, [], ◌∷◌, ◌++◌, length, map, arith, Option, None, Some, refl, sym, ap, ◌∙◌, subst}
 use Rattle.std.proofs.lemmas.List.{map-append}
-use Rattle.std.specs.Prelude.{flat_map}
+use Rattle.std.specs.Prelude.{flat_map, ⊤}
 use Rattle.std.specs.Arc.{arc_value}
 use Rattle.std.specs.declared.sync.Arc.{Arc}
 use Rattle.std.specs.declared.alloc.Global.{Global}
@@ -17,16 +17,18 @@ use Rattle.std.proofs.lemmas.Cmp.{tied_itself}
 use Rattle.std.proofs.lemmas.List.Elements.{All-from_recursion, All-contains, Contains-append_cases, Contains-append_left, Contains-append_right}
 use Rattle.std.proofs.lemmas.Map.Views.{btree_map_get_iff}
 use Rattle.bmp_specs.specs.Orders.{key_cmp}
+use Rattle.bmp_specs.specs.Query.{table}
+use Rattle.bmp_specs.specs.QueryReply.{IsReply}
 use Rattle.bmp_specs.specs.Reply.{reply}
 use Rattle.bmp_specs.specs.RouteLine.{route_line}
 use Rattle.bmp_specs.specs.Rows.{RowKeyValue, RowValue}
 use Rattle.bmp_specs.specs.Selection.{SelectValue}
 use Rattle.bmp_specs.specs.Session.{session_effects}
-use Rattle.bmp_specs.specs.TableReply.{IsTableReply}
-use Rattle.bmp_specs.specs.TableRows.{row_key_cmp, AreTableRows}
+use Rattle.bmp_specs.specs.TableRows.{row_key_cmp, AreRows}
 use Rattle.bmp_specs.specs.Values.{KeyValue, AttrsValue, EffectValue, EntryValue}
 use Rattle.bmp_specs.proofs.OrderLaws.{key_total, key_exact}
-use Rattle.bmp_specs.proofs.TableRowsOne.{contains_cases, contains_first, contains_later}
+use Rattle.bmp_specs.proofs.QueryReplies.{reply_of_one_lane}
+use Rattle.bmp_specs.proofs.ListedOne.{contains_cases, contains_first, contains_later}
 use Rattle.station_top.specs.declared.place.Place.{Place}
 use Rattle.station_top.specs.declared.tables.Tables.{Tables}
 use Rattle.station_top.specs.Places.{peer_place_cmp, place_of, within_peer}
@@ -76,7 +78,7 @@ sorted_join cmp [] ys s t a = t
 sorted_join cmp (x ∷ xs) ys s t a = (all_join (λ y. cmp x y ≡ Less) xs ys s.0 a.0, sorted_join cmp xs ys s.1 t a.1)
 
 -- two places of one peer, and of two
-within_one : (key : KeyValue) (p q : Place) → peer_place_cmp p q ≡ Less → place_cmp (place_of key p) (place_of key q) ≡ Less
+within_one : (key : KeyValue) (p q : Place) → peer_place_cmp p q ≡ Less → row_key_cmp (place_of key p) (place_of key q) ≡ Less
 within_one key p q less = ap (λ (o : Ordering). ordering_then o (peer_place_cmp p q)) (tied_itself key_total key) ∙ less
 
 of_later : (key k : KeyValue) (p q : Place) → key_cmp key k ≡ Less → row_key_cmp (place_of key p) (place_of k q) ≡ Less
@@ -90,7 +92,7 @@ peer_below : (key : KeyValue) (p : Place) (es : List (Place × Arc AttrsValue Gl
 peer_below key p [] a = tt
 peer_below key p (e ∷ es) a = (within_one key p e.0 a.0, peer_below key p es a.1)
 
-peer_sorted : (key : KeyValue) (es : List (Place × Arc AttrsValue Global)) → IsStrictlySortedBy peer_place_cmp (keys_of es) → IsStrictlySortedBy place_cmp (places (map (row_of key) es))
+peer_sorted : (key : KeyValue) (es : List (Place × Arc AttrsValue Global)) → IsStrictlySortedBy peer_place_cmp (keys_of es) → IsStrictlySortedBy row_key_cmp (places (map (row_of key) es))
 unfolding IsStrictlySortedBy
 peer_sorted key [] s = tt
 peer_sorted key (e ∷ es) s = (peer_below key e.0 es s.0, peer_sorted key es s.1)
@@ -109,7 +111,7 @@ each_below : (key : KeyValue) (rows : List (Place × Arc AttrsValue Global)) (es
 each_below key [] es a = tt
 each_below key (e ∷ rows) es a = (later_peers key e.0 es a, each_below key rows es a)
 
-rows_sorted : (es : List (KeyValue × Rows)) → IsStrictlySortedBy key_cmp (keys_of es) → AllByRecursion (λ peer. IsOrdered peer_place_cmp peer.1) es → IsStrictlySortedBy place_cmp (places (flat_map rows_of es))
+rows_sorted : (es : List (KeyValue × Rows)) → IsStrictlySortedBy key_cmp (keys_of es) → AllByRecursion (λ peer. IsOrdered peer_place_cmp peer.1) es → IsStrictlySortedBy row_key_cmp (places (flat_map rows_of es))
 unfolding IsStrictlySortedBy
 rows_sorted [] s a = tt
 rows_sorted (e ∷ es) s a = subst (IsStrictlySortedBy row_key_cmp) (sym (map-append (λ (row : RowValue). row.row_key) (rows_of e) (flat_map rows_of es)))
@@ -149,15 +151,13 @@ module _ (peers : Peers) (ordered : AreOrdered peers) where
       go None is e = absurd cc
       go (Some rows) is e = at rows is (get peer_place_cmp rows (within_peer row.row_key)) refl e
 
-  pub are_table_rows : (effects : List EffectValue) → Holds peers effects → AreTableRows effects (rows_in peers)
+  pub are_table_rows : (effects : List EffectValue) → Holds peers effects → AreRows (λ row. ⊤) effects (rows_in peers)
   are_table_rows effects h = record {
     ordered = rows_sorted peers.entries ordered.keys ordered.places;
-    exact = λ row. (λ c. (h.rows row).0 (told_stands row c), λ r. stands_told row ((h.rows row).1 r));
+    exact = λ row. (λ c. ((h.rows row).0 (told_stands row c), tt), λ r. stands_told row ((h.rows row).1 r.0));
   }
 
-pub is_table_reply : (select : SelectValue) (tables : Tables) (rev : ℕ) → AreOrdered tables.peers → (entries : List EntryValue) → StandsFor tables entries → rev ≡ length entries → IsTableReply select 0 entries (table_text select rev tables)
-is_table_reply select tables rev ordered entries s e = record {
-  rows = selected_in select tables.peers;
-  are_rows = are_selected_rows select (session_effects entries) (rows_in tables.peers) (are_table_rows tables.peers ordered (session_effects entries) s.peers);
-  told = ap (λ (n : ℕ). reply n (map (route_line 0) (selected_in select tables.peers))) e;
-}
+pub is_table_reply : (select : SelectValue) (tables : Tables) (rev : ℕ) → AreOrdered tables.peers → (entries : List EntryValue) → StandsFor tables entries → rev ≡ length entries → IsReply (table select) (entries ∷ []) (table_text select rev tables)
+is_table_reply select tables rev ordered entries s e =
+    let rows = are_selected_rows select (session_effects entries) (rows_in tables.peers) (are_table_rows tables.peers ordered (session_effects entries) s.peers) in
+    subst (λ (n : ℕ). IsReply (table select) (entries ∷ []) (reply n (map (route_line 0) (selected_in select tables.peers)))) (sym e) (reply_of_one_lane select entries (selected_in select tables.peers) rows)

@@ -6,7 +6,8 @@ use Rattle.bmp_specs.specs.Check.{check_lines}
 use Rattle.bmp_specs.specs.Lines.{stop_line, usage_line}
 use Rattle.bmp_specs.specs.Life.{IsReadNoFurther}
 use Rattle.bmp_specs.specs.MessageEffects.{strict}
-use Rattle.bmp_specs.specs.TableReply.{IsTableReply}
+use Rattle.bmp_specs.specs.Query.{table}
+use Rattle.bmp_specs.specs.QueryReply as query
 use Rattle.bmp_specs.specs.Values.{EntryValue, opened}
 use Rattle.wire_io.specs.Aside.{Aside, Given, Plan}
 use Rattle.wire_io.specs.Faults.{Rose}
@@ -24,7 +25,7 @@ use Rattle.station_top.specs.declared.words.Command.TheVariants.{ReplayTable, Ch
 
 -- the bytes are the reply of a command on these entries
 abbrev pub IsReply : Command → List EntryValue → List ℕ → Type 0
-IsReply (ReplayTable select) entries bytes = IsTableReply select 0 entries bytes
+IsReply (ReplayTable select) entries bytes = query.IsReply (table select) (entries ∷ []) bytes
 IsReply Check entries bytes = bytes ≡ check_lines entries
 
 -- The yard handed out the first port that waits under the number 0, and took it back: what it showed then stands in this

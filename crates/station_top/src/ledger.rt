@@ -43,7 +43,9 @@ pub trait Ledger {
 }
 
 impl Ledger for Tables {
-    ghost use Rattle.bmp_specs.specs.TableReply.{IsTableReply};
+    ghost use Rattle.bmp_specs.specs.Query.{table};
+    ghost use Rattle.bmp_specs.specs.QueryReply.{IsReply};
+    ghost use Rattle.std.specs.Prelude.{◌∷◌, []};
     ghost use Rattle.station_top.specs.Tables.{StandsFor};
     ghost use Rattle.station_top.specs.TableText.{table_text};
 
@@ -54,7 +56,7 @@ impl Ledger for Tables {
 
     ghost stands = { StandsFor };
 
-    ghost replies = { λ select. IsTableReply select 0 };
+    ghost replies = { λ select entries. IsReply (table select) (entries ∷ []) };
 
     ghost text = { table_text };
 

@@ -3,7 +3,8 @@ ghost use Rattle.std.specs.BTreeMap.{IsOrdered};
 ghost use Rattle.std.specs.List.{filter};
 ghost use Rattle.std.specs.Map.{keys_of};
 ghost use Rattle.bmp_specs.specs.Reply.{told_count};
-ghost use Rattle.bmp_specs.specs.TableReply.{IsTableReply};
+ghost use Rattle.bmp_specs.specs.Query.{table};
+ghost use Rattle.bmp_specs.specs.QueryReply.{IsReply};
 ghost use Rattle.bmp_specs.specs.Values.{EntryValue};
 ghost use Rattle.station_top.specs.Places.{peer_place_cmp};
 ghost use Rattle.station_top.specs.Tables.{StandsFor};
@@ -124,7 +125,7 @@ pub(crate) fn put_table<O: Sink>(
     tables: &Tables,
 ) -> Result<(), Failed>
     ensures writes { Writes O.faults O.told O.aside out.old (table_text select.now rev tables.now) result out.new }
-    ensures reply { (entries : List EntryValue) → StandsFor tables.now entries → rev ≡ length entries → IsTableReply select.now 0 entries (table_text select.now rev tables.now) }
+    ensures reply { (entries : List EntryValue) → StandsFor tables.now entries → rev ≡ length entries → IsReply (table select.now) (entries ∷ []) (table_text select.now rev tables.now) }
 {
     let rows = count_rows(select, &tables.peers);
     put_counted(out, select, rev, tables, rows)

@@ -1,4 +1,3 @@
-pub mod KindLaws
 pub mod Standings
 pub mod Setting
 pub mod CountLaws

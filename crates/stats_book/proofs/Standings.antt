@@ -12,10 +12,10 @@ use Rattle.bmp_specs.specs.Values.{KeyValue, StatValue, EffectValue, up, down, a
 use Rattle.bmp_specs.proofs.OrderLaws.{key_total, key_exact, same_or_other}
 use Rattle.bmp_specs.proofs.PairLookups.{at_other, inserted_here, inserted_elsewhere}
 use Rattle.bmp_specs.proofs.StatisticLaws.{statistic_now, statistic_still, statistic_from, statistic_one}
-use Rattle.stats_book.specs.Kind.{KindValue, kind_cmp, kind_of}
+use Rattle.bmp_specs.specs.StatKind.{KindValue, kind_cmp, kind_of}
 use Rattle.stats_book.specs.Stats.{Stats, PeerStats, stats_at, value_at, with_value, with_stat}
 use Rattle.stats_book.specs.Standing.{StandsForStats}
-use Rattle.stats_book.proofs.KindLaws.{kind_total, kind_exact}
+use Rattle.bmp_specs.proofs.OrderLaws.{kind_total, kind_exact}
 
 -- a statistic that the effect neither replaces nor reports
 kept : (es : List EffectValue) (e : EffectValue) (key : KeyValue) (stat : StatValue) → ¬ (ReplacesStatistic key stat e) → HasStatistic es key stat ↔ HasStatistic (es ++ e ∷ []) key stat

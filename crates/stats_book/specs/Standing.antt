@@ -2,7 +2,7 @@
 use Rattle.std.specs.Prelude.{◌≡◌, ◌↔◌, List, Some}
 use Rattle.bmp_specs.specs.Rows.{HasStatistic}
 use Rattle.bmp_specs.specs.Values.{KeyValue, StatValue, EffectValue}
-use Rattle.stats_book.specs.Kind.{kind_of}
+use Rattle.bmp_specs.specs.StatKind.{kind_of}
 use Rattle.stats_book.specs.Stats.{Stats, value_at}
 
 -- a peer has the statistics that were reported while it was up and since its last Peer Up or Peer Down, each with the last

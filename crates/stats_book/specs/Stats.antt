@@ -7,7 +7,7 @@ use Rattle.std.specs.Map.{lookup, remove_entry}
 use Rattle.std.specs.Ordering.{is_lt}
 use Rattle.bmp_specs.specs.Orders.{key_cmp}
 use Rattle.bmp_specs.specs.Values.{KeyValue, StatValue}
-use Rattle.stats_book.specs.Kind.{KindValue, kind_cmp, kind_of}
+use Rattle.bmp_specs.specs.StatKind.{KindValue, kind_cmp, kind_of}
 
 -- the statistics of one peer, in the order of their kinds
 abbrev pub PeerStats : Type 0

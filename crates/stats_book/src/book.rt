@@ -4,7 +4,7 @@ ghost use Rattle.std.specs.Map.{keys_of};
 ghost use Rattle.std.specs.Option.{option_map};
 ghost use Rattle.bmp_specs.specs.PeerUp.{IsUp, Names};
 ghost use Rattle.bmp_specs.specs.Values.{EffectValue, statistic};
-ghost use Rattle.stats_book.specs.Kind.{kind_cmp};
+ghost use Rattle.bmp_specs.specs.StatKind.{kind_cmp};
 ghost use Rattle.stats_book.specs.Standing.{StandsForStats};
 ghost use Rattle.stats_book.specs.Stats.{with_stat, without_peer, stats_at, after_place, kind_and_value};
 

@@ -3,7 +3,7 @@ ghost use Rattle.std.proofs.Common.{rules};
 ghost use Rattle.std.specs.Cmp.{partial_order_from_own_ties};
 ghost use Rattle.std.specs.Cmp.Rules.{comparing};
 ghost use Rattle.std.specs.Ordering.{as_partial_cmp};
-ghost use Rattle.stats_book.specs.Kind.{kind_cmp, kind_of, stat_of};
+ghost use Rattle.bmp_specs.specs.StatKind.{kind_cmp, kind_of, stat_of};
 
 use std::cmp::Ordering;
 use std::marker::Model;
@@ -18,7 +18,7 @@ pub(crate) struct Kind {
 }
 
 impl Model for Kind {
-    ghost use Rattle.stats_book.specs.Kind.{KindValue};
+    ghost use Rattle.bmp_specs.specs.StatKind.{KindValue};
 
     ghost Value = { KindValue };
 

@@ -3,7 +3,7 @@ ghost use Rattle.std.specs.List.Sorted.{IsStrictlySortedBy};
 ghost use Rattle.std.specs.Map.{keys_of};
 ghost use Rattle.std.specs.Map.Iter.{deref_pair};
 ghost use Rattle.std.specs.Option.{option_map};
-ghost use Rattle.stats_book.specs.Kind.{kind_cmp};
+ghost use Rattle.bmp_specs.specs.StatKind.{kind_cmp};
 ghost use Rattle.stats_book.specs.Stats.{with_value, after_place, kind_and_value};
 
 use crate::kind::Kind;

@@ -2,7 +2,7 @@ use Rattle.std.proofs.Common.{[], Option, subst}
 use Rattle.std.specs.Prelude.{unwrap_or}
 use Rattle.std.specs.List.Sorted.{IsStrictlySortedBy}
 use Rattle.std.specs.Map.{keys_of}
-use Rattle.stats_book.specs.Kind.{kind_cmp}
+use Rattle.bmp_specs.specs.StatKind.{kind_cmp}
 use Rattle.stats_book.specs.Stats.{Stats, PeerStats, stats_at}
 use Rattle.stats_book.proofs.book.StatsBook.after.Goals as goal
 

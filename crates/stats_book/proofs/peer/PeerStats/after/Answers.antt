@@ -3,7 +3,7 @@ use Rattle.std.specs.List.{filter, slice_get}
 use Rattle.std.specs.Map.Iter.{deref_pair}
 use Rattle.std.specs.Ordering.{is_lt}
 use Rattle.bmp_specs.proofs.FirstInRange.{first_shown, between-after}
-use Rattle.stats_book.specs.Kind.{KindValue, kind_cmp}
+use Rattle.bmp_specs.specs.StatKind.{KindValue, kind_cmp}
 use Rattle.stats_book.specs.Stats.{PeerStats, after_place}
 use Rattle.stats_book.proofs.peer.PeerStats.after.Goals as goal
 

@@ -1,4 +1,4 @@
--- Effects leave one list of rows.
+-- Lists in order that have all values that are so, as the rows of a table: there is one.
 use Rattle.std.proofs.Common.{◌≡◌, zero, suc, List, [], ◌∷◌, ◌⊎◌, inl, inr, map, refl, sym, ◌∙◌, ap, subst, arith}
 use Rattle.std.specs.List.{AllByRecursion, Contains}
 use Rattle.std.specs.List.Sorted.{IsStrictlySortedBy}
@@ -7,9 +7,10 @@ use Rattle.std.specs.declared.cmp.Ordering.TheVariants.{Less, Equal}
 use Rattle.std.specs.Cmp.{IsTotalOrder}
 use Rattle.std.proofs.lemmas.Cmp.{tied_itself}
 use Rattle.std.proofs.lemmas.Map.Keys.{sorted_head, sorted_tail}
+use Rattle.bmp_specs.specs.Listed.{AreAll}
 use Rattle.bmp_specs.specs.Values.{EffectValue}
-use Rattle.bmp_specs.specs.Rows.{RowValue}
-use Rattle.bmp_specs.specs.TableRows.{row_key_cmp, AreTableRows}
+use Rattle.bmp_specs.specs.Rows.{RowValue, HasRow}
+use Rattle.bmp_specs.specs.TableRows.{row_key_cmp, AreRows}
 use Rattle.bmp_specs.proofs.OrderLaws.{row_key_total}
 
 -- a member of a list is its first element or one of the others
@@ -58,8 +59,10 @@ module _ {X K : Type 0} (key : X → K) (cmp : K → K → Ordering) (total : Is
       (λ z c. tails y x ys xs (sym same) above z c (contains_cases x xs z (back z (contains_later y ys z c)))) in
       ap (λ (z : X). z ∷ xs) same ∙ ap (λ (l : List X). y ∷ l) others
 
--- effects leave one list of rows
-pub table_rows_one : (effects : List EffectValue) (rows others : List RowValue) → AreTableRows effects rows → AreTableRows effects others → rows ≡ others
-table_rows_one effects rows others a b = one_sorted (λ (r : RowValue). r.row_key) row_key_cmp row_key_total rows others a.ordered b.ordered
-    (λ r c. (b.exact r).1 ((a.exact r).0 c))
-    (λ r c. (a.exact r).1 ((b.exact r).0 c))
+  -- all values that are so are one list
+  pub all_one : (Is : X → Type 0) (xs ys : List X) → AreAll key cmp Is xs → AreAll key cmp Is ys → xs ≡ ys
+  all_one Is xs ys a b = one_sorted xs ys a.ordered b.ordered (λ x c. (b.exact x).1 ((a.exact x).0 c)) (λ x c. (a.exact x).1 ((b.exact x).0 c))
+
+-- effects leave one list of the rows that are asked for
+pub rows_one : (asks : RowValue → Type 0) (effects : List EffectValue) (rows others : List RowValue) → AreRows asks effects rows → AreRows asks effects others → rows ≡ others
+rows_one asks effects rows others a b = all_one (λ row. row.row_key) row_key_cmp row_key_total (λ row. HasRow effects row × asks row) rows others a b
