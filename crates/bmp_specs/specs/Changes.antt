@@ -1,6 +1,6 @@
 -- The changes of a prefix on a lane, a notion of ours: those of its steps that speak of the prefix, or of all prefixes, by
 -- their numbers. The last steps alone are kept.
-use Rattle.std.specs.Prelude.{◌≡◌, ℕ, ◌-◌, ◌≤◌, max, List, length, Some, slice_get}
+use Rattle.std.specs.Prelude.{◌≡◌, ℕ, ◌+◌, ◌-◌, ◌≤◌, max, List, ◌++◌, length, Some, slice_get}
 use Rattle.std.specs.Ordering.{nat_cmp}
 use Rattle.bmp_specs.specs.Listed.{AreAll}
 use Rattle.bmp_specs.specs.Steps.{steps_of}
@@ -39,3 +39,19 @@ pub record IsChange (steps : List StepValue) (first : ℕ) (prefix : PrefixValue
 abbrev pub AreChanges : List EntryValue → ℕ → PrefixValue → List ChangeValue → Type 0
 AreChanges entries from prefix changes =
     AreAll (λ change. change.number) nat_cmp (IsChange (steps_of entries) (max from (oldest_kept (length (steps_of entries)))) prefix) changes
+
+-- One of these later steps, which are numbered on from a total, that concerns the prefix. The first of them, so many, are
+-- missed.
+pub record IsLaterChange (total missed : ℕ) (later : List StepValue) (prefix : PrefixValue) (change : ChangeValue) : Type 0 where
+  pub index : ℕ
+  pub number_is : change.number ≡ total + index
+  pub kept : missed ≤ index
+  pub stands : slice_get later index ≡ Some change.step
+  pub concerns : Concerns prefix change.step
+
+-- Who was told the changes up to some entries and asks again after more of them, from the number of steps that was told, gets
+-- these: each later step that concerns the prefix, once and in order, but for as many of the first as are told to be missed.
+abbrev pub AreLaterChanges : List EntryValue → List EntryValue → PrefixValue → List ChangeValue → Type 0
+AreLaterChanges before after prefix changes =
+    let total = length (steps_of before) in
+    AreAll (λ change. change.number) nat_cmp (IsLaterChange total (oldest_kept (length (steps_of (before ++ after))) - total) (steps_of after) prefix) changes

@@ -11,7 +11,7 @@ use Rattle.bmp_specs.specs.declared.peers.View.{View}
 use Rattle.bmp_specs.specs.Orders.{key_cmp, view_cmp, family_cmp}
 use Rattle.bmp_specs.specs.Values.{KeyValue, PeerInfoValue, DownInfoValue, EffectValue, up, down, mark}
 use Rattle.bmp_specs.specs.Complete.{IsComplete}
-use Rattle.bmp_specs.specs.PeerUp.{Names, IsNamed, IsUpWith, IsDownWith, IsUp}
+use Rattle.bmp_specs.specs.PeerUp.{Names, IsNamed, IsUpWith, IsDownWith, IsUp, StateValue, up_state, down_state}
 use Rattle.bmp_specs.proofs.LatestLaws.{latest_now}
 use Rattle.bmp_specs.proofs.CompleteLaws.{complete_now, complete_from}
 use Rattle.bmp_specs.proofs.OrderLaws.{key_total, key_exact, view_total, view_exact, family_total, family_exact, same_or_other}
@@ -19,7 +19,7 @@ use Rattle.bmp_specs.proofs.PairLookups.{inserted_here, inserted_elsewhere, set_
 use Rattle.bmp_specs.proofs.RowLaws.{up_one, up_or_down}
 use Rattle.peer_book.specs.declared.marks.Marks.{Marks}
 use Rattle.peer_book.specs.Marks.{no_marks, is_marked, marked}
-use Rattle.peer_book.specs.Peers.{Peers, PeerValue, StateValue, up_peer, down_peer, up_state, down_state, state_of, is_up_peer, is_complete_peer, marked_peer, peer_at, state_at, is_up_at, is_complete_at, with_peer, with_peer_there, with_mark}
+use Rattle.peer_book.specs.Peers.{Peers, PeerValue, up_peer, down_peer, state_of, is_up_peer, is_complete_peer, marked_peer, peer_at, state_at, is_up_at, is_complete_at, with_peer, with_peer_there, with_mark}
 use Rattle.peer_book.specs.Standing.{StandsForPeers}
 use Rattle.peer_book.proofs.MarkLaws.{none_marked, marked_here, marked_other_view, marked_other_family}
 use Rattle.peer_book.proofs.OneMore.{up_kept, down_kept, complete_kept, named_up, named_down, named_cases, down_one}

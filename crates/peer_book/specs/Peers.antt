@@ -10,16 +10,12 @@ use Rattle.std.specs.Ordering.{is_lt}
 use Rattle.bmp_specs.specs.declared.wire.Family.{Family}
 use Rattle.bmp_specs.specs.declared.peers.View.{View}
 use Rattle.bmp_specs.specs.Orders.{key_cmp}
+use Rattle.bmp_specs.specs.PeerUp.{StateValue, up_state, down_state}
 use Rattle.bmp_specs.specs.Values.{KeyValue, PeerInfoValue, DownInfoValue}
 use Rattle.peer_book.specs.declared.marks.Marks.{Marks}
 use Rattle.peer_book.specs.declared.peer.PeerState.{PeerState}
 use Rattle.peer_book.specs.declared.peer.PeerState.TheVariants.{Up, Down}
 use Rattle.peer_book.specs.Marks.{is_marked, marked}
-
--- a peer that is up, by its last Peer Up, or down, by its last Peer Down
-pub data StateValue : Type 0 where
-  up_state : PeerInfoValue → StateValue
-  down_state : DownInfoValue → StateValue
 
 -- a peer in the book; one that is down has no marks
 pub data PeerValue : Type 0 where

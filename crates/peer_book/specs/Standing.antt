@@ -4,8 +4,8 @@ use Rattle.bmp_specs.specs.declared.wire.Family.{Family}
 use Rattle.bmp_specs.specs.declared.peers.View.{View}
 use Rattle.bmp_specs.specs.Values.{KeyValue, PeerInfoValue, DownInfoValue, EffectValue}
 use Rattle.bmp_specs.specs.Complete.{IsComplete}
-use Rattle.bmp_specs.specs.PeerUp.{IsNamed, IsUpWith, IsDownWith}
-use Rattle.peer_book.specs.Peers.{Peers, up_state, down_state, state_at, is_complete_at}
+use Rattle.bmp_specs.specs.PeerUp.{IsNamed, IsUpWith, IsDownWith, up_state, down_state}
+use Rattle.peer_book.specs.Peers.{Peers, state_at, is_complete_at}
 
 -- The book has the peers that the effects name, up or down by their last Peer Up or Peer Down (RFC 7854, sections 4.9 and
 -- 4.10), and the marks of the tables that are complete (RFC 4724, section 2).

@@ -1,4 +1,4 @@
-ghost use Rattle.std.specs.Prelude.{◌≡◌, ◌<◌, ◌↔◌, List, length, map, IsTrue, IfSome, IfNone, IfOk, IfErr, OnOk, slice_get, Some};
+ghost use Rattle.std.specs.Prelude.{◌≡◌, ◌<◌, ◌↔◌, List, length, map, IsTrue, IfSome, IfNone, IfOk, IfErr, OnOk, slice_get, Some, ⊤};
 ghost use Rattle.plain_model.specs.declared.values.Row.{Row};
 ghost use Rattle.std.specs.List.Sorted.{IsStrictlySortedBy};
 ghost use Rattle.bmp_specs.specs.PeerUp.{IsUp};

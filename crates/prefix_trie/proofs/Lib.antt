@@ -1,5 +1,4 @@
 pub mod Alike
-pub mod FirstBits
 pub mod SharedBits
 pub mod Nearest
 pub mod Looks

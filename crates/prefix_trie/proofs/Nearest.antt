@@ -14,75 +14,10 @@ use Rattle.bmp_specs.specs.Orders.{family_cmp, prefix_cmp}
 use Rattle.bmp_specs.specs.Prefix.{first_bits, width_of}
 use Rattle.bmp_specs.specs.Values.{AddressValue, PrefixValue}
 use Rattle.ip_prefix.proofs.Kept.{length-first_bits, first_bits_below}
+use Rattle.bmp_specs.proofs.PrefixOrder.{width_small, octets_up_to, bits_up_to, octets_from, bits_from, up_to}
 use Rattle.prefix_trie.specs.Agreement.{AgreesFor}
 use Rattle.prefix_trie.specs.Table.{IsOfFamily}
-use Rattle.prefix_trie.proofs.FirstBits.{IsAtMost, first_few, first_up, first_below, first_fewer, at_most_both, at_most_from, at_most_back, at_most_cases}
-
-pub width_small : (family : Family) → width_of family ≤ 128
-width_small V4 = omega arith
-width_small V6 = omega arith
-
-one_family : (a b : Family) (o : Ordering) → a ≡ b → ordering_then (family_cmp a b) o ≡ o
-one_family V4 V4 o e = refl
-one_family V6 V6 o e = refl
-one_family V4 V6 o e = absurd cc
-one_family V6 V4 o e = absurd cc
-
-then_unit : (o p : Ordering) → o ≡ Equal → ordering_then o p ≡ p
-then_unit o p e = ap (λ q. ordering_then q p) e
-
--- the order of two prefixes of one family
-by_octets : (p q : PrefixValue) → p.address.family ≡ q.address.family → prefix_cmp p q ≡ ordering_then (slice_cmp nat_cmp p.address.octets q.address.octets) (nat_cmp p.bits q.bits)
-by_octets p q e = ap (λ o. ordering_then o (nat_cmp p.bits q.bits)) (one_family p.address.family q.address.family (slice_cmp nat_cmp p.address.octets q.address.octets) e)
-
-gt_first : (o p : Ordering) → is_gt (ordering_then o p) ≡ false → is_gt o ≡ false
-gt_first Less p e = refl
-gt_first Equal p e = refl
-gt_first Greater p e = e
-
-lt_first : (o p : Ordering) → is_lt (ordering_then o p) ≡ false → is_lt o ≡ false
-lt_first Less p e = e
-lt_first Equal p e = refl
-lt_first Greater p e = refl
-
-no_more_than : (m n : ℕ) → is_gt (nat_cmp m n) ≡ false → m ≤ n
-no_more_than m n e = grind (arith, nat_tests, e)
-
-no_less_than : (m n : ℕ) → is_lt (nat_cmp m n) ≡ false → n ≤ m
-no_less_than m n e = grind (arith, nat_tests, e)
-
-at_most_is : (m n : ℕ) → m ≤ n → is_gt (nat_cmp m n) ≡ false
-at_most_is m n h = grind (arith, nat_tests)
-
--- bytes tie with themselves
-slice_self : (xs ys : List ℕ) → xs ≡ ys → slice_cmp nat_cmp xs ys ≡ Equal
-slice_self [] [] e = refl
-slice_self [] (y ∷ ys) e = absurd (omega (arith, ap length e))
-slice_self (x ∷ xs) [] e = absurd (omega (arith, ap length e))
-slice_self (x ∷ xs) (y ∷ ys) e =
-    let head : x ≡ y = ap (λ (l : List ℕ). get_or l 0 0) e in
-    let tail : xs ≡ ys = ap (λ (l : List ℕ). drop 1 l) e in
-    let tie : nat_cmp x y ≡ Equal = grind (arith, nat_tests) in
-    ap (λ o. ordering_then o (slice_cmp nat_cmp xs ys)) tie ∙ slice_self xs ys tail
-
-module _ (p q : PrefixValue) (one : p.address.family ≡ q.address.family) (long : length p.address.octets ≡ length q.address.octets) where
-  pub octets_up_to : is_gt (prefix_cmp p q) ≡ false → IsAtMost p.address.octets q.address.octets
-  octets_up_to e = at_most_from _ _ long (gt_first _ (nat_cmp p.bits q.bits) (ap is_gt (sym (by_octets p q one)) ∙ e))
-
-  pub bits_up_to : is_gt (prefix_cmp p q) ≡ false → p.address.octets ≡ q.address.octets → p.bits ≤ q.bits
-  bits_up_to e same = no_more_than _ _ (ap is_gt (sym (then_unit _ (nat_cmp p.bits q.bits) (slice_self _ _ same))) ∙ ap is_gt (sym (by_octets p q one)) ∙ e)
-
-  pub octets_from : is_lt (prefix_cmp p q) ≡ false → IsAtMost q.address.octets p.address.octets
-  octets_from e = at_most_back _ _ long (lt_first _ (nat_cmp p.bits q.bits) (ap is_lt (sym (by_octets p q one)) ∙ e))
-
-  pub bits_from : is_lt (prefix_cmp p q) ≡ false → p.address.octets ≡ q.address.octets → q.bits ≤ p.bits
-  bits_from e same = no_less_than _ _ (ap is_lt (sym (then_unit _ (nat_cmp p.bits q.bits) (slice_self _ _ same))) ∙ ap is_lt (sym (by_octets p q one)) ∙ e)
-
-  pub up_to : IsAtMost p.address.octets q.address.octets → p.bits ≤ q.bits → is_gt (prefix_cmp p q) ≡ false
-  up_to a h = ap is_gt (by_octets p q one) ∙ elim (at_most_cases _ _ a) [
-    | inl less ↦ ap (λ o. is_gt (ordering_then o (nat_cmp p.bits q.bits))) less
-    | inr tie ↦ ap (λ o. is_gt (ordering_then o (nat_cmp p.bits q.bits))) tie.0 ∙ at_most_is _ _ h
-  ]
+use Rattle.bmp_specs.proofs.FirstBits.{IsAtMost, first_few, first_up, first_below, first_fewer, at_most_both, at_most_from, at_most_back, at_most_cases}
 
 -- the bytes of a prefix that holds the address
 held_octets : (q : PrefixValue) (a : AddressValue) → IsAddressPrefix q → HoldsAddress q a → q.address.octets ≡ first_bits q.bits a.octets

@@ -8,7 +8,7 @@ use Rattle.std.proofs.Math.Nat.{div-eq_of_lt}
 use Rattle.std.proofs.lemmas.List.{drop_more, get_or-drop}
 use Rattle.bmp_specs.specs.Prefix.{high_bits, first_bits}
 use Rattle.prefix_trie.specs.Agreement.{AgreesFor}
-use Rattle.prefix_trie.proofs.FirstBits.{AreBytes, whole_part, no_first}
+use Rattle.bmp_specs.proofs.FirstBits.{AreBytes, whole_part, no_first}
 
 pub agrees_end : AgreesFor [] [] 0
 agrees_end = record { within = omega arith; agree = refl; most = λ m h e. h }

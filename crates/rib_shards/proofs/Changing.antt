@@ -15,7 +15,7 @@ use Rattle.prefix_trie.specs.Sharing.{AreAlike}
 use Rattle.prefix_trie.specs.Table.{TableValue, IsOfFamily}
 use Rattle.prefix_trie.proofs.Alike.{keys-alike}
 use Rattle.rib_shards.specs.Likeness.{IsAlikeOption, HasPairs}
-use Rattle.rib_shards.specs.Parts.{part_of, pairs_in, joined, merged, IsPart, AreParts}
+use Rattle.rib_shards.specs.Parts.{part_of, pairs_in, joined, merged, IsPart, AreTableParts}
 use Rattle.rib_shards.proofs.Order.{value_at, sorted-sorted_pairs, length-remove_entry}
 use Rattle.rib_shards.proofs.Merging.{value_of_part, still_parts, merged-insert, merged-remove, alike-merged}
 
@@ -41,7 +41,7 @@ counted : (b : Bool) (n m : ℕ) → m ≡ cond b n (n + 1) → m ≡ n + cond b
 counted true n m e = omega (arith, e)
 counted false n m e = omega (arith, e)
 
-module _ {T : Type 0} (R : T → T → Type 0) (same : (x : T) → R x x) (family : Family) (old new : List (Option (TableValue T))) (are : AreParts family old) (k : PrefixValue) (of : IsOfFamily family k)
+module _ {T : Type 0} (R : T → T → Type 0) (same : (x : T) → R x x) (family : Family) (old new : List (Option (TableValue T))) (are : AreTableParts family old) (k : PrefixValue) (of : IsOfFamily family k)
     (i : ℕ) (at : i ≡ part_of k) (here : i < 257) (p : Option (TableValue T)) (changed : new ≡ set old i p) where
   the_part : IsPart family i (get_or old i None)
   the_part = are.each i here
@@ -53,8 +53,8 @@ module _ {T : Type 0} (R : T → T → Type 0) (same : (x : T) → R x x) (famil
     of_wanted : All (IsOfFamily family) (keys_of (insert_entry prefix_cmp (pairs_in (get_or old i None)) k v))
     of_wanted = All-keys-insert_entry prefix_cmp k v (IsOfFamily family) (pairs_in (get_or old i None)) the_part.one_family of
 
-    pub inserted_parts : AreParts family new
-    inserted_parts = subst (AreParts family) (sym changed) (still_parts family old are i here p (part_with R family i _ p has own_wanted of_wanted))
+    pub inserted_parts : AreTableParts family new
+    inserted_parts = subst (AreTableParts family) (sym changed) (still_parts family old are i here p (part_with R family i _ p has own_wanted of_wanted))
 
     exact_part : IsPart family i (Some (record { family = family; pairs = insert_entry prefix_cmp (pairs_in (get_or old i None)) k v }))
     exact_part = record {
@@ -85,8 +85,8 @@ module _ {T : Type 0} (R : T → T → Type 0) (same : (x : T) → R x x) (famil
     of_left : All (IsOfFamily family) (keys_of (remove_entry (is_at (prefix_cmp k)) (pairs_in (get_or old i None))))
     of_left = All-map-remove_entry (is_at (prefix_cmp k)) (λ e. e.0) (IsOfFamily family) (pairs_in (get_or old i None)) the_part.one_family
 
-    pub removed_parts : AreParts family new
-    removed_parts = subst (AreParts family) (sym changed) (still_parts family old are i here p (part_with R family i _ p has own_left of_left))
+    pub removed_parts : AreTableParts family new
+    removed_parts = subst (AreTableParts family) (sym changed) (still_parts family old are i here p (part_with R family i _ p has own_left of_left))
 
     left_part : IsPart family i (Some (record { family = family; pairs = remove_entry (is_at (prefix_cmp k)) (pairs_in (get_or old i None)) }))
     left_part = record {

@@ -15,7 +15,7 @@ use Rattle.bmp_specs.proofs.OrderLaws.{prefix_total, prefix_exact}
 use Rattle.prefix_trie.specs.Cursor.{after_place, pairs_after, from_place}
 use Rattle.prefix_trie.specs.Table.{TableValue}
 use Rattle.rib_shards.specs.Cursor.{is_after, IsFirst, InLongPart, earlier_of}
-use Rattle.rib_shards.specs.Parts.{pairs_in, joined, merged, AreParts}
+use Rattle.rib_shards.specs.Parts.{pairs_in, joined, merged, AreTableParts}
 use Rattle.rib_shards.proofs.Firsts.{first_passing, one_first}
 use Rattle.rib_shards.proofs.Members.{listed_value, value_listed}
 use Rattle.rib_shards.proofs.Order.{value_at, sorted-sorted_pairs}
@@ -41,7 +41,7 @@ before_both d b a less up = by_order (prefix_cmp a b) refl up
     by_order Equal e h = ap (λ k. is_lt (prefix_cmp d k)) (prefix_exact a b e) ∙ less
     by_order Greater e h = ap is_lt (prefix_total.trans d b a first (prefix_total.antisymm b a ∙ ap ordering_reverse e))
 
-module _ {T : Type 0} (family : Family) (parts : List (Option (TableValue T))) (are : AreParts family parts) (place : Option (Bor PrefixValue)) where
+module _ {T : Type 0} (family : Family) (parts : List (Option (TableValue T))) (are : AreTableParts family parts) (place : Option (Bor PrefixValue)) where
   pub first_of_all : (s l : Option (PrefixValue × T)) → IsFirst (is_after place) (Contains (pairs_in (get_or parts 256 None))) s → IsFirst (is_after place) (InLongPart parts) l
       → IsFirst (is_after place) (Contains (merged parts)) (earlier_of s l)
   first_of_all None None a b = whole_none family parts are place a b
@@ -121,7 +121,7 @@ pub first_stays : {T : Type 0} (a b : PrefixValue × T) → (prefix_cmp b.0 a.0 
 first_stays a b apart = sym (ap (λ t. if t then Some b else Some a) (false_from_ne_true _ (λ h. apart (less_is _ h))))
 
 -- what `after` answers
-pub after_told : {T : Type 0} (family : Family) (ps parts : List (Option (TableValue T))) → ps ≡ parts → AreParts family parts → (place : Option (Bor PrefixValue)) (told : TableValue T)
+pub after_told : {T : Type 0} (family : Family) (ps parts : List (Option (TableValue T))) → ps ≡ parts → AreTableParts family parts → (place : Option (Bor PrefixValue)) (told : TableValue T)
     → ◌≡◌ {A = TableValue T} (record { family = family; pairs = merged parts }) told → (s l : Option (PrefixValue × T)) → IsFirst (is_after place) (Contains (pairs_in (get_or ps 256 None))) s → IsFirst (is_after place) (InLongPart ps) l
     → (r : Option (PrefixValue × T)) → r ≡ earlier_of s l → r ≡ slice_get (after_place place told.pairs) 0
 after_told family ps parts tied are place told view s l a b r is =

@@ -18,9 +18,9 @@ use Rattle.bmp_specs.specs.Values.{AddressValue, PrefixValue}
 use Rattle.bmp_specs.proofs.OrderLaws.{prefix_total, prefix_exact}
 use Rattle.prefix_trie.specs.Longest.{IsLongest, IsLongestPair, NoneHolds}
 use Rattle.prefix_trie.specs.Table.{TableValue, IsOfFamily}
-use Rattle.prefix_trie.proofs.FirstBits.{all_high}
+use Rattle.bmp_specs.proofs.FirstBits.{all_high}
 use Rattle.prefix_trie.proofs.Search.{listed_key}
-use Rattle.rib_shards.specs.Parts.{part_of, pairs_in, joined, merged, AreParts}
+use Rattle.rib_shards.specs.Parts.{part_of, pairs_in, joined, merged, AreTableParts}
 use Rattle.rib_shards.proofs.Order.{value_at, sorted-sorted_pairs}
 use Rattle.rib_shards.proofs.Merging.{value_of_part, value_beyond}
 
@@ -33,7 +33,7 @@ value_listed es d e = Contains-from_lookup {eq = eq_by_cmp prefix_cmp} (tells_ap
 none_some : {X : Type 0} (o : Option X) (x : X) → o ≡ None → o ≡ Some x → ⊥
 none_some o x e f = let clash : None ≡ Some x = sym e ∙ f in absurd cc
 
-module _ {T : Type 0} (family : Family) (parts : List (Option (TableValue T))) (are : AreParts family parts) where
+module _ {T : Type 0} (family : Family) (parts : List (Option (TableValue T))) (are : AreTableParts family parts) where
   whole_value : (d : PrefixValue × T) → Contains (merged parts) d → value_at d.0 (merged parts) ≡ Some d.1
   whole_value d listed = listed_value (merged parts) (sorted-sorted_pairs (joined parts)) d listed
 

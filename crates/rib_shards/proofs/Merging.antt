@@ -13,7 +13,7 @@ use Rattle.bmp_specs.proofs.OrderLaws.{prefix_total, prefix_exact}
 use Rattle.bmp_specs.proofs.SortedPairs.{sorted-insert, sorted-remove, lookup-insert, lookup-remove, one_list}
 use Rattle.prefix_trie.specs.Sharing.{AreAlike}
 use Rattle.prefix_trie.specs.Table.{TableValue}
-use Rattle.rib_shards.specs.Parts.{part_of, pairs_in, joined, sorted_pairs, merged, IsPart, AreParts}
+use Rattle.rib_shards.specs.Parts.{part_of, pairs_in, joined, sorted_pairs, merged, IsPart, AreTableParts}
 use Rattle.rib_shards.proofs.Alikes.{alike-append, alike-insert, alike-refl}
 use Rattle.rib_shards.proofs.Order.{value_at, sorted-sorted_pairs, value-sorted_pairs}
 
@@ -73,11 +73,11 @@ value-joined base (suc i) q (part ∷ parts) own is lt =
 pub value-merged : {X : Type 0} (q : PrefixValue) (parts : List (Option (TableValue X))) → value_at q (merged parts) ≡ value_at q (joined parts)
 value-merged q parts = value-sorted_pairs q (joined parts)
 
-owned : {X : Type 0} (family : Family) (parts : List (Option (TableValue X))) → AreParts family parts → Own 0 parts
+owned : {X : Type 0} (family : Family) (parts : List (Option (TableValue X))) → AreTableParts family parts → Own 0 parts
 owned family parts are j lt k d h = (are.each j (omega (arith, lt, are.count))).own k d h ∙ omega arith
 
 -- what the whole has at a prefix
-pub value_of_part : {X : Type 0} (family : Family) (parts : List (Option (TableValue X))) → AreParts family parts → (q : PrefixValue) → part_of q < 257 → value_at q (merged parts) ≡ value_at q (pairs_in (get_or parts (part_of q) None))
+pub value_of_part : {X : Type 0} (family : Family) (parts : List (Option (TableValue X))) → AreTableParts family parts → (q : PrefixValue) → part_of q < 257 → value_at q (merged parts) ≡ value_at q (pairs_in (get_or parts (part_of q) None))
 value_of_part family parts are q within = value-merged q parts ∙ value-joined 0 (part_of q) q parts (owned family parts are) (omega arith) (omega (arith, within, are.count))
 
 -- ---- one part changed
@@ -88,11 +88,11 @@ beyond q base (part ∷ parts) own more =
     ∙ beyond q (suc base) parts (own_rest base part parts own) (omega (arith, more))
 
 -- no part beyond the last
-pub value_beyond : {X : Type 0} (family : Family) (parts : List (Option (TableValue X))) → AreParts family parts → (q : PrefixValue) → 257 ≤ part_of q → value_at q (merged parts) ≡ None
+pub value_beyond : {X : Type 0} (family : Family) (parts : List (Option (TableValue X))) → AreTableParts family parts → (q : PrefixValue) → 257 ≤ part_of q → value_at q (merged parts) ≡ None
 value_beyond family parts are q more = value-merged q parts ∙ beyond q 0 parts (owned family parts are) (omega (arith, more, are.count))
 
-module _ {X : Type 0} (family : Family) (parts : List (Option (TableValue X))) (are : AreParts family parts) (i : ℕ) (here : i < 257) (part : Option (TableValue X)) (is : IsPart family i part) where
-  pub still_parts : AreParts family (set parts i part)
+module _ {X : Type 0} (family : Family) (parts : List (Option (TableValue X))) (are : AreTableParts family parts) (i : ℕ) (here : i < 257) (part : Option (TableValue X)) (is : IsPart family i part) where
+  pub still_parts : AreTableParts family (set parts i part)
   still_parts = record {
     count = length-set parts i part ∙ are.count;
     each = λ j lt. elim (cases_eq j i) [

@@ -12,7 +12,7 @@ use Rattle.prefix_trie.specs.Cursor.{after_place}
 use Rattle.prefix_trie.specs.Table.{TableValue, IsOfFamily}
 use Rattle.prefix_trie.proofs.Search.{listed_key}
 use Rattle.rib_shards.specs.Cursor.{is_after, IsFirstPair, InLongPart, StartsAt}
-use Rattle.rib_shards.specs.Parts.{part_of, pairs_in, merged, AreParts}
+use Rattle.rib_shards.specs.Parts.{part_of, pairs_in, merged, AreTableParts}
 use Rattle.rib_shards.proofs.Firsts.{byte_less, later, back_of}
 use Rattle.rib_shards.proofs.Members.{listed_in_part, listed_in_whole, long_part, short_part_is}
 
@@ -24,7 +24,7 @@ pub after_is : {T : Type 0} (place : Option (Bor PrefixValue)) (es : List (Prefi
 after_is None es = all_kept es
 after_is (Some p) es = refl
 
-module _ {T : Type 0} (family : Family) (parts : List (Option (TableValue T))) (are : AreParts family parts) where
+module _ {T : Type 0} (family : Family) (parts : List (Option (TableValue T))) (are : AreTableParts family parts) where
   part_key : (i : ℕ) → i < 256 → (d : PrefixValue × T) → Contains (pairs_in (get_or parts i None)) d → (get_or d.0.address.octets 0 0 ≡ i) × IsOfFamily family d.0
   part_key i lt d listed =
       let part = are.each i (omega (arith, lt)) in

@@ -15,7 +15,7 @@ use Rattle.bmp_specs.specs.Address.{IsAddressPrefix}
 use Rattle.prefix_trie.specs.Sharing.{AreAlike}
 use Rattle.prefix_trie.specs.Table.{TableValue, IsOfFamily}
 use Rattle.rib_shards.specs.Likeness.{IsAlikeOption, ChangesPart}
-use Rattle.rib_shards.specs.Parts.{part_of, pairs_in, joined, sorted_pairs, merged, tables, IsPart, AreParts}
+use Rattle.rib_shards.specs.Parts.{part_of, pairs_in, joined, sorted_pairs, merged, tables, IsPart, AreTableParts}
 use Rattle.rib_shards.specs.Whole.{IsWhole}
 use Rattle.rib_shards.proofs.Changing.{inserted_parts, inserted_alike, inserted_length, removed_parts, removed_alike, removed_length}
 use Rattle.rib_shards.proofs.Merging.{value_of_part}
@@ -52,7 +52,7 @@ module _ {T : Type 0} (family : Family) (items : List (Option (Arc (TableValue T
   }
 
 -- ---- the table of a part
-module _ {T : Type 0} (family : Family) (items : List (Option (Arc (TableValue T) Global))) (are : AreParts family (tables items)) where
+module _ {T : Type 0} (family : Family) (items : List (Option (Arc (TableValue T) Global))) (are : AreTableParts family (tables items)) where
   pub part_family : (i : ℕ) → i < 257 → ForSome (get_or items i None) (λ t. (arc_value t).family ≡ family)
   part_family i lt x e = subst (λ p. IfSome p (λ t. t.family ≡ family)) (table_or_none items i ∙ ap (option_map arc_value) e) (are.each i lt).same
 
@@ -72,8 +72,8 @@ pub record IsDone {T : Type 0} (R : T → T → Type 0) (family : Family) (wante
 module _ {T : Type 0} (R : T → T → Type 0) (same : (x : T) → R x x) (family : Family) (start parts new : List (Option (TableValue T))) (len : ℕ) (whole : IsWhole family len start) (old : TableValue T)
     (view : ◌≡◌ {A = TableValue T} (record { family = family; pairs = merged start }) old) (kept : parts ≡ start) (k : PrefixValue) (kind : k.address.family ≡ old.family) (valid : IsAddressPrefix k)
     (i : ℕ) (at : i ≡ part_of k) (here : i < 257) where
-  are : AreParts family parts
-  are = subst (AreParts family) (sym kept) whole.parted
+  are : AreTableParts family parts
+  are = subst (AreTableParts family) (sym kept) whole.parted
 
   of : IsOfFamily family k
   of = record { same = kind ∙ ap (λ v. v.family) (sym view); exact = valid }

@@ -52,6 +52,6 @@ pub record IsPart {T : Type 0} (family : Family) (i : ℕ) (part : Option (Table
   pub one_family : All (IsOfFamily family) (keys_of (pairs_in part))
 
 -- 257 parts of one family
-pub record AreParts {T : Type 0} (family : Family) (parts : List (Option (TableValue T))) : Type 0 where
+pub record AreTableParts {T : Type 0} (family : Family) (parts : List (Option (TableValue T))) : Type 0 where
   pub count : length parts ≡ 257
   pub each : (i : ℕ) → i < 257 → IsPart family i (slice_index_or parts i None)

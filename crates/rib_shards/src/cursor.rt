@@ -6,7 +6,7 @@ ghost use Rattle.std.specs.Option.{option_map, ForSome};
 ghost use Rattle.bmp_specs.specs.Orders.{prefix_cmp};
 ghost use Rattle.prefix_trie.specs.Cursor.{after_place, from_place, shown};
 ghost use Rattle.rib_shards.specs.Cursor.{is_after, IsFirst, InLongPart, StartsAt};
-ghost use Rattle.rib_shards.specs.Parts.{AreParts, pairs_in, tables};
+ghost use Rattle.rib_shards.specs.Parts.{AreTableParts, pairs_in, tables};
 
 use crate::parts::{Part, SHORT, part_at};
 use crate::shards::Shards;
@@ -86,7 +86,7 @@ fn first_long<'a, T: Share + Drop>(
     family: Family,
     place: Option<&Prefix>,
 ) -> Option<(Prefix, &'a T)>
-    requires parts { AreParts family (tables parts.now) }
+    requires parts { AreTableParts family (tables parts.now) }
     requires count { length parts.now ≡ 257 }
     requires place { ForSome place (λ p. p.now.address.family ≡ family) }
     ensures { IsFirst (is_after place.entry) (InLongPart (tables parts.now)) (option_map shown result) }

@@ -149,7 +149,7 @@ up_by_statistic es key stat h =
       record {
         before = l.before;
         after = l.after ++ statistic key stat ∷ r.after;
-        place = r.row_key ∙ ap (λ (xs : List EffectValue). xs ++ statistic key stat ∷ r.after) l.place ∙ append_assoc l.before (up key u.0 ∷ l.after) (statistic key stat ∷ r.after);
+        split = r.split ∙ ap (λ (xs : List EffectValue). xs ++ statistic key stat ∷ r.after) l.split ∙ append_assoc l.before (up key u.0 ∷ l.after) (statistic key stat ∷ r.after);
         last = none_after l.after r.after l.last r.last;
       },
     )

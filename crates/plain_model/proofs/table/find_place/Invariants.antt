@@ -7,4 +7,4 @@ use Rattle.plain_model.specs.Values.{row_key_value, row_value}
 use Rattle.plain_model.proofs.table.find_place.Given as goal
 
 abbrev pub invariant-loop-at : goal.invariant-loop-at
-invariant-loop-at l = AllByRecursion (λ p. row_key_cmp p (row_key_value l.row_key) ≡ Less) (take l.at (row_keys_of (map row_value l.rows)))
+invariant-loop-at l = AllByRecursion (λ p. row_key_cmp p (row_key_value l.place) ≡ Less) (take l.at (row_keys_of (map row_value l.rows)))

@@ -5,7 +5,7 @@ use Rattle.bmp_specs.specs.Prefix.{width_of}
 use Rattle.prefix_trie.specs.Looking.{IsSearching}
 use Rattle.prefix_trie.specs.Table.{TableValue, IsOfFamily}
 use Rattle.prefix_trie.proofs.Search.{search_starts, search_fails, search_finds, search_nears, search_goes_on}
-use Rattle.prefix_trie.proofs.Nearest.{width_small}
+use Rattle.bmp_specs.proofs.PrefixOrder.{width_small}
 use Rattle.prefix_trie.proofs.trie.Trie.longest.Goals as goal
 
 pub loop-place-init : goal.loop-place-init

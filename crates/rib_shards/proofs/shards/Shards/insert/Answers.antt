@@ -2,7 +2,7 @@ use Rattle.std.proofs.Common.{◌≡◌, ◌+◌, ◌∙◌, ap, sym, subst, con
 use Rattle.std.specs.Arc.{arc_value}
 use Rattle.std.specs.Option.{is_some}
 use Rattle.rib_shards.specs.Likeness.{IsAlikeOption}
-use Rattle.rib_shards.specs.Parts.{tables, AreParts}
+use Rattle.rib_shards.specs.Parts.{tables, AreTableParts}
 use Rattle.rib_shards.specs.Whole.{IsWhole}
 use Rattle.rib_shards.proofs.Order.{value_at}
 use Rattle.rib_shards.proofs.Whole.{part_family, inserted}
@@ -11,7 +11,7 @@ use Rattle.rib_shards.proofs.shards.Shards.insert.Goals as goal
 pub insert_at-requires-clause-part : goal.insert_at-requires-clause-part
 insert_at-requires-clause-part g c =
     let kept = ap (λ v. tables v.items) c.in-Some.ensures.value ∙ c.unshare.ensures in
-    part_family c.self.inside.family c.in-Some.parts.now.items (subst (AreParts c.self.inside.family) (sym kept) c.self.invariant.parted) c.part_of-at.result c.part_of-at.ensures.within
+    part_family c.self.inside.family c.in-Some.parts.now.items (subst (AreTableParts c.self.inside.family) (sym kept) c.self.invariant.parted) c.part_of-at.result c.part_of-at.ensures.within
 
 pub invariant_of-self-in-Some-2 : goal.invariant_of-self-in-Some-2
 invariant_of-self-in-Some-2 g c =

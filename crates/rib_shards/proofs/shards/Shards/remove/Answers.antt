@@ -5,7 +5,7 @@ use Rattle.std.specs.Option.{is_some}
 use Rattle.bmp_specs.specs.Orders.{prefix_cmp}
 use Rattle.prefix_trie.specs.Sharing.{AreAlike}
 use Rattle.rib_shards.specs.Likeness.{IsAlikeOption}
-use Rattle.rib_shards.specs.Parts.{tables, AreParts}
+use Rattle.rib_shards.specs.Parts.{tables, AreTableParts}
 use Rattle.rib_shards.specs.Whole.{IsWhole}
 use Rattle.rib_shards.proofs.Alikes.{alike-refl}
 use Rattle.rib_shards.proofs.Order.{copied_none, remove_missing, value_at}
@@ -15,7 +15,7 @@ use Rattle.rib_shards.proofs.shards.Shards.remove.Goals as goal
 pub remove_at-requires-clause-part : goal.remove_at-requires-clause-part
 remove_at-requires-clause-part g c =
     let kept = ap (λ v. tables v.items) c.in-Some.ensures.value ∙ c.unshare.ensures in
-    part_family c.self.inside.family c.in-Some.parts.now.items (subst (AreParts c.self.inside.family) (sym kept) c.self.invariant.parted) c.part_of-at.result c.part_of-at.ensures.within
+    part_family c.self.inside.family c.in-Some.parts.now.items (subst (AreTableParts c.self.inside.family) (sym kept) c.self.invariant.parted) c.part_of-at.result c.part_of-at.ensures.within
 
 pub overflow_sub-self : goal.overflow_sub-self
 overflow_sub-self g c = removed_some g.T.Share.alike g.met.T.Share.same c.self.inside.family (tables (arc_value c.self.inside.parts).items) (tables c.in-Some.parts.now.items) (tables c.remove_at.new.parts.items) c.self.inside.len c.self.invariant c.args.self.now c.self.view_is (ap (λ v. tables v.items) c.in-Some.ensures.value ∙ c.unshare.ensures) c.args.prefix.now c.requires c.bits-bits.ensures.valid c.part_of-at.result c.part_of-at.ensures.part c.part_of-at.ensures.within c.in_ok-value.field-0 c.in_ok-value.ensures.value c.in_ok-value.ensures.ok c.in-Some-2.value c.in-Some-2.is
