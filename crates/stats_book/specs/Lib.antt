@@ -1,4 +1,3 @@
 pub mod Kind
 pub mod Stats
 pub mod Standing
-pub mod Sums
