@@ -1,6 +1,7 @@
 -- The latest of its kind in a list: one more element at the end, and that there is one.
-use Rattle.std.proofs.Common.{◌≡◌, ◌⊎◌, inl, inr, List, [], ◌∷◌, ◌++◌, refl, sym, ap, ◌∙◌, subst}
+use Rattle.std.proofs.Common.{◌≡◌, ◌↔◌, ◌⊎◌, inl, inr, List, [], ◌∷◌, ◌++◌, refl, sym, ap, ◌∙◌, subst, append-nil, append_assoc}
 use Rattle.std.specs.List.{AllByRecursion}
+use mathlib.Core.Logic.Iff.{trans as then_iff}
 use Rattle.bmp_specs.specs.Latest.{Latest}
 
 -- the place of x in a list with e at its end: the end, or before it
@@ -89,6 +90,19 @@ module _ {X : Type 0} where
             let h = all_front (λ y. ¬ (Replaces y)) rest e (subst (AllByRecursion (λ y. ¬ (Replaces y))) a m.last) in
             inr (record { before = m.before; after = rest; split = s; last = h.0 }, refl, h.1)
 
+    pub latest_step : (es : List X) (e x : X) → Latest Replaces (es ++ e ∷ []) x ↔ ((e ≡ x) ⊎ (Latest Replaces es x × ¬ (Replaces e)))
+    latest_step es e x = (
+      λ m. elim (latest_from es e x m) [ inl h ↦ inl h.0 | inr h ↦ inr (h.0, h.2) ],
+      λ c. elim c [ inl same ↦ subst (λ (d : X). Latest Replaces (es ++ d ∷ []) x) (sym same) (latest_now es x) | inr h ↦ (latest_still es e x h.0 h.1).0 ],
+    )
+
+    -- what doesn't replace a value that replaces leaves it the latest or not
+    pub latest_kept : (es : List X) (e x : X) → Replaces x → ¬ (Replaces e) → Latest Replaces es x ↔ Latest Replaces (es ++ e ∷ []) x
+    latest_kept es e x replaces other = (
+      λ l. (latest_still es e x l other).0,
+      λ m. elim (latest_from es e x m) [ inl h ↦ absurd (other (subst Replaces (sym h.0) replaces)) | inr h ↦ h.0 ],
+    )
+
     -- of values that each replace, one is the latest, at one place
     pub latest_one : (es : List X) (x y : X) (l : Latest Replaces es x) (m : Latest Replaces es y) → Replaces x → Replaces y → (x ≡ y) × (l.before ≡ m.before) × (l.after ≡ m.after)
     latest_one es x y l m p q = go (place_cases l.before l.after m.before m.after x y (sym l.split ∙ m.split))
@@ -108,3 +122,21 @@ module _ {X : Type 0} where
       | inr other ↦ inr (other, others)
     ]
   ]
+
+  pub all_weaker : (P Q : X → Type 0) → ((x : X) → P x → Q x) → (xs : List X) → AllByRecursion P xs → AllByRecursion Q xs
+  all_weaker P Q weaker [] all = tt
+  all_weaker P Q weaker (x ∷ xs) all = (weaker x all.0, all_weaker P Q weaker xs all.1)
+
+  -- what stays with each of some elements more stays with all of them
+  pub still_by_all : (P : X → Type 0) (Q : List X → Type 0) → ((xs : List X) (x : X) → P x → Q xs → Q (xs ++ x ∷ [])) → (xs ys : List X) → AllByRecursion P ys → Q xs → Q (xs ++ ys)
+  still_by_all P Q one xs [] all q = subst Q (sym (append-nil xs)) q
+  still_by_all P Q one xs (y ∷ ys) all q = subst Q (append_assoc xs (y ∷ []) ys) (still_by_all P Q one (xs ++ y ∷ []) ys all.1 (one xs y all.0 q))
+
+  -- what each of some elements leaves as it is, all of them do
+  pub kept_by_all : (P : X → Type 0) (Q : List X → Type 0) → ((xs : List X) (x : X) → P x → Q xs ↔ Q (xs ++ x ∷ [])) → (xs ys : List X) → AllByRecursion P ys → Q xs ↔ Q (xs ++ ys)
+  kept_by_all P Q one xs [] all = subst (λ (l : List X). Q xs ↔ Q l) (sym (append-nil xs)) (λ q. q, λ q. q)
+  kept_by_all P Q one xs (y ∷ ys) all = then_iff (one xs y all.0) (subst (λ (l : List X). Q (xs ++ y ∷ []) ↔ Q l) (append_assoc xs (y ∷ []) ys) (kept_by_all P Q one (xs ++ y ∷ []) ys all.1))
+
+  pub same_by_all : {A : Type 0} (P : X → Type 0) (f : List X → A) → ((xs : List X) (x : X) → P x → f (xs ++ x ∷ []) ≡ f xs) → (xs ys : List X) → AllByRecursion P ys → f (xs ++ ys) ≡ f xs
+  same_by_all P f one xs [] all = ap f (append-nil xs)
+  same_by_all P f one xs (y ∷ ys) all = ap f (sym (append_assoc xs (y ∷ []) ys)) ∙ same_by_all P f one (xs ++ y ∷ []) ys all.1 ∙ one xs y all.0

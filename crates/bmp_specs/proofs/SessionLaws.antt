@@ -6,7 +6,7 @@ use Rattle.std.specs.List.{last_or, AllByRecursion}
 use Rattle.std.proofs.lemmas.Grind.{flat_map-append}
 use Rattle.bmp_specs.specs.declared.causes.Cause.{Cause}
 use Rattle.bmp_specs.specs.Values.{EffectValue, EntryValue, opened, message, closed}
-use Rattle.bmp_specs.specs.Session.{since_opening, cause_in, last_cause, unless_closed, present_session, idle, live, shut, state_by, state_since, state_of, effects_in, session_messages, session_effects}
+use Rattle.bmp_specs.specs.Session.{since_opening, cause_in, last_cause, unless_closed, present_session, LaneStateValue, idle, live, shut, state_by, state_since, state_of, effects_in, session_messages, session_effects}
 
 -- the entry is a message
 abbrev pub IsMessage : EntryValue → Type 0
@@ -192,3 +192,37 @@ state_after_message entries kind len effects = rw (since_pushed entries (message
     go : (o : Option (List EntryValue)) → state_since (option_map (λ s. s ++ message kind len effects ∷ []) o) ≡ state_since o
     go None = refl
     go (Some s) = ap state_by (cause_pushed s None kind len effects)
+
+-- without a session there is no message
+pub messages_without_session : (entries : List EntryValue) → (state_of entries ≡ live → ⊥) → session_messages entries ≡ []
+messages_without_session entries isnt_live = go (since_opening entries) isnt_live
+  where
+    at : (s : List EntryValue) (c : Option Cause) → (state_by c ≡ live → ⊥) → unwrap_or (unless_closed s c) [] ≡ []
+    at s None isnt = absurd (isnt refl)
+    at s (Some cause) isnt = refl
+
+    go : (o : Option (List EntryValue)) → (state_since o ≡ live → ⊥) → unwrap_or (option_and_then (λ s. unless_closed s (last_cause s)) o) [] ≡ []
+    go None isnt = refl
+    go (Some s) isnt = at s (last_cause s) isnt
+
+pub effects_without_session : (entries : List EntryValue) → (state_of entries ≡ live → ⊥) → session_effects entries ≡ []
+effects_without_session entries isnt_live = ap (flat_map effects_in) (messages_without_session entries isnt_live)
+
+-- and one more goes nowhere
+pub messages_stay : (entries : List EntryValue) (kind len : ℕ) (effects : List EffectValue) → (state_of entries ≡ live → ⊥) → session_messages (entries ++ message kind len effects ∷ []) ≡ session_messages entries
+messages_stay entries kind len effects isnt_live = messages_stay_none entries kind len effects isnt_live ∙ sym (messages_without_session entries isnt_live)
+
+pub effects_stay : (entries : List EntryValue) (kind len : ℕ) (effects : List EffectValue) → (state_of entries ≡ live → ⊥) → session_effects (entries ++ message kind len effects ∷ []) ≡ session_effects entries
+effects_stay entries kind len effects isnt_live = ap (flat_map effects_in) (messages_stay entries kind len effects isnt_live)
+
+-- after a closing there is no session
+pub not_live_after_closing : (entries : List EntryValue) (cause : Cause) → state_of (entries ++ closed cause ∷ []) ≡ live → ⊥
+not_live_after_closing entries cause h = go (state_of entries) refl
+  where
+    after : (state_of entries ≡ idle → ⊥) → ⊥
+    after ever = let e : shut cause ≡ live = sym (state_after_closing entries cause ever) ∙ h in cc
+
+    go : (s : LaneStateValue) → state_of entries ≡ s → ⊥
+    go idle is = let e : idle ≡ live = sym (state_stays_idle entries cause is) ∙ h in cc
+    go live is = after (λ was. let e : live ≡ idle = sym is ∙ was in cc)
+    go (shut c) is = after (λ was. let e : shut c ≡ idle = sym is ∙ was in cc)

@@ -41,6 +41,7 @@ pub mod PeerText
 pub mod Latest
 pub mod Session
 pub mod Counts
+pub mod Sums
 pub mod PeerUp
 pub mod Rows
 pub mod Complete

@@ -76,9 +76,10 @@ name_of effects = unwrap_or (last_or None (filter_map name_in effects)) []
 abbrev pub description_of : List EffectValue → List ℕ
 description_of effects = unwrap_or (last_or None (filter_map description_in effects)) []
 
--- sysName and sysDescr of the present session
+-- the sysName of the present session, none without a session
 abbrev pub lane_name : List EntryValue → List ℕ
 lane_name entries = name_of (session_effects entries)
 
+-- the sysDescr of the present session, none without a session
 abbrev pub lane_description : List EntryValue → List ℕ
 lane_description entries = description_of (session_effects entries)

@@ -1,4 +1,3 @@
 pub mod MarkLaws
 pub mod Marking
-pub mod OneMore
 pub mod Standings

@@ -1,5 +1,5 @@
 -- The effects that a book stands for, with one more.
-use Rattle.std.proofs.Common.{◌≡◌, ◌⊎◌, inl, inr, Bool, false, List, [], ◌∷◌, ◌++◌, Option, None, Some, refl, sym, ap, ◌∙◌, subst}
+use Rattle.std.proofs.Common.{◌≡◌, inl, inr, Bool, false, List, [], ◌∷◌, ◌++◌, Option, None, Some, refl, sym, ap, ◌∙◌, subst}
 use Rattle.std.specs.Prelude.{◌↔◌, IsSome, IsTrue, is_some}
 use Rattle.std.specs.BTreeMap.{is_at}
 use Rattle.std.specs.Map.{set_value}
@@ -12,17 +12,16 @@ use Rattle.bmp_specs.specs.Orders.{key_cmp, view_cmp, family_cmp}
 use Rattle.bmp_specs.specs.Values.{KeyValue, PeerInfoValue, DownInfoValue, EffectValue, up, down, mark}
 use Rattle.bmp_specs.specs.Complete.{IsComplete}
 use Rattle.bmp_specs.specs.PeerUp.{Names, IsNamed, IsUpWith, IsDownWith, IsUp, StateValue, up_state, down_state}
-use Rattle.bmp_specs.proofs.LatestLaws.{latest_now}
-use Rattle.bmp_specs.proofs.CompleteLaws.{complete_now, complete_from}
+use Rattle.bmp_specs.proofs.CompleteLaws.{complete_now}
 use Rattle.bmp_specs.proofs.OrderLaws.{key_total, key_exact, view_total, view_exact, family_total, family_exact, same_or_other}
 use Rattle.bmp_specs.proofs.PairLookups.{inserted_here, inserted_elsewhere, set_here, set_elsewhere}
-use Rattle.bmp_specs.proofs.RowLaws.{up_one, up_or_down}
+use Rattle.bmp_specs.proofs.PeerLaws.{none_up, none_down, none_complete, named_up, named_down, named_cases, down_one, up_with_now, down_with_now, up_ends_down, down_ends_up, named_ends_complete, up_kept, down_kept, complete_kept}
+use Rattle.bmp_specs.proofs.RowLaws.{up_one}
 use Rattle.peer_book.specs.declared.marks.Marks.{Marks}
 use Rattle.peer_book.specs.Marks.{no_marks, is_marked, marked}
 use Rattle.peer_book.specs.Peers.{Peers, PeerValue, up_peer, down_peer, state_of, is_up_peer, is_complete_peer, marked_peer, peer_at, state_at, is_up_at, is_complete_at, with_peer, with_peer_there, with_mark}
 use Rattle.peer_book.specs.Standing.{StandsForPeers}
 use Rattle.peer_book.proofs.MarkLaws.{none_marked, marked_here, marked_other_view, marked_other_family}
-use Rattle.peer_book.proofs.OneMore.{up_kept, down_kept, complete_kept, named_up, named_down, named_cases, down_one}
 
 -- a key is named where it is up or down
 named_by : (peers : Peers) (es : List EffectValue) → ((key : KeyValue) (info : PeerInfoValue) → (state_at peers key ≡ Some (up_state info)) ↔ IsUpWith es key info)
@@ -47,13 +46,8 @@ stands_by peers es ups downs completes = record { up = ups; down = downs; named 
 
 -- no effect names a peer
 pub stands_empty : StandsForPeers [] []
-stands_empty = stands_by [] [] (λ key info. (λ h. absurd cc, λ l. absurd (nothing l.before l.after (up key info) l.split)))
-    (λ key info. (λ h. absurd cc, λ l. absurd (nothing l.before l.after (down key info) l.split)))
-    (λ key view family. (λ h. absurd cc, λ c. absurd (nothing c.up.before c.up.after (up key c.info) c.up.split)))
-  where
-    nothing : (before after : List EffectValue) (e : EffectValue) → [] ≡ before ++ e ∷ after → ⊥
-    nothing [] after e h = cc
-    nothing (b ∷ before) after e h = cc
+stands_empty = stands_by [] [] (λ key info. (λ h. absurd cc, λ l. absurd (none_up key info l))) (λ key info. (λ h. absurd cc, λ l. absurd (none_down key info l)))
+    (λ key view family. (λ h. absurd cc, λ c. absurd (none_complete key view family c)))
 
 -- an effect that is no Up, Down or Mark changes nothing
 pub stands_still : (peers : Peers) (es : List EffectValue) (e : EffectValue) → ((key : KeyValue) → ¬ (Names key e)) → ((key : KeyValue) (view : View) (family : Family) → ¬ (e ≡ mark key view family))
@@ -106,35 +100,31 @@ pub stands_up : (peers : Peers) (es : List EffectValue) (k : KeyValue) (info : P
 stands_up peers es k info h = stands_replaced peers es (up k info) k (up_peer info no_marks) (λ key other n. other (sym n)) (λ key view family is. cc) h ups downs completes
   where
     now : IsUpWith (es ++ up k info ∷ []) k info
-    now = latest_now (Names k) es (up k info)
+    now = up_with_now es k info
 
     ups : (i : PeerInfoValue) → (Some (up_state info) ≡ Some (up_state i)) ↔ IsUpWith (es ++ up k info ∷ []) k i
     ups i = (λ is. let same : info ≡ i = cc in subst (λ (j : PeerInfoValue). IsUpWith (es ++ up k info ∷ []) k j) same now, λ l. ap (λ (j : PeerInfoValue). Some (up_state j)) (up_one (es ++ up k info ∷ []) k info i now l))
 
     downs : (i : DownInfoValue) → (Some (up_state info) ≡ Some (down_state i)) ↔ IsDownWith (es ++ up k info ∷ []) k i
-    downs i = (λ is. absurd cc, λ l. absurd (up_or_down (es ++ up k info ∷ []) k i (info, now) l))
-
-    marked_now : (view : View) (family : Family) → (e : EffectValue) → e ≡ up k info → ((e ≡ mark k view family) × IsUp es k) ⊎ (IsComplete es k view family × ¬ (Names k e)) → ⊥
-    marked_now view family e is (inl h) = let clash : up k info ≡ mark k view family = sym is ∙ h.0 in cc
-    marked_now view family e is (inr h) = h.1 (subst (Names k) (sym is) refl)
+    downs i = (λ is. absurd cc, λ l. absurd (up_ends_down es k info i l))
 
     completes : (view : View) (family : Family) → IsTrue (is_marked no_marks view family) ↔ IsComplete (es ++ up k info ∷ []) k view family
-    completes view family = (λ is. let none : is_marked no_marks view family ≡ false = none_marked view family in absurd cc, λ c. absurd (marked_now view family (up k info) refl (complete_from es (up k info) k view family c)))
+    completes view family = (λ is. let none : is_marked no_marks view family ≡ false = none_marked view family in absurd cc, λ c. absurd (named_ends_complete es k (up k info) view family refl c))
 
 pub stands_down : (peers : Peers) (es : List EffectValue) (k : KeyValue) (info : DownInfoValue) → StandsForPeers peers es → StandsForPeers (with_peer peers k (down_peer info)) (es ++ down k info ∷ [])
 stands_down peers es k info h = stands_replaced peers es (down k info) k (down_peer info) (λ key other n. other (sym n)) (λ key view family is. cc) h ups downs completes
   where
     now : IsDownWith (es ++ down k info ∷ []) k info
-    now = latest_now (Names k) es (down k info)
+    now = down_with_now es k info
 
     ups : (i : PeerInfoValue) → (Some (down_state info) ≡ Some (up_state i)) ↔ IsUpWith (es ++ down k info ∷ []) k i
-    ups i = (λ is. absurd cc, λ l. absurd (up_or_down (es ++ down k info ∷ []) k info (i, l) now))
+    ups i = (λ is. absurd cc, λ l. absurd (down_ends_up es k info (i, l)))
 
     downs : (i : DownInfoValue) → (Some (down_state info) ≡ Some (down_state i)) ↔ IsDownWith (es ++ down k info ∷ []) k i
     downs i = (λ is. let same : info ≡ i = cc in subst (λ (j : DownInfoValue). IsDownWith (es ++ down k info ∷ []) k j) same now, λ l. ap (λ (j : DownInfoValue). Some (down_state j)) (down_one (es ++ down k info ∷ []) k info i now l))
 
     completes : (view : View) (family : Family) → IsTrue false ↔ IsComplete (es ++ down k info ∷ []) k view family
-    completes view family = (λ is. absurd cc, λ c. absurd (up_or_down (es ++ down k info ∷ []) k info (c.info, c.up) now))
+    completes view family = (λ is. absurd cc, λ c. absurd (named_ends_complete es k (down k info) view family refl c))
 
 -- a mark of a peer that isn't up changes nothing
 unmarked : (peers : Peers) (es : List EffectValue) (k : KeyValue) (view : View) (family : Family) → ¬ (IsUp es k) → StandsForPeers peers es → StandsForPeers peers (es ++ mark k view family ∷ [])

@@ -1,43 +1,29 @@
 -- The effects that a book of statistics stands for, with one more.
-use Rattle.std.proofs.Common.{◌≡◌, inl, inr, ℕ, false, List, [], ◌∷◌, ◌++◌, Option, None, Some, refl, sym, ap, ◌∙◌, subst, append_assoc}
+use Rattle.std.proofs.Common.{◌≡◌, inl, inr, ℕ, false, List, [], ◌∷◌, ◌++◌, Option, None, Some, sym, ap, ◌∙◌, subst}
 use Rattle.std.specs.Prelude.{◌↔◌, unwrap_or}
 use Rattle.std.specs.BTreeMap.{is_at}
-use Rattle.std.specs.List.{AllByRecursion}
 use Rattle.std.specs.Map.{lookup}
 use mathlib.Core.Logic.Iff.{trans as then_iff}
 use Rattle.bmp_specs.specs.Orders.{key_cmp}
 use Rattle.bmp_specs.specs.PeerUp.{Names, IsUp}
 use Rattle.bmp_specs.specs.Rows.{ReplacesStatistic, HasStatistic}
-use Rattle.bmp_specs.specs.Values.{KeyValue, StatValue, EffectValue, up, down, announce, withdraw, mark, statistic, named, described, orphan, mirrored, passed, unread}
+use Rattle.bmp_specs.specs.Values.{KeyValue, StatValue, EffectValue, statistic}
+use Rattle.bmp_specs.proofs.EffectCases.{named_other_statistic}
 use Rattle.bmp_specs.proofs.OrderLaws.{key_total, key_exact, same_or_other}
 use Rattle.bmp_specs.proofs.PairLookups.{at_other, inserted_here, inserted_elsewhere}
-use Rattle.bmp_specs.proofs.StatisticLaws.{statistic_now, statistic_still, statistic_from, statistic_one}
+use Rattle.bmp_specs.proofs.StatisticLaws.{none_statistic, statistic_now, statistic_kept, named_ends_statistic, statistic_unheard, statistic_one}
 use Rattle.bmp_specs.specs.StatKind.{KindValue, kind_cmp, kind_of}
 use Rattle.stats_book.specs.Stats.{Stats, PeerStats, stats_at, value_at, with_value, with_stat}
 use Rattle.stats_book.specs.Standing.{StandsForStats}
 use Rattle.bmp_specs.proofs.OrderLaws.{kind_total, kind_exact}
 
--- a statistic that the effect neither replaces nor reports
-kept : (es : List EffectValue) (e : EffectValue) (key : KeyValue) (stat : StatValue) → ¬ (ReplacesStatistic key stat e) → HasStatistic es key stat ↔ HasStatistic (es ++ e ∷ []) key stat
-kept es e key stat other = (
-  statistic_still es e key stat other,
-  λ h. elim (statistic_from es e key stat h) [
-    | inl now ↦ absurd (other (subst (ReplacesStatistic key stat) (sym now.0) (refl, refl, refl, refl)))
-    | inr before ↦ before.0
-  ],
-)
-
 -- no effect reports a statistic
 pub stands_empty : StandsForStats [] []
-stands_empty = record { values = λ key stat. (λ h. absurd cc, λ s. absurd (nothing s.reported.before s.reported.after (statistic key stat) s.reported.split)) }
-  where
-    nothing : (before after : List EffectValue) (e : EffectValue) → [] ≡ before ++ e ∷ after → ⊥
-    nothing [] after e h = cc
-    nothing (b ∷ before) after e h = cc
+stands_empty = record { values = λ key stat. (λ h. absurd cc, λ h. absurd (none_statistic key stat h)) }
 
 -- an effect that is no Up, Down or statistic changes nothing
 pub stands_still : (stats : Stats) (es : List EffectValue) (e : EffectValue) → ((key : KeyValue) (stat : StatValue) → ¬ (ReplacesStatistic key stat e)) → StandsForStats stats es → StandsForStats stats (es ++ e ∷ [])
-stands_still stats es e other h = record { values = λ key stat. then_iff (h.values key stat) (kept es e key stat (other key stat)) }
+stands_still stats es e other h = record { values = λ key stat. then_iff (h.values key stat) (statistic_kept es e key stat (other key stat)) }
 
 -- kinds and values make a statistic
 one_statistic : (a b : StatValue) → kind_of a ≡ kind_of b → a.value ≡ b.value → a ≡ b
@@ -75,7 +61,7 @@ stands_set stats es k s is_up h = record { values = to_values }
     at_key stat = elim (same_or_other kind_cmp kind_total kind_exact (kind_of stat) (kind_of s)) [
       | inl kind ↦ same_kind stat kind
       | inr other ↦ subst (λ (o : Option ℕ). (o ≡ Some stat.value) ↔ HasStatistic after k stat) (sym (inserted_elsewhere kind_cmp kind_total kind_exact (stats_at stats k) (kind_of s) s.value (kind_of stat) other))
-          (then_iff (h.values k stat) (kept es (statistic k s) k stat (λ r. other (λ i. record { code = sym r.1 i; afi = sym r.2 i; safi = sym r.3 i }))))
+          (then_iff (h.values k stat) (statistic_kept es (statistic k s) k stat (λ r. other (λ i. record { code = sym r.1 i; afi = sym r.2 i; safi = sym r.3 i }))))
     ]
 
     to_values : (key : KeyValue) (stat : StatValue) → (value_at (with_stat stats k s) key (kind_of stat) ≡ Some stat.value) ↔ HasStatistic after key stat
@@ -83,45 +69,8 @@ stands_set stats es k s is_up h = record { values = to_values }
       | inl same ↦ subst (λ (j : KeyValue). (value_at (with_stat stats k s) j (kind_of stat) ≡ Some stat.value) ↔ HasStatistic after j stat) (sym same)
           (subst (λ (l : PeerStats). (lookup (is_at (kind_cmp (kind_of stat))) l ≡ Some stat.value) ↔ HasStatistic after k stat) (sym here) (at_key stat))
       | inr other ↦ subst (λ (l : PeerStats). (lookup (is_at (kind_cmp (kind_of stat))) l ≡ Some stat.value) ↔ HasStatistic after key stat) (sym (elsewhere key other))
-          (then_iff (h.values key stat) (kept es (statistic k s) key stat (λ r. other (sym r.0))))
+          (then_iff (h.values key stat) (statistic_kept es (statistic k s) key stat (λ r. other (sym r.0))))
     ]
-
--- an Up or a Down of a peer replaces its statistics
-replaced : (e : EffectValue) (key : KeyValue) (stat : StatValue) → Names key e → ReplacesStatistic key stat e
-replaced (up k info) key stat n = n
-replaced (down k info) key stat n = n
-replaced (announce k view nlri route) key stat n = absurd n
-replaced (withdraw k view nlri) key stat n = absurd n
-replaced (mark k view family) key stat n = absurd n
-replaced (statistic k s) key stat n = absurd n
-replaced (named name) key stat n = absurd n
-replaced (described text) key stat n = absurd n
-replaced orphan key stat n = absurd n
-replaced mirrored key stat n = absurd n
-replaced passed key stat n = absurd n
-replaced (unread parts) key stat n = absurd n
-
--- and ends them
-ended : (es : List EffectValue) (e : EffectValue) (key : KeyValue) (stat : StatValue) → Names key e → ¬ (HasStatistic (es ++ e ∷ []) key stat)
-ended es e key stat names has = elim (statistic_from es e key stat has) [
-  | inl now ↦ subst (Names key) now.0 names
-  | inr before ↦ before.1 (replaced e key stat names)
-]
-
--- and no other peer's
-others_stay : (e : EffectValue) (k key : KeyValue) (stat : StatValue) → Names k e → ¬ (key ≡ k) → ¬ (ReplacesStatistic key stat e)
-others_stay (up j info) k key stat n other r = other (sym r ∙ n)
-others_stay (down j info) k key stat n other r = other (sym r ∙ n)
-others_stay (announce j view nlri route) k key stat n other r = n
-others_stay (withdraw j view nlri) k key stat n other r = n
-others_stay (mark j view family) k key stat n other r = n
-others_stay (statistic j s) k key stat n other r = n
-others_stay (named name) k key stat n other r = n
-others_stay (described text) k key stat n other r = n
-others_stay orphan k key stat n other r = n
-others_stay mirrored k key stat n other r = n
-others_stay passed k key stat n other r = n
-others_stay (unread parts) k key stat n other r = n
 
 -- the peer's statistics go, and all others stay
 pub stands_forgotten : (stats next : Stats) (es : List EffectValue) (e : EffectValue) (k : KeyValue) → Names k e → lookup (is_at (key_cmp k)) next ≡ None
@@ -134,48 +83,11 @@ stands_forgotten stats next es e k names gone stays h = record { values = to_val
     to_values : (key : KeyValue) (stat : StatValue) → (value_at next key (kind_of stat) ≡ Some stat.value) ↔ HasStatistic after key stat
     to_values key stat = elim (same_or_other key_cmp key_total key_exact key k) [
       | inl same ↦ subst (λ (j : KeyValue). (value_at next j (kind_of stat) ≡ Some stat.value) ↔ HasStatistic after j stat) (sym same)
-          (subst (λ (o : Option PeerStats). (lookup (is_at (kind_cmp (kind_of stat))) (unwrap_or o []) ≡ Some stat.value) ↔ HasStatistic after k stat) (sym gone) (λ is. absurd cc, λ has. absurd (ended es e k stat names has)))
+          (subst (λ (o : Option PeerStats). (lookup (is_at (kind_cmp (kind_of stat))) (unwrap_or o []) ≡ Some stat.value) ↔ HasStatistic after k stat) (sym gone) (λ is. absurd cc, λ has. absurd (named_ends_statistic es e k stat names has)))
       | inr other ↦ subst (λ (o : Option PeerStats). (lookup (is_at (kind_cmp (kind_of stat))) (unwrap_or o []) ≡ Some stat.value) ↔ HasStatistic after key stat) (sym (stays key (at_other key_cmp key_total key_exact k key (λ s. other (sym s)))))
-          (then_iff (h.values key stat) (kept es e key stat (others_stay e k key stat names other)))
+          (then_iff (h.values key stat) (statistic_kept es e key stat (named_other_statistic k key stat e names other)))
     ]
-
--- a peer with a statistic is up
-up_by_statistic : (es : List EffectValue) (key : KeyValue) (stat : StatValue) → HasStatistic es key stat → IsUp es key
-up_by_statistic es key stat h =
-    let u = h.while_up in
-    let l = u.1 in
-    let r = h.reported in (
-      u.0,
-      record {
-        before = l.before;
-        after = l.after ++ statistic key stat ∷ r.after;
-        split = r.split ∙ ap (λ (xs : List EffectValue). xs ++ statistic key stat ∷ r.after) l.split ∙ append_assoc l.before (up key u.0 ∷ l.after) (statistic key stat ∷ r.after);
-        last = none_after l.after r.after l.last r.last;
-      },
-    )
-  where
-    unnamed : (e : EffectValue) → ¬ (ReplacesStatistic key stat e) → ¬ (Names key e)
-    unnamed e other n = other (replaced e key stat n)
-
-    none_after : (a b : List EffectValue) → AllByRecursion (λ e. ¬ (Names key e)) a → AllByRecursion (λ e. ¬ (ReplacesStatistic key stat e)) b → AllByRecursion (λ e. ¬ (Names key e)) (a ++ statistic key stat ∷ b)
-    none_after (x ∷ a) b p q = (p.0, none_after a b p.1 q)
-    none_after [] b p q = ((λ n. n), none_in b q)
-      where
-        none_in : (c : List EffectValue) → AllByRecursion (λ e. ¬ (ReplacesStatistic key stat e)) c → AllByRecursion (λ e. ¬ (Names key e)) c
-        none_in [] t = tt
-        none_in (x ∷ c) t = (unnamed x t.0, none_in c t.1)
 
 -- a statistic of a peer that isn't up changes nothing
 pub stands_unheard : (stats : Stats) (es : List EffectValue) (k : KeyValue) (s : StatValue) → ¬ (IsUp es k) → StandsForStats stats es → StandsForStats stats (es ++ statistic k s ∷ [])
-stands_unheard stats es k s not_up h = record { values = λ key stat. (forth key stat, back key stat) }
-  where
-    forth : (key : KeyValue) (stat : StatValue) → value_at stats key (kind_of stat) ≡ Some stat.value → HasStatistic (es ++ statistic k s ∷ []) key stat
-    forth key stat is =
-        let has : HasStatistic es key stat = (h.values key stat).0 is in
-        statistic_still es (statistic k s) key stat (λ r. not_up (subst (IsUp es) (sym r.0) (up_by_statistic es key stat has))) has
-
-    back : (key : KeyValue) (stat : StatValue) → HasStatistic (es ++ statistic k s ∷ []) key stat → value_at stats key (kind_of stat) ≡ Some stat.value
-    back key stat has = elim (statistic_from es (statistic k s) key stat has) [
-      | inl now ↦ absurd (not_up (subst (IsUp es) (let e : statistic k s ≡ statistic key stat = now.0 in let same : key ≡ k = cc in same) now.1))
-      | inr before ↦ (h.values key stat).1 before.0
-    ]
+stands_unheard stats es k s not_up h = record { values = λ key stat. then_iff (h.values key stat) (statistic_unheard es (statistic k s) key stat (λ r is_up. not_up (subst (IsUp es) (sym r.0) is_up))) }

@@ -1,3 +1,2 @@
 pub mod Stats
 pub mod Standing
-pub mod Sums

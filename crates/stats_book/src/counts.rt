@@ -1,8 +1,8 @@
 ghost use Rattle.std.specs.Prelude.{◌≡◌, ℕ, [], ◌∷◌, ◌++◌, List};
 ghost use Rattle.bmp_specs.specs.Counts.{counts_of};
 ghost use Rattle.bmp_specs.specs.Session.{live, state_of};
+ghost use Rattle.bmp_specs.specs.Sums.{no_counts, sum_of, message_counts};
 ghost use Rattle.bmp_specs.specs.Values.{EffectValue, EntryValue, message};
-ghost use Rattle.stats_book.specs.Sums.{no_counts, sum_of, message_counts};
 
 use std::marker::Model;
 
