@@ -2,5 +2,5 @@ pub mod Alike
 pub mod FirstBits
 pub mod SharedBits
 pub mod Nearest
-pub mod Looks
+pub mod LastUpTo
 pub mod Search
