@@ -1,5 +1,5 @@
 -- Each step of the cell keeps its rule.
-use Rattle.std.proofs.Common.{◌≡◌, ◌≢◌, ℕ, List, [], set, length, refl, sym, ap, ◌∙◌, subst, ⊎_elim}
+use Rattle.std.proofs.Common.{◌≡◌, ◌≢◌, ℕ, List, [], ◌∷◌, ◌++◌, set, length, refl, sym, ap, ◌∙◌, subst, ⊎_elim}
 use mathlib.Core.Option.{some}
 use lib.ListN.{get_elem?}
 use Rattle.left_right.specs.Register.{Admits, Turns, TurnsAt, Forks, Merges}
@@ -14,8 +14,8 @@ use Rattle.std.specs.List.{fold}
 use Rattle.cut_publisher.specs.declared.history.Step.{Step}
 use Rattle.cut_publisher.specs.History.{Site, told}
 use Rattle.cut_publisher.specs.Cuts.{Stands}
-use Rattle.cut_publisher.specs.Logs.{IsLog}
-use Rattle.cut_publisher.specs.Rule.{Ends, Entered, Good, Keeps, named, nobody, site_at, site_of}
+use Rattle.cut_publisher.specs.Logs.{IsLog, IsOpen}
+use Rattle.cut_publisher.specs.Rule.{Ends, Entered, Good, IsAlike, IsLive, Keeps, named, nobody, site_at, site_of}
 
 abbrev pub State : Type 0 → Type 0 → Type 0
 State S E = List (S × ℕ) × Seen (Step E) ℕ LogRule × ℕ
@@ -30,6 +30,17 @@ applied s x = state_of x
 pub named_site : (a b : Site) → named a ≡ named b → a ≡ b
 named_site a b e = λ i. record { book = record { number = (e i).number; log_name = (e i).log_name; cells_name = (e i).cells_name }; lanes = (e i).lanes }
 
+module _ {S E : Type 0} where
+  pub alike_of : (x y : Shown S E) → state_of x ≡ state_of y → IsAlike x y
+  alike_of x y e = record { cut = ap (λ (z : State S E). z.0) e; seen = ap (λ (z : State S E). z.1) e; steps = ap (λ (z : State S E). z.2) e }
+
+  pub alike_back : (x y : Shown S E) → IsAlike x y → IsAlike y x
+  alike_back x y a = record { cut = sym a.cut; seen = sym a.seen; steps = sym a.steps }
+
+  -- what is alike is of one station
+  pub alike_site : (x y : Shown S E) → IsAlike x y → site_of x ≡ site_of y
+  alike_site x y a = λ i. site_at (a.seen i).book (a.cut i)
+
 module _ {S E : Type 0} (stands : S → List E → Type 0) where
   pub enters : (seat : ℕ) (v : Known) → Turns (Keeps stands) seat v (λ x. x) (Entered stands)
   enters seat v x views h at =
@@ -37,15 +48,15 @@ module _ {S E : Type 0} (stands : S → List E → Type 0) where
         w,
         record {
           station = λ j u e n. ⊎_elim (λ (t : (j ≡ seat) × (w ≡ u)). sym t.1) (λ (t : (j ≢ seat) × (get_elem? views j ≡ some u)). h.station j u t.1 n) (at_set views seat j w u e);
-          good = h.good;
+          live = h.live;
         },
-        record { now = refl; before = h.station seat v at; good = h.good },
+        record { now = refl; before = h.station seat v at; live = h.live },
       )
 
   pub admits : Admits (Keeps stands) nobody
   admits x views h = record {
     station = λ j u e n. ⊎_elim (λ at. h.station j u at n) (λ (t : nobody ≡ u). absurd (cc (ap (λ (z : Known). z.named) t, n))) (at_snoc views nobody u j e);
-    good = h.good;
+    live = h.live;
   }
 
   pub good_alike : (x y : Shown S E) → arc_value x.cut ≡ arc_value y.cut → x.seen.log ≡ y.seen.log → x.steps ≡ y.steps → Good stands x → Good stands y
@@ -55,50 +66,58 @@ module _ {S E : Type 0} (stands : S → List E → Type 0) where
     marked = subst (λ (z : List (Step E)). IsLog z) l h.marked;
   }
 
-  -- a good value of the same station may be shown
-  pub passes : (seat : ℕ) (v : Known) (x y : Shown S E) → Good stands y → site_of y ≡ site_of x → TurnsAt (Keeps stands) seat v x y (λ v x y w. w ≡ v)
-  passes seat v x y good book views h at = (
+  pub live_alike : (x y : Shown S E) → IsAlike x y → IsLive stands x → IsLive stands y
+  live_alike x y a h = record {
+    good = good_alike x y a.cut (ap (λ (s : Seen (Step E) ℕ LogRule). s.log) a.seen) a.steps h.good;
+    unmarked = subst (λ (s : Seen (Step E) ℕ LogRule). IsOpen s.log) a.seen h.unmarked;
+  }
+
+  -- a live value of the same station may be shown
+  pub passes : (seat : ℕ) (v : Known) (x y : Shown S E) → IsLive stands y → site_of y ≡ site_of x → TurnsAt (Keeps stands) seat v x y (λ v x y w. w ≡ v)
+  passes seat v x y live book views h at = (
     v,
     record {
       station = λ j u e n. h.station j u (subst (λ (l : List Known). get_elem? l j ≡ some u) (set_again views seat v at) e) n ∙ ap named (sym book);
-      good = good;
+      live = live;
     },
     refl,
   )
+
+  -- what was queued last is what stands then
+  pub last_shown : (x y : Shown S E) (pending before : List (Shown S E)) (last : Shown S E) → pending ≡ before ++ last ∷ [] → state_of y ≡ fold applied (state_of x) pending → IsAlike y last
+  last_shown x y pending before last ends is =
+      alike_of y last (is ∙ ap (fold applied (state_of x)) ends ∙ fold_push applied (state_of x) before last)
 
   -- what was queued last may be shown
   pub turns : (seat : ℕ) (v : Known) (x y : Shown S E) (pending : List (Shown S E)) → Ends stands (site_of x) pending → state_of y ≡ fold applied (state_of x) pending
       → TurnsAt (Keeps stands) seat v x y (λ v x y w. w ≡ v)
   turns seat v x y pending ends is =
       let last = ends.1 in
-      let e : state_of y ≡ state_of last = is ∙ ap (fold applied (state_of x)) ends.2 ∙ fold_push applied (state_of x) ends.0 last in
-      passes seat v x y (good_alike last y (sym (ap (λ (z : State S E). z.0) e)) (sym (ap (λ (z : State S E). z.1.log) e)) (sym (ap (λ (z : State S E). z.2) e)) ends.3) (ap (λ (z : State S E). site_at z.1.book z.0) e ∙ ends.4)
+      let e = last_shown x y pending ends.0 last ends.2 is in
+      passes seat v x y (live_alike last y (alike_back y last e) ends.3) (alike_site y last e ∙ ends.4)
 
-  -- what was queued last is what stands then
-  pub last_good : (b : Site) (x y : Shown S E) (pending : List (Shown S E)) → Ends stands b pending → state_of y ≡ fold applied (state_of x) pending → Good stands y
-  last_good b x y pending ends is =
-      let last = ends.1 in
-      let e : state_of y ≡ state_of last = is ∙ ap (fold applied (state_of x)) ends.2 ∙ fold_push applied (state_of x) ends.0 last in
-      good_alike last y (sym (ap (λ (z : State S E). z.0) e)) (sym (ap (λ (z : State S E). z.1.log) e)) (sym (ap (λ (z : State S E). z.2) e)) ends.3
+  -- with nothing pending the same stands
+  pub same_shown : (x y : Shown S E) (pending : List (Shown S E)) → pending ≡ [] → state_of y ≡ fold applied (state_of x) pending → IsAlike y x
+  same_shown x y pending none is = alike_of y x (is ∙ ap (fold applied (state_of x)) none)
 
   -- the same may be shown again
-  pub rests : (seat : ℕ) (v : Known) (x y : Shown S E) (pending : List (Shown S E)) → Good stands x → pending ≡ [] → state_of y ≡ fold applied (state_of x) pending
+  pub rests : (seat : ℕ) (v : Known) (x y : Shown S E) (pending : List (Shown S E)) → IsLive stands x → pending ≡ [] → state_of y ≡ fold applied (state_of x) pending
       → TurnsAt (Keeps stands) seat v x y (λ v x y w. w ≡ v)
-  rests seat v x y pending good none is =
-      let e : state_of y ≡ state_of x = is ∙ ap (fold applied (state_of x)) none in
-      passes seat v x y (good_alike x y (sym (ap (λ (z : State S E). z.0) e)) (sym (ap (λ (z : State S E). z.1.log) e)) (sym (ap (λ (z : State S E). z.2) e)) good) (ap (λ (z : State S E). site_at z.1.book z.0) e)
+  rests seat v x y pending live none is =
+      let e = same_shown x y pending none is in
+      passes seat v x y (live_alike x y (alike_back y x e) live) (alike_site y x e)
 
   -- the same with nothing pending, and the writer then knows the station
-  pub names : (seat : ℕ) (v : Known) (x y : Shown S E) (pending : List (Shown S E)) → Good stands x → pending ≡ [] → state_of y ≡ fold applied (state_of x) pending
+  pub names : (seat : ℕ) (v : Known) (x y : Shown S E) (pending : List (Shown S E)) → IsLive stands x → pending ≡ [] → state_of y ≡ fold applied (state_of x) pending
       → TurnsAt (Keeps stands) seat v x y (λ v x y w. w ≡ named (site_of y))
-  names seat v x y pending good none is views h at =
-      let e : state_of y ≡ state_of x = is ∙ ap (fold applied (state_of x)) none in
-      let book : site_of y ≡ site_of x = ap (λ (z : State S E). site_at z.1.book z.0) e in
+  names seat v x y pending live none is views h at =
+      let e = same_shown x y pending none is in
+      let book : site_of y ≡ site_of x = alike_site y x e in
       let w = named (site_of y) in (
         w,
         record {
           station = λ j u e n. ⊎_elim (λ (t : (j ≡ seat) × (w ≡ u)). sym t.1) (λ (t : (j ≢ seat) × (get_elem? views j ≡ some u)). h.station j u t.1 n ∙ ap named (sym book)) (at_set views seat j w u e);
-          good = good_alike x y (sym (ap (λ (z : State S E). z.0) e)) (sym (ap (λ (z : State S E). z.1.log) e)) (sym (ap (λ (z : State S E). z.2) e)) good;
+          live = live_alike x y (alike_back y x e) live;
         },
         refl,
       )
@@ -106,7 +125,7 @@ module _ {S E : Type 0} (stands : S → List E → Type 0) where
   pub tells : (seat : ℕ) (v : Known) → Forks (Keeps stands) seat v v v
   tells seat v x views h at = record {
     station = λ j u e n. ⊎_elim (λ was. h.station j u (subst (λ (l : List Known). get_elem? l j ≡ some u) (set_again views seat v at) was) n) (λ (same : v ≡ u). sym same ∙ h.station seat v at (ap (λ (z : Known). z.named) same ∙ n)) (at_snoc (set views seat v) v u j e);
-    good = h.good;
+    live = h.live;
   }
 
   pub learns : (seat : ℕ) (v : Known) (other : ℕ) (w : Known) → Merges (Keeps stands) seat v other w w nobody
@@ -116,5 +135,5 @@ module _ {S E : Type 0} (stands : S → List E → Type 0) where
         station = λ j u e n. ⊎_elim (λ (t : (j ≡ other) × (nobody ≡ u)). absurd (cc (ap (λ (z : Known). z.named) t.1, n)))
             (λ (t : (j ≢ other) × (get_elem? (set views seat w) j ≡ some u)). ⊎_elim (λ (r : (j ≡ seat) × (w ≡ u)). sym r.1 ∙ h.station other w theirs (ap (λ (z : Known). z.named) r.1 ∙ n)) (λ (r : (j ≢ seat) × (get_elem? views j ≡ some u)). h.station j u r.1 n) (at_set views seat j w u t.1))
             (at_set (set views seat w) other j nobody u e);
-        good = h.good;
+        live = h.live;
       }

@@ -2,7 +2,7 @@
 use Rattle.std.specs.Prelude.{◌≡◌, ℕ, ◌<◌, List, [], ◌∷◌, ◌++◌, length, slice_index_or}
 use Rattle.cut_publisher.specs.declared.history.Event.{Event}
 use Rattle.cut_publisher.specs.declared.history.Event.TheVariants.{Finish}
-use Rattle.cut_publisher.specs.History.{Begins, Fed, Saw, part}
+use Rattle.cut_publisher.specs.History.{Begins, Fed, Asker, IsUnmarked, part}
 use Rattle.cut_publisher.specs.Cuts.{Stands}
 use Rattle.cut_publisher.specs.Publication.{IsFollowed}
 
@@ -18,8 +18,8 @@ module _ {E : Type 0} where
   abbrev pub fed_at_end : List (Event E) → Fed E → Fed E
   fed_at_end h f = record f { seen = h }
 
-  abbrev pub saw_at_end : List (Event E) → Saw E → Saw E
-  saw_at_end h f = record f { seen = h }
+  abbrev pub asked_at_end : List (Event E) → Asker E → Asker E
+  asked_at_end h a = record a { seen = h }
 
   -- all have seen this history
   pub record FeedsEnded (h : List (Event E)) (old new : List (Fed E)) : Type 0 where
@@ -27,19 +27,20 @@ module _ {E : Type 0} where
     pub each : (k : ℕ) (d : Fed E) → k < length old → slice_index_or new k d ≡ fed_at_end h (slice_index_or old k d)
 
   -- all have seen this history, and it begins with what each had seen
-  pub record AsksEnded (h : List (Event E)) (old new : List (Saw E)) : Type 0 where
+  pub record AsksEnded (h : List (Event E)) (old new : List (Asker E)) : Type 0 where
     pub count : length new ≡ length old
-    pub each : (k : ℕ) (d : Saw E) → k < length old → slice_index_or new k d ≡ saw_at_end h (slice_index_or old k d)
-    pub earlier : (k : ℕ) (d : Saw E) → k < length old → Begins (slice_index_or old k d).seen h
+    pub each : (k : ℕ) (d : Asker E) → k < length old → slice_index_or new k d ≡ asked_at_end h (slice_index_or old k d)
+    pub earlier : (k : ℕ) (d : Asker E) → k < length old → Begins (slice_index_or old k d).seen h
 
--- all passes have seen one history, which ends with the mark and which what each had seen begins; each lane's part of it is that pass's entries, and the cut of all lanes stands for it
-pub record IsEnding {S E : Type 0} (stands : S → List E → Type 0) (lanes : ℕ) (feeds : List (Fed E)) (asks : List (Saw E)) (c : List (S × ℕ)) (feeds' : List (Fed E)) (asks' : List (Saw E)) : Type 0 where
+-- all passes have seen one history, whose last event is the mark, and no other is; it begins with what each had seen, a lane's pass before the mark; each lane's part of it is that pass's entries, and the cut of all lanes stands for it
+pub record IsEnding {S E : Type 0} (stands : S → List E → Type 0) (lanes : ℕ) (feeds : List (Fed E)) (asks : List (Asker E)) (c : List (S × ℕ)) (feeds' : List (Fed E)) (asks' : List (Asker E)) : Type 0 where
   pub before : List (Event E)
   pub history : List (Event E)
   pub marked : history ≡ before ++ Finish ∷ []
+  pub unmarked : IsUnmarked before
   pub feeds_end : FeedsEnded history feeds feeds'
   pub asks_end : AsksEnded history asks asks'
-  pub earlier : (k : ℕ) (d : Fed E) → k < length feeds → Begins (slice_index_or feeds k d).seen history
+  pub earlier : (k : ℕ) (d : Fed E) → k < length feeds → Begins (slice_index_or feeds k d).seen before
   pub parts : AllSame history feeds
   pub cut_is : Stands stands c history
   pub wide : length c ≡ lanes

@@ -1,5 +1,5 @@
 -- Histories: entries, each of a lane, in one list. The mark may stand at its end.
-use Rattle.std.specs.Prelude.{◌≡◌, ℕ, ◌+◌, ◌<◌, eqb, cond, List, [], ◌∷◌, ◌++◌}
+use Rattle.std.specs.Prelude.{◌≡◌, ℕ, Bool, ◌+◌, ◌<◌, eqb, cond, List, [], ◌∷◌, ◌++◌}
 use Rattle.logbook.specs.Pages.{Book}
 use Rattle.cut_publisher.specs.declared.history.Event.{Event}
 use Rattle.cut_publisher.specs.declared.history.Event.TheVariants.{Of, Finish}
@@ -23,6 +23,12 @@ module _ {E : Type 0} where
   revision [] = 0
   revision (Of k e ∷ h) = 1 + revision h
   revision (Finish ∷ h) = revision h
+
+  -- the mark is not in the history
+  abbrev pub IsUnmarked : List (Event E) → Type 0
+  IsUnmarked [] = Unit {0}
+  IsUnmarked (Of k e ∷ h) = IsUnmarked h
+  IsUnmarked (Finish ∷ h) = ⊥
 
   -- each entry is of a lane below n
   abbrev pub IsWithin : ℕ → List (Event E) → Type 0
@@ -49,13 +55,22 @@ pub record Site : Type 0 where
 abbrev pub site : Book → ℕ → Site
 site b n = record { book = b; lanes = n }
 
--- what contracts see of an asker's pass, of a note and of a publisher without a name: the station, and the history that it has seen
+-- what contracts see of a note and of a publisher without a name: the station, and the history that it has seen
 pub record Saw (E : Type 0) : Type 0 where
   pub station : Site
   pub seen : List (Event E)
 
 abbrev pub saw : {E : Type 0} → Site → List (Step E) → Saw E
 saw b log = record { station = b; seen = told log }
+
+-- what contracts see of an asker's pass: the station, the history that it has seen, and whether it has a seat at the cell
+pub record Asker (E : Type 0) : Type 0 where
+  pub station : Site
+  pub seen : List (Event E)
+  pub seated : Bool
+
+abbrev pub asker : {E : Type 0} → Site → List (Step E) → Bool → Asker E
+asker b log seated = record { station = b; seen = told log; seated = seated }
 
 -- what contracts see of a lane's pass: the station, the lane, the entries that it made, and the history that it has seen
 pub record Fed (E : Type 0) : Type 0 where

@@ -31,6 +31,12 @@ abbrev pub IsSeated : {S E P A : Type 0} → Site → Option (Reader (Shown S E)
 IsSeated b None = Unit {0}
 IsSeated b (Some r) = r.place.me.0.client ≡ named b
 
+-- both hold one cut, as contracts see it, and one log
+pub record IsAlike {S E : Type 0} (x y : Shown S E) : Type 0 where
+  pub cut : arc_value x.cut ≡ arc_value y.cut
+  pub seen : x.seen ≡ y.seen
+  pub steps : x.steps ≡ y.steps
+
 module _ {S E : Type 0} (stands : S → List E → Type 0) where
   -- the cut stands for the history that the log tells, and the log's length is known
   pub record Good (x : Shown S E) : Type 0 where
@@ -38,29 +44,34 @@ module _ {S E : Type 0} (stands : S → List E → Type 0) where
     pub long : x.steps ≡ length x.seen.log
     pub marked : IsLog x.seen.log
 
-  -- the rule: what stands in the cell is good, and of the station that each seat knows
+  -- it is good, and no mark stands in its log
+  pub record IsLive (x : Shown S E) : Type 0 where
+    pub good : Good x
+    pub unmarked : IsOpen x.seen.log
+
+  -- the rule: what stands in the cell is live, and of the station that each seat knows
   pub record Keeps (x : Shown S E) (seats : List Known) : Type 0 where
     pub station : (seat : ℕ) (v : Known) → get_elem? seats seat ≡ some v → v.named ≡ true → v ≡ named (site_of x)
-    pub good : Good x
+    pub live : IsLive x
 
   -- who enters learns the station, which is the one that it knew
   pub record Entered (v : Known) (x y : Shown S E) (w : Known) : Type 0 where
     pub now : w ≡ named (site_of y)
     pub before : v.named ≡ true → v ≡ named (site_of y)
-    pub good : Good y
+    pub live : IsLive y
 
-  -- the last of these is good, and of this station
+  -- the last of these is live, and of this station
   abbrev pub Ends : Site → List (Shown S E) → Type 0
-  Ends b xs = (before : List (Shown S E)) × (x : Shown S E) × (xs ≡ before ++ x ∷ []) × Good x × (site_of x ≡ b)
+  Ends b xs = (before : List (Shown S E)) × (x : Shown S E) × (xs ≡ before ++ x ∷ []) × IsLive x × (site_of x ≡ b)
 
-  -- what is shown is good, and nothing waits to be shown
+  -- what is shown is live, and nothing waits to be shown
   abbrev pub IsIdle : Shown S E → List (Shown S E) → Type 0
-  IsIdle x pending = Good x × (pending ≡ [])
+  IsIdle x pending = IsLive x × (pending ≡ [])
 
-  -- what lies under the lock is of this station, and no mark stands in its log
-  pub record IsDesk (b : Site) (head : Named) (cell : Site) (shown : Shown S E) : Type 0 where
+  -- what lies under the lock is of this station, no mark stands in its log, and the cell shows it
+  pub record IsDesk (b : Site) (head : Named) (cell : Shown S E → Type 0) (shown : Shown S E) : Type 0 where
     pub station : site_of shown ≡ b
     pub head_is : head ≡ head_of b.book
-    pub cell_is : cell ≡ b
+    pub cell_is : cell shown
     pub good : Good shown
     pub unmarked : IsOpen shown.seen.log

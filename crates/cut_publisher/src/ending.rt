@@ -21,8 +21,8 @@ use crate::subject::{Naming, Subject};
 use std::alloc::{AllocError, Global};
 use std::sync::{Arc, Mutex, Wait};
 
-/// What is left of a station: its last cut, and all its passes, which have seen one history. That
-/// history ends with the mark, which no revision counts.
+/// What is left of a station: its last cut, and all its passes, which have seen one history. The
+/// last event of that history is the mark, which no revision counts, and no other event is.
 #[derive(Drop)]
 pub struct Ending<S: Subject + Drop> {
     pub cut: Arc<Cut<S>>,
@@ -31,7 +31,7 @@ pub struct Ending<S: Subject + Drop> {
 }
 
 /// A station that was not finished. It is not `Drop`, as the publisher is not.
-pub enum Unfinished<S: Subject + Drop, J: Naming, W: Writes = CellWriter<S>> {
+pub enum Unfinished<S: Subject + Drop, J: Naming, W: Writes<S> = CellWriter<S>> {
     /// There was no memory. All comes back untouched.
     NoMemory {
         publisher: Publisher<S, J, W>,

@@ -5,7 +5,7 @@ ghost use Rattle.cut_publisher.specs.History.{told, part};
 ghost use Rattle.cut_publisher.specs.declared.history.Step.TheVariants.{Batch};
 ghost use Rattle.cut_publisher.specs.Cuts.{total};
 ghost use Rattle.cut_publisher.specs.Logs.{head_of, IsOpen};
-ghost use Rattle.cut_publisher.specs.Rule.{Good, site_of};
+ghost use Rattle.cut_publisher.specs.Rule.{Good, IsAlike, IsLive, site_of};
 ghost use Rattle.cut_publisher.specs.Publication.{IsFollowed, Published};
 ghost use Rattle.cut_publisher.specs.Refusals.{handed_back};
 
@@ -185,17 +185,17 @@ fn extend<S: Subject + Drop, R: Wait>(
     value: &Arc<S>,
 ) -> (CellWriter<S>, Shown<S>, Option<Shown<S>>)
     requires head { head.now ≡ head_of shown.seen.book }
-    requires cell { site_of writer.desk.shown.value ≡ site_of shown }
+    requires cell { IsAlike writer.desk.shown.value shown }
     requires good { Good S.stands shown }
     requires unmarked { IsOpen shown.seen.log }
     requires steps { shown.steps < 2 ^ 62 }
     requires lane { lane < length (arc_value shown.cut) }
     requires value { S.stands (arc_value value.now) (part lane (told shown.seen.log) ++ entries.now) }
     requires room { length (part lane (told shown.seen.log) ++ entries.now) ≤ 2 ^ 57 }
-    ensures cell { site_of result.0.desk.shown.value ≡ site_of shown }
+    ensures cell { IsAlike result.0.desk.shown.value result.1 }
     ensures shown { Good S.stands result.1 × (site_of result.1 ≡ site_of shown) × IsOpen result.1.seen.log }
     ensures none { IfNone result.2 (result.1 ≡ shown) }
-    ensures some { IfSome result.2 (λ n. Good S.stands n × (site_of n ≡ site_of shown) × (n.seen.log ≡ shown.seen.log ++ Batch lane entries.now ∷ [])) }
+    ensures some { IfSome result.2 (λ n. IsLive S.stands n × (site_of n ≡ site_of shown) × (n.seen.log ≡ shown.seen.log ++ Batch lane entries.now ∷ [])) }
 {
     let more = entries.len() as u64;
     let Some((cut, noted, kept)) = three_owners(alloc, &shown.cut, lane, value, more) else {

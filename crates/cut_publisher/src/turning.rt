@@ -1,6 +1,7 @@
 //! How the cell's writer shows a cut: in both copies, one after the other.
-ghost use Rattle.std.specs.Prelude.{◌≡◌, ◌∷◌, ◌++◌, [], drop};
-ghost use Rattle.cut_publisher.specs.Rule.{Good, Ends, IsIdle, site_of};
+ghost use Rattle.std.specs.Prelude.{◌≡◌, List, ◌∷◌, ◌++◌, [], drop};
+ghost use Rattle.cut_publisher.specs.declared.cell.Shown.{Shown};
+ghost use Rattle.cut_publisher.specs.Rule.{Ends, IsAlike, IsIdle, IsLive, site_of};
 
 use crate::cell::{CellWriter, Passes, Shown};
 use crate::subject::Subject;
@@ -36,7 +37,7 @@ fn queue<S: Subject + Drop, R: Wait>(rt: &R, writer: &mut CellWriter<S>, shown: 
 // Shows what was queued last. It waits for the askers that are inside the other copy.
 fn turn<S: Subject + Drop, R: Wait>(rt: &R, writer: CellWriter<S>) -> CellWriter<S>
     requires { Ends S.stands (site_of writer.desk.shown.value) (drop writer.behind writer.log.items) }
-    ensures station { site_of result.desk.shown.value ≡ site_of writer.desk.shown.value }
+    ensures shown { (before : List (Shown S S.Entry)) (x : Shown S S.Entry) → drop writer.behind writer.log.items ≡ before ++ x ∷ [] → IsAlike result.desk.shown.value x }
     ensures idle { IsIdle S.stands result.desk.shown.value (drop result.behind result.log.items) }
 {
     let mut writer = writer;
@@ -53,7 +54,7 @@ fn turn<S: Subject + Drop, R: Wait>(rt: &R, writer: CellWriter<S>) -> CellWriter
 // Lets the other copy show the same, so that neither holds what was shown before.
 fn settle<S: Subject + Drop, R: Wait>(rt: &R, writer: CellWriter<S>) -> CellWriter<S>
     requires { IsIdle S.stands writer.desk.shown.value (drop writer.behind writer.log.items) }
-    ensures { site_of result.desk.shown.value ≡ site_of writer.desk.shown.value }
+    ensures { IsAlike result.desk.shown.value writer.desk.shown.value }
 {
     let mut writer = writer;
     for _ in rt.forever() {
@@ -66,15 +67,15 @@ fn settle<S: Subject + Drop, R: Wait>(rt: &R, writer: CellWriter<S>) -> CellWrit
     unreachable!()
 }
 
-// Shows it in both copies.
+// Shows it in both copies: whoever enters the cell from then on finds it.
 pub(crate) fn show<S: Subject + Drop, R: Wait>(
     rt: &R,
     mut writer: CellWriter<S>,
     shown: Shown<S>,
 ) -> CellWriter<S>
-    requires good { Good S.stands shown }
+    requires live { IsLive S.stands shown }
     requires book { site_of shown ≡ site_of writer.desk.shown.value }
-    ensures { site_of result.desk.shown.value ≡ site_of writer.desk.shown.value }
+    ensures { IsAlike result.desk.shown.value shown }
 {
     queue(rt, &mut writer, shown);
     let writer = turn(rt, writer);

@@ -1,5 +1,5 @@
 pub mod Alike
 pub mod SharedBits
 pub mod Nearest
-pub mod Looks
+pub mod LastUpTo
 pub mod Search

@@ -6,15 +6,17 @@
 //! is one search.
 //!
 //! Proved: `insert`, `remove`, `get`, `after`, `at_or_after` and `len` are those of the list; `longest`
-//! gives the longest listed prefix that holds the address, in at most 130 looks, which `Steps` counts;
+//! gives the longest listed prefix that holds the address, in at most 130 looks, which `Steps` counts:
+//! its search has nothing of the table but `Looks`, whose one read takes a step;
 //! `share` gives the same prefixes, each with a value that is alike by the trait `Share`.
-//! Begin with `src/trie.rt`, then `src/cursor.rt` and `src/longest.rt`.
+//! Begin with `src/trie.rt`, then `src/cursor.rt`, `src/looks.rt` and `src/longest.rt`.
 #![tactic(auto)]
 
 mod bits;
 mod cursor;
 mod held;
 mod longest;
+mod looks;
 mod share;
 mod steps;
 mod trie;

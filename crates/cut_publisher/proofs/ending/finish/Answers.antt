@@ -1,7 +1,6 @@
-use Rattle.std.proofs.Common.{◌≡◌, ℕ, List, ◌∷◌, [], length, get_or, ap, sym, ◌∙◌, subst}
+use Rattle.std.proofs.Common.{◌≡◌, ℕ, List, length, get_or, ap, sym, ◌∙◌, subst}
 use Rattle.std.specs.Arc.{arc_value}
-use Rattle.cut_publisher.specs.declared.history.Event.TheVariants.{Finish}
-use Rattle.cut_publisher.proofs.Prefixes.{begins_trans}
+use Rattle.cut_publisher.proofs.Marks.{told_unmarked}
 use Rattle.cut_publisher.proofs.Endings.{told_end, part-end}
 use Rattle.cut_publisher.proofs.ending.finish.Goals as goal
 use Rattle.cut_publisher.specs.History.{part, told}
@@ -27,7 +26,8 @@ returns g c =
       marked = all;
       feeds_end = c.end.ensures;
       asks_end = c.end-2.ensures;
-      earlier = λ k d lt. begins_trans (get_or c.args.feeds k d).seen (told was) now (c.follow.ensures c.if-not-follow.false k d lt).earlier (record { rest = Finish ∷ []; is = sym all });
+      unmarked = told_unmarked was c.head.invariant.unmarked;
+      earlier = λ k d lt. (c.follow.ensures c.if-not-follow.false k d lt).earlier;
       parts = λ k d lt. let f = get_or c.args.feeds k d in ap (part f.lane) all ∙ part-end f.lane (told was) ∙ (c.follow.ensures c.if-not-follow.false k d lt).same;
       wide = ap (λ (z : List (S × ℕ)). length z) c.in-Ok.ensures.cut ∙ ap (λ z. z.lanes) c.head.invariant.station;
       cut_is = subst (λ (z : List (S × ℕ)). Stands g.S.Subject.stands z now) cut c.marked-end.ensures.good.cut;

@@ -2,10 +2,10 @@ use Rattle.std.proofs.Common.{sym, ◌∙◌, subst}
 use Rattle.cut_publisher.specs.declared.cell.Shown.{Shown}
 use Rattle.cut_publisher.proofs.Moves.{names}
 use Rattle.cut_publisher.proofs.naming.name_writer.Goals as goal
-use Rattle.cut_publisher.specs.Rule.{Good}
+use Rattle.cut_publisher.specs.Rule.{IsLive}
 
 pub publish_as-back-requires : goal.publish_as-back-requires
 publish_as-back-requires g c next is =
     let S = g.row.S.Denot in
     let E = g.row.S-Entry.Denot in
-    names g.S.Subject.stands _ _ _ next _ (subst (λ (x : Shown S E). Good g.S.Subject.stands x) (sym c.loop.invariant.0) c.requires.0) (c.loop.invariant.1 ∙ c.requires.1) is
+    names g.S.Subject.stands _ _ _ next _ (subst (λ (x : Shown S E). IsLive g.S.Subject.stands x) (sym c.loop.invariant.0) c.requires.0) (c.loop.invariant.1 ∙ c.requires.1) is

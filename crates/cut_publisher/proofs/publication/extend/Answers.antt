@@ -2,11 +2,13 @@ use Rattle.std.proofs.Common.{◌≡◌, ◌+◌, ℕ, List, length, get_or, set
 use Rattle.logbook.specs.Pages.{Book}
 use Rattle.std.specs.Arc.{arc_value}
 use Rattle.cut_publisher.proofs.Lanes.{stands_small}
+use Rattle.cut_publisher.proofs.Moves.{alike_site}
 use Rattle.cut_publisher.proofs.Extends.{good_more, open_more}
 use Rattle.cut_publisher.proofs.publication.extend.Goals as goal
 use Rattle.cut_publisher.proofs.publication.extend.Goals.{After-again}
 use Rattle.cut_publisher.proofs.publication.extend.Given.{Over}
 use Rattle.cut_publisher.specs.declared.cell.Shown.{Shown}
+use Rattle.cut_publisher.specs.declared.history.Step.{Step}
 use Rattle.cut_publisher.specs.History.{part, told}
 use Rattle.cut_publisher.specs.Cuts.{total}
 use Rattle.cut_publisher.specs.Logs.{IsOpen}
@@ -51,18 +53,29 @@ sited g c z b cut book =
     let len : length z ≡ length was = ap length items ∙ length-set was lane (v, (get_or was lane (v, 0)).1 + length es) in
     λ i. record { book = book i; lanes = len i }
 
-pub show-writer-requires-clause-good : goal.show-writer-requires-clause-good
-show-writer-requires-clause-good g c = made g c _ refl (ap (λ s. s.log) c.again.ensures) refl
+-- no mark stands in the log with the entries
+unmarked : (g : Over) (c : After-again g) (log : List (Step g.row.S-Entry.Denot)) → log ≡ c.add_batch.new.seen.log → IsOpen log
+unmarked g c log is =
+    let added = c.add_batch.ensures.added c.if-not-add_batch.false in
+    subst IsOpen (sym (is ∙ added)) (open_more c.args.shown.seen.log c.args.lane c.args.entries.now c.requires.unmarked)
+
+pub show-writer-requires-clause-live : goal.show-writer-requires-clause-live
+show-writer-requires-clause-live g c =
+    let log = ap (λ s. s.log) c.again.ensures in
+    record { good = made g c _ refl log refl; unmarked = unmarked g c _ log }
+
+pub show-writer-requires-clause-book : goal.show-writer-requires-clause-book
+show-writer-requires-clause-book g c =
+    sited g c _ _ refl (ap (λ s. s.book) c.again.ensures ∙ c.add_batch.ensures.book) ∙ sym (ap (λ d. site_of d.shown.value) c.make_room.ensures ∙ alike_site _ _ c.requires.cell)
 
 pub returns-clause-shown : goal.returns-clause-shown
 returns-clause-shown g c =
     let b = (goal.at.returns-clause-shown g c).After-again in
-    let added = c.add_batch.ensures.added c.if-not-add_batch.false in
-    (made g b _ c.in-Some.ensures.alike.1 refl refl, sited g b _ _ c.in-Some.ensures.alike.1 c.add_batch.ensures.book, subst IsOpen (sym added) (open_more c.args.shown.seen.log c.args.lane c.args.entries.now c.requires.unmarked))
+    (made g b _ c.in-Some.ensures.alike.1 refl refl, sited g b _ _ c.in-Some.ensures.alike.1 c.add_batch.ensures.book, unmarked g b _ refl)
 
 pub returns-clause-some : goal.returns-clause-some
 returns-clause-some g c =
     let b = (goal.at.returns-clause-some g c).After-again in
     let added = c.add_batch.ensures.added c.if-not-add_batch.false in
     let log = ap (λ s. s.log) c.again-2.ensures in
-    (made g b _ c.in-Some.ensures.alike.0 log refl, sited g b _ _ c.in-Some.ensures.alike.0 (ap (λ s. s.book) c.again-2.ensures ∙ c.add_batch.ensures.book), log ∙ added)
+    (record { good = made g b _ c.in-Some.ensures.alike.0 log refl; unmarked = unmarked g b _ log }, sited g b _ _ c.in-Some.ensures.alike.0 (ap (λ s. s.book) c.again-2.ensures ∙ c.add_batch.ensures.book), log ∙ added)

@@ -1,10 +1,10 @@
 use Rattle.std.proofs.Common.{◌+◌, ◌≤◌}
 use Rattle.bmp_specs.specs.Prefix.{width_of}
 use Rattle.prefix_trie.specs.Looking.{IsSearching}
-use Rattle.prefix_trie.proofs.trie.Trie.longest.Given as goal
+use Rattle.prefix_trie.proofs.longest.longest_by_looks.Given as goal
 
 abbrev pub invariant-loop-place : goal.invariant-loop-place
-invariant-loop-place g l = IsSearching l.addr l.self.pairs l.bits × (l.steps + l.bits ≤ l.fn.steps + width_of l.addr.family)
+invariant-loop-place g l = IsSearching l.addr l.looks.pairs l.bits × (l.steps + l.bits ≤ l.fn.steps + width_of l.addr.family)
 
 abbrev pub decreases-loop-place : goal.decreases-loop-place
 decreases-loop-place g l = l.bits
