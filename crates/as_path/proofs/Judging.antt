@@ -1,5 +1,5 @@
 -- Whether bytes are a path: one segment after another is passed, and any bytes are decided.
-use Rattle.std.proofs.Common.{◌≡◌, ◌+◌, ◌*◌, ◌≤◌, ◌<◌, ◌⊎◌, ℕ, zero, suc, List, [], ◌∷◌, ◌++◌, length, take, drop, get_or, inl, inr, refl, sym, ap, subst, ◌∙◌, arith, mul-zero, mul-suc, length-drop, take-append-drop}
+use Rattle.std.proofs.Common.{◌≡◌, ◌+◌, ◌*◌, ◌≤◌, ◌<◌, ◌⊎◌, ℕ, zero, suc, List, [], ◌∷◌, ◌++◌, length, take, drop, get_or, inl, inr, refl, sym, ap, subst, ◌∙◌, arith, mul-zero, mul-suc, length-append, length-drop, take-append-drop}
 use Rattle.std.proofs.lemmas.Bool.{cases_eq, cases_lt}
 use Rattle.std.proofs.lemmas.List.{nil_from_length, length-take-le}
 use Rattle.byteorder.specs.Endian.{big_number}
@@ -29,18 +29,20 @@ parts_there Is size one (suc count) bytes e =
 numbers_there : (width : Width) (count : ℕ) (bytes : List ℕ) → length bytes ≡ as_width width * count → (asns : List ℕ) × AreAsNumbers width bytes asns
 numbers_there width = parts_there (IsAsNumber width) (as_width width) (λ front len. (big_number (as_width width) front, record { len = len; value = refl }))
 
--- the bytes are the segments of this path, and then the rest
-pub record HasSegments (width : Width) (bytes rest : List ℕ) : Type 0 where
+-- the bytes are the segments of this path, so many, and then the rest
+pub record HasSegments (width : Width) (bytes rest : List ℕ) (found : ℕ) : Type 0 where
   pub path : List SegmentValue
   pub read : HasRead (IsSegment width) bytes path rest
+  pub count_is : found ≡ length path
+  pub room : found + length rest ≤ length bytes
 
-pub segments_first : (width : Width) (bytes : List ℕ) → HasSegments width bytes bytes
-segments_first width bytes = record { path = []; read = HasRead-nil (IsSegment width) bytes }
+pub segments_first : (width : Width) (bytes : List ℕ) → HasSegments width bytes bytes 0
+segments_first width bytes = record { path = []; read = HasRead-nil (IsSegment width) bytes; count_is = refl; room = omega arith }
 
 -- the segment that a header announces was passed
-pub segments_more : (width : Width) (bytes rest asns after : List ℕ) (kind : SegmentKind) (count size : ℕ) → HasSegments width bytes rest → HasHeader width rest kind count
-    → asns ≡ drop 2 rest → size ≡ as_width width → after ≡ drop (size * count) asns → HasSegments width bytes after
-segments_more width bytes rest asns after kind count size s h behind wide is =
+pub segments_more : (width : Width) (bytes rest asns after : List ℕ) (kind : SegmentKind) (found count size : ℕ) → HasSegments width bytes rest found → HasHeader width rest kind count
+    → asns ≡ drop 2 rest → size ≡ as_width width → after ≡ drop (size * count) asns → HasSegments width bytes after (found + 1)
+segments_more width bytes rest asns after kind found count size s h behind wide is =
     let long = as_width width * count in
     let all = drop 2 rest in
     let front = take long all in
@@ -52,14 +54,24 @@ segments_more width bytes rest asns after kind count size s h behind wide is =
     record {
       path = s.path ++ record { kind = kind; numbers = numbers.0 } ∷ [];
       read = segment_more width bytes rest front after s.path kind count numbers.0 s.read h split len numbers.1;
+      count_is = omega (arith, s.count_is, length-append s.path (record { kind = kind; numbers = numbers.0 } ∷ []));
+      room = omega (arith, s.room, h.header, ap length split, length-append front after, length-drop 2 rest);
     }
 
-pub segments_stuck : (width : Width) (bytes rest : List ℕ) → HasSegments width bytes rest → 0 < length rest → ((kind : SegmentKind) (count : ℕ) → HasHeader width rest kind count → ⊥)
+pub segments_stuck : (width : Width) (bytes rest : List ℕ) (found : ℕ) → HasSegments width bytes rest found → 0 < length rest → ((kind : SegmentKind) (count : ℕ) → HasHeader width rest kind count → ⊥)
     → (path : List SegmentValue) → ArePath width bytes path → ⊥
-segments_stuck width bytes rest s left none path are = segment_stuck width bytes rest s.path s.read left none path are
+segments_stuck width bytes rest found s left none path are = segment_stuck width bytes rest s.path s.read left none path are
 
-pub segments_end : (width : Width) (bytes rest : List ℕ) → HasSegments width bytes rest → length rest ≡ 0 → (path : List SegmentValue) × ArePath width bytes path
-segments_end width bytes rest s empty = (s.path, segment_all width bytes rest s.path s.read empty)
+pub segments_end : (width : Width) (bytes rest : List ℕ) (found : ℕ) → HasSegments width bytes rest found → length rest ≡ 0 → (path : List SegmentValue) × ArePath width bytes path × (found ≡ length path)
+segments_end width bytes rest found s empty = (s.path, segment_all width bytes rest s.path s.read empty, s.count_is)
+
+-- once no segment stands at what is left of a path, all its segments were read
+pub path_all : (width : Width) (bytes rest : List ℕ) (out : List SegmentValue) (found : ℕ) → (path : List SegmentValue) × ArePath width bytes path × (found ≡ length path) → HasRead (IsSegment width) bytes out rest
+    → ((kind : SegmentKind) (count : ℕ) → HasHeader width rest kind count → ⊥) → ArePath width bytes out
+path_all width bytes rest out found p read none = elim (cases_eq (length rest) 0) [
+  | inl empty ↦ segment_all width bytes rest out read empty
+  | inr left ↦ absurd (segment_stuck width bytes rest out read (omega (arith, left)) none p.0 p.1)
+]
 
 -- Whether bytes are a path is decided.
 
@@ -105,9 +117,9 @@ header_decides width bytes = elim (cases_lt (length bytes) 2) [
 abbrev pub IsDecided : Width → List ℕ → Type 0
 IsDecided width bytes = ((path : List SegmentValue) × ArePath width bytes path) ⊎ ((path : List SegmentValue) → ArePath width bytes path → ⊥)
 
-decided_after : (width : Width) (bytes after : List ℕ) → HasSegments width bytes after → IsDecided width after → IsDecided width bytes
-decided_after width bytes after s (inl (path, are)) = inl (s.path ++ path, s.read.sound path are)
-decided_after width bytes after s (inr none) = inr (λ path are. let q = s.read.only path are in none q.0 q.2)
+decided_after : (width : Width) (bytes after : List ℕ) (found : ℕ) → HasSegments width bytes after found → IsDecided width after → IsDecided width bytes
+decided_after width bytes after found s (inl (path, are)) = inl (s.path ++ path, s.read.sound path are)
+decided_after width bytes after found s (inr none) = inr (λ path are. let q = s.read.only path are in none q.0 q.2)
 
 pub path_decides : (width : Width) (bytes : List ℕ) → IsDecided width bytes
 path_decides width bytes = within (length bytes) bytes (omega arith)
@@ -117,11 +129,11 @@ path_decides width bytes = within (length bytes) bytes (omega arith)
     within (suc n) [] le = inl ([], refl)
     within (suc n) (x ∷ b) le =
         elim (header_decides width (x ∷ b)) [
-          | inr none ↦ inr (segments_stuck width (x ∷ b) (x ∷ b) (segments_first width (x ∷ b)) (omega arith) none)
+          | inr none ↦ inr (segments_stuck width (x ∷ b) (x ∷ b) 0 (segments_first width (x ∷ b)) (omega arith) none)
           | inl h ↦
               let after = drop (as_width width * h.1) (drop 2 (x ∷ b)) in
               let shorter : length after ≤ n = omega (arith, le, length-drop (as_width width * h.1) (drop 2 (x ∷ b)), length-drop 2 (x ∷ b)) in
-              decided_after width (x ∷ b) after
-              (segments_more width (x ∷ b) (x ∷ b) (drop 2 (x ∷ b)) after h.0 h.1 (as_width width) (segments_first width (x ∷ b)) h.2 refl refl refl)
+              decided_after width (x ∷ b) after 1
+              (segments_more width (x ∷ b) (x ∷ b) (drop 2 (x ∷ b)) after h.0 0 h.1 (as_width width) (segments_first width (x ∷ b)) h.2 refl refl refl)
               (within n after shorter)
         ]

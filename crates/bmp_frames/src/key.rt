@@ -5,7 +5,7 @@ ghost use Rattle.std.specs.Cmp.Rules.{comparing};
 ghost use Rattle.std.specs.Ordering.{as_partial_cmp};
 ghost use Rattle.bmp_specs.specs.Orders.{key_cmp};
 ghost use Rattle.bmp_specs.specs.NumberText.{number_text};
-ghost use Rattle.bmp_specs.specs.PeerText.{key_text};
+ghost use Rattle.bmp_specs.specs.PeerText.{key_text, IsKeyText};
 
 use crate::distinguisher::digits_of;
 use ip_prefix::{Addr, ShortText};
@@ -46,9 +46,10 @@ fn kind_text(kind: u8) -> ShortText
 
 impl PeerKey {
     /// Gives the text: the peer type, the distinguisher as 16 hexadecimal digits and the address, joined
-    /// by `-`.
+    /// by `-`. `parse_key` of the text gives the peer again.
     pub fn text(&self) -> ShortText
-        ensures { result ≡ key_text self.now }
+        ensures same { result ≡ key_text self.now }
+        ensures read_back { IsKeyText result self.now }
     {
         let mut text = kind_text(self.kind);
         text.push(b'-');

@@ -28,10 +28,12 @@ fn cut_at_dash(text: &[u8]) -> Option<(&[u8], &[u8])>
     Some((&text[..at], &text[at + 1..]))
 }
 
-/// Reads the text of a peer. None exactly where the text isn't one: the peer type is a number to 255,
-/// the distinguisher has 16 digits in lower case, and the address is in any form that is read.
+/// Reads the text of a peer, as the one peer that it writes: the peer type is a number to 255, the
+/// distinguisher has 16 digits in lower case, and the address is in any form that is read. None exactly
+/// where the text writes none.
 pub fn parse_key(text: &[u8]) -> Option<PeerKey>
-    ensures found { IfSome result (λ key. IsKeyText text.now key) }
+    ensures some { IfSome result (λ key. IsKeyText text.now key) }
+    ensures only { IfSome result (λ key. (k : KeyValue) → IsKeyText text.now k → k ≡ key) }
     ensures none { IfNone result ((key : KeyValue) → IsKeyText text.now key → ⊥) }
 {
     let Some((kind, rest)) = cut_at_dash(text) else {

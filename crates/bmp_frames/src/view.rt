@@ -47,9 +47,11 @@ fn is_word(text: &[u8], view: View) -> bool
     text == word(view).as_bytes()
 }
 
-/// Reads the word for a view. None exactly where the text is none of the five.
+/// Reads the word for a view, as the one view that it names. None exactly where the text is none of the
+/// five.
 pub fn parse_view(text: &[u8]) -> Option<View>
-    ensures found { IfSome result (λ v. IsViewText text.now v) }
+    ensures some { IfSome result (λ v. IsViewText text.now v) }
+    ensures only { IfSome result (λ v. (w : View) → IsViewText text.now w → w ≡ v) }
     ensures none { IfNone result ((v : View) → IsViewText text.now v → ⊥) }
 {
     if is_word(text, View::InPre) {

@@ -1,4 +1,4 @@
-ghost use Rattle.std.specs.Prelude.{ℕ, ◌<◌, IfSome, IfNone};
+ghost use Rattle.std.specs.Prelude.{ℕ, ◌<◌, ◌≤◌, length, IfSome, IfNone};
 ghost use Rattle.bmp_specs.specs.Prefix.{StandsAtFront};
 ghost use Rattle.bmp_specs.specs.Values.{PrefixValue};
 
@@ -7,6 +7,28 @@ use crate::prefixes::Prefix;
 use bmp_specs::Family;
 
 impl Prefix {
+    /// How many bytes the prefix at the front takes, by its length octet (RFC 4271, section 4.3): that octet,
+    /// and as many bytes as hold its bits. None exactly where no prefix of the family stands at the front.
+    pub fn wire_size(family: Family, input: &[u8]) -> Option<usize>
+        ensures found { IfSome result (λ size. (p : PrefixValue) × StandsAtFront family input.now p size) }
+        ensures some { IfSome result (λ size. 0 < size) }
+        ensures within { IfSome result (λ size. size ≤ length input.now) }
+        ensures none { IfNone result ((size : ℕ) (p : PrefixValue) → StandsAtFront family input.now p size → ⊥) }
+    {
+        if input.is_empty() {
+            return None;
+        }
+        let bits = input[0];
+        let size = (bits as usize + 7) / 8 + 1;
+        if width(family) < bits {
+            return None;
+        }
+        if input.len() < size {
+            return None;
+        }
+        Some(size)
+    }
+
     /// Reads one prefix from the front, and how many bytes it takes (RFC 4271, section 4.3): a number of
     /// bits, and as many bytes as hold them. Bits past that number are cleared. None exactly where no
     /// prefix of the family stands at the front.
@@ -15,15 +37,14 @@ impl Prefix {
         ensures some { IfSome result (λ found. 0 < found.1) }
         ensures none { IfNone result ((size : ℕ) (p : PrefixValue) → StandsAtFront family input.now p size → ⊥) }
     {
-        let (first, rest) = input.split_first()?;
-        let bits = *first;
-        let count = (bits as usize + 7) / 8;
-        if width(family) < bits || rest.len() < count {
+        let Some(size) = Prefix::wire_size(family, input) else {
             return None;
-        }
+        };
         let mut octets = [0u8; 16];
-        octets[..count].copy_from_slice(&rest[..count]);
-        let prefix = Prefix::new(Addr::with_octets(family, octets), bits)?;
-        Some((prefix, count + 1))
+        octets[..size - 1].copy_from_slice(&input[1..size]);
+        let Some(prefix) = Prefix::new(Addr::with_octets(family, octets), input[0]) else {
+            return None;
+        };
+        Some((prefix, size))
     }
 }

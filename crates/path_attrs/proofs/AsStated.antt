@@ -1,13 +1,12 @@
 -- What the four attributes of ASes state, from what was read of each.
-use Rattle.std.proofs.Common.{◌≡◌, ◌≤◌, ℕ, true, false, List, Option, refl, sym, subst, ◌∙◌, arith}
+use Rattle.std.proofs.Common.{◌≡◌, ℕ, true, false, List, Option, refl, sym, subst}
 use Rattle.bmp_specs.specs.declared.wire.Width.{Width}
 use Rattle.bmp_specs.specs.declared.wire.Width.TheVariants.{Two, Four}
 use Rattle.bmp_specs.specs.AsPath.{ArePath}
-use Rattle.bmp_specs.specs.Attributes.{AreAttributes, IsAggregator, Optional, aggregator, as4_aggregator, as4_path, as_path, value_of}
+use Rattle.bmp_specs.specs.Attributes.{IsAggregator, Optional, aggregator, as4_aggregator, as4_path, as_path}
 use Rattle.bmp_specs.specs.FourOctetAs.{AsAttributes, Chooses, IsMergedPath, ignores_as4, merged_aggregator}
-use Rattle.bmp_specs.specs.Values.{AggregatorValue, AttrsReadValue, SegmentValue}
-use Rattle.path_attrs.specs.AsInfo.{BreaksAs, StatesAs}
-use Rattle.path_attrs.specs.Field.{AreValues}
+use Rattle.bmp_specs.specs.Values.{AggregatorValue, SegmentValue}
+use Rattle.path_attrs.specs.AsInfo.{StatesAs}
 
 pub states_four : (width : Width) → width ≡ Four → (value : ℕ → Option (List ℕ)) (g : Option AggregatorValue) (p : Option (List SegmentValue))
     → Optional (ArePath width) (value as_path) p → Optional (IsAggregator width) (value aggregator) g → StatesAs width value g p
@@ -29,15 +28,3 @@ states_merged width e value g h p q x y paths aggregators xs ys kept hs merged =
     let a : AsAttributes = record { aggregator = g; as4_aggregator = x; as_path = p; as4_path = y } in
     let here : Chooses Two a h q = rw kept (hs, merged) in
     record { stated = a; as_path_is = paths; aggregator_is = aggregators; as4_path_is = ys; as4_aggregator_is = xs; chosen = subst (λ (w : Width). Chooses w a h q) (sym e) here }
-
-pub as_broken : (width : Width) (field : List ℕ) (value : ℕ → Option (List ℕ)) (read : AttrsReadValue) → AreValues field value → BreaksAs width value → AreAttributes width field read → ⊥
-as_broken width field value read values none p =
-    let at : (code : ℕ) → code ≤ as4_aggregator → value_of code p.parts ≡ value code = λ code le. sym (values p.parts p.are code le) in
-    none read.attrs.aggregator read.attrs.path (record {
-      stated = p.stated;
-      as_path_is = subst (λ (o : Option (List ℕ)). Optional (ArePath width) o p.stated.as_path) (at as_path (omega arith)) p.as_path_is;
-      aggregator_is = subst (λ (o : Option (List ℕ)). Optional (IsAggregator width) o p.stated.aggregator) (at aggregator (omega arith)) p.aggregator_is;
-      as4_path_is = p.as4_path_is ∙ at as4_path (omega arith);
-      as4_aggregator_is = p.as4_aggregator_is ∙ at as4_aggregator (omega arith);
-      chosen = p.chosen;
-    })

@@ -14,8 +14,7 @@ use Rattle.bmp_specs.specs.Parts.{AreParts}
 use Rattle.bmp_specs.specs.Sequence.{HasFront}
 use Rattle.bmp_specs.specs.Values.{OtherValue}
 use Rattle.bmp_specs.proofs.AttributesOne.{attribute_code}
-use Rattle.bmp_specs.proofs.PartsRead.{HasRead, HasRead-nil, HasRead-front, HasRead-none, HasRead-end}
-use Rattle.path_attrs.specs.Field.{HasParts}
+use Rattle.bmp_specs.proofs.PartsRead.{HasRead, HasRead-nil, HasRead-front, HasRead-none}
 use Rattle.path_attrs.proofs.Reading.{front_part}
 
 abbrev pub codes_of : List OtherValue → List ℕ
@@ -113,6 +112,3 @@ counts_twice field rest after seen count a c here marked parts are distinct =
 pub counts_stuck : (field rest : List ℕ) (seen : List Bool) (count : ℕ) → Counts field rest seen count → 0 < length rest → ((a : OtherValue) (after : List ℕ) → HasFront IsAttribute rest a after → ⊥)
     → (parts : List OtherValue) → AreParts IsAttribute field parts → ⊥
 counts_stuck field rest seen count c left none parts are = HasRead-none IsAttribute field c.parts rest c.read left none parts are
-
-pub counts_end : (field rest : List ℕ) (seen : List Bool) (count : ℕ) → Counts field rest seen count → length rest ≡ 0 → HasParts field count
-counts_end field rest seen count c empty = record { parts = c.parts; are = HasRead-end IsAttribute field c.parts rest c.read empty; distinct = c.distinct; count_is = c.count_is }

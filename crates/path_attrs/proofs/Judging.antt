@@ -1,7 +1,8 @@
 -- The attributes of a field, judged one after another as the loop does, and the value that judged attributes have.
-use Rattle.std.proofs.Common.{◌≡◌, ◌+◌, ◌/◌, ◌%◌, ◌<◌, ℕ, Bool, true, false, cond, eqb, List, [], ◌∷◌, ◌++◌, length, drop, get_or, set, map, filter, not, find, replicate, Option, Some, None, inl, inr, refl, sym, ap, subst, ◌∙◌, arith}
+use Rattle.std.proofs.Common.{◌≡◌, ◌+◌, ◌/◌, ◌%◌, ◌<◌, ◌≤◌, ℕ, Bool, true, false, cond, eqb, List, [], ◌∷◌, ◌++◌, length, drop, get_or, map, filter, not, find, Option, Some, None, inl, inr, refl, sym, ap, subst, ◌∙◌, arith}
 use Rattle.std.specs.Prelude.{◌==◌, ◌↔◌, IfSome, IsTrue, MatchBool, MatchOption, ⊤}
-use Rattle.std.specs.List.{AllByRecursion, list_any}
+use Rattle.std.specs.Borrow.{Bor}
+use Rattle.std.specs.List.{list_any}
 use Rattle.std.specs.Option.{option_map}
 use Rattle.std.proofs.lemmas.Bool.{cond_both, eq-eqb, eqb-true}
 use Rattle.std.proofs.lemmas.List.{nil_from_length}
@@ -20,79 +21,29 @@ use Rattle.bmp_specs.specs.Registries.{CodeRowValue, FitsShape}
 use Rattle.bmp_specs.specs.Sequence.{HasFront, IsField}
 use Rattle.bmp_specs.specs.Values.{AggregatorValue, AttrsReadValue, MpValue, OtherValue, SegmentValue}
 use Rattle.bmp_specs.proofs.AttributesOne.{attribute_code}
-use Rattle.bmp_specs.proofs.PartsRead.{AreParts-one, HasRead-end}
+use Rattle.bmp_specs.proofs.PartsRead.{AreParts-one}
 use Rattle.as_path.proofs.Judging.{path_decides, IsDecided, parts_there}
 use Rattle.path_attrs.specs.AsInfo.{StatesAs}
-use Rattle.path_attrs.specs.Field.{HasShape}
+use Rattle.path_attrs.specs.Field.{HasShape, value_at}
 use Rattle.path_attrs.specs.Judged.{FitsType, HasForms, IsJudged, mp_value}
 use Rattle.path_attrs.specs.declared.judge.Judged.{Judged}
 use Rattle.path_attrs.proofs.AsStated.{states_four, states_ignored, states_merged}
-use Rattle.path_attrs.proofs.Counting.{Counts, codes_of, counts_first, counts_more, counts_twice, counts_stuck}
-use Rattle.path_attrs.proofs.Gathering.{value_of_first, value_of_other}
+use Rattle.path_attrs.proofs.Counting.{codes_of, counts_twice, counts_stuck}
+use Rattle.path_attrs.proofs.Gathering.{Gathers, HaveForms, value_of_first}
 use Rattle.path_attrs.proofs.Keeping.{length-AreNumbers}
 use Rattle.path_attrs.proofs.Reading.{front_part}
 
 -- Attributes in turn.
 
-abbrev HaveForms : Width → List OtherValue → Type 0
-HaveForms width parts = AllByRecursion (λ a. FitsType width a.code a.value) parts
-
--- the attributes up to the rest have the forms of their types, and these are the values of two of them
-pub record Judges (width : Width) (field rest : List ℕ) (seen : List Bool) (reach unreach : Option (List ℕ)) : Type 0 where
-  pub count : ℕ
-  pub counts : Counts field rest seen count
-  pub forms : HaveForms width counts.parts
-  pub reach_is : reach ≡ value_of mp_reach_nlri counts.parts
-  pub unreach_is : unreach ≡ value_of mp_unreach_nlri counts.parts
-
-pub judges_first : (width : Width) (field : List ℕ) → Judges width field field (replicate 256 false) None None
-judges_first width field = record { count = 0; counts = counts_first field; forms = tt; reach_is = refl; unreach_is = refl }
-
-forms_push : (width : Width) (parts : List OtherValue) (a : OtherValue) → HaveForms width parts → FitsType width a.code a.value → HaveForms width (parts ++ a ∷ [])
-forms_push width [] a all here = (here, tt)
-forms_push width (p ∷ parts) a all here = (all.0, forms_push width parts a all.1 here)
-
--- the value of a type, once an attribute of a fresh type follows
-value_push : (k : ℕ) (parts : List OtherValue) (a : OtherValue) (now next : Option (List ℕ)) → now ≡ value_of k parts → list_any (eqb a.code) (codes_of parts) ≡ false → next ≡ cond (eqb a.code k) (Some a.value) now
-    → next ≡ value_of k (parts ++ a ∷ [])
-value_push k parts a now next is fresh e = go (eqb a.code k) refl
-  where
-    go : (b : Bool) → eqb a.code k ≡ b → next ≡ value_of k (parts ++ a ∷ [])
-    go true q =
-        let same : a.code ≡ k = eqb-true a.code k q in
-        let here : list_any (eqb k) (codes_of parts) ≡ false = subst (λ (j : ℕ). list_any (eqb j) (codes_of parts) ≡ false) same fresh in
-        e ∙ ap (λ (b : Bool). cond b (Some a.value) now) q ∙ sym (value_of_first k parts [] a here q)
-    go false q = e ∙ ap (λ (b : Bool). cond b (Some a.value) now) q ∙ is ∙ sym (value_of_other k parts a q)
-
-pub judges_more : (width : Width) (field rest after : List ℕ) (seen : List Bool) (reach unreach next_reach next_unreach : Option (List ℕ)) (a : OtherValue) → Judges width field rest seen reach unreach
-    → HasFront IsAttribute rest a after → a.code < 256 → get_or seen a.code false ≡ false → FitsType width a.code a.value
-    → next_reach ≡ cond (eqb a.code mp_reach_nlri) (Some a.value) reach → next_unreach ≡ cond (eqb a.code mp_unreach_nlri) (Some a.value) unreach
-    → Judges width field after (set seen a.code true) next_reach next_unreach
-judges_more width field rest after seen reach unreach next_reach next_unreach a j here octet unseen fits r u =
-    let c = j.counts in
-    let fresh : list_any (eqb a.code) (codes_of c.parts) ≡ false = sym (c.marks a.code) ∙ unseen in
-    record {
-      count = j.count + 1;
-      counts = counts_more field rest after seen j.count a c here octet unseen;
-      forms = forms_push width c.parts a j.forms fits;
-      reach_is = value_push mp_reach_nlri c.parts a reach next_reach j.reach_is fresh r;
-      unreach_is = value_push mp_unreach_nlri c.parts a unreach next_unreach j.unreach_is fresh u;
-    }
-
-pub judges_end : (width : Width) (field rest : List ℕ) (seen : List Bool) (reach unreach : Option (List ℕ)) → Judges width field rest seen reach unreach → length rest ≡ 0 → HasForms width field reach unreach
-judges_end width field rest seen reach unreach j empty =
-    let c = j.counts in
-    record { parts = c.parts; are = HasRead-end IsAttribute field c.parts rest c.read empty; distinct = c.distinct; forms = j.forms; reach_is = j.reach_is; unreach_is = j.unreach_is }
-
 -- no attribute stands at what is left
-pub judges_stuck : (width : Width) (field rest : List ℕ) (seen : List Bool) (reach unreach : Option (List ℕ)) → Judges width field rest seen reach unreach → 0 < length rest
+pub judges_stuck : (width : Width) (field rest : List ℕ) (seen : List Bool) (count : ℕ) (values : List (Option (Bor (List ℕ)))) → Gathers width field rest seen count values → 0 < length rest
     → ((a : OtherValue) (after : List ℕ) → HasFront IsAttribute rest a after → ⊥) → (read : AttrsReadValue) → AreAttributes width field read → ⊥
-judges_stuck width field rest seen reach unreach j left none read p = counts_stuck field rest seen j.count j.counts left none p.parts p.are
+judges_stuck width field rest seen count values j left none read p = counts_stuck field rest seen count j.counts left none p.parts p.are
 
 -- a second of one type stands there
-pub judges_twice : (width : Width) (field rest after : List ℕ) (seen : List Bool) (reach unreach : Option (List ℕ)) (a : OtherValue) → Judges width field rest seen reach unreach → HasFront IsAttribute rest a after
+pub judges_twice : (width : Width) (field rest after : List ℕ) (seen : List Bool) (count : ℕ) (values : List (Option (Bor (List ℕ)))) (a : OtherValue) → Gathers width field rest seen count values → HasFront IsAttribute rest a after
     → get_or seen a.code false ≡ true → (read : AttrsReadValue) → AreAttributes width field read → ⊥
-judges_twice width field rest after seen reach unreach a j here marked read p = counts_twice field rest after seen j.count a j.counts here marked p.parts p.are p.distinct
+judges_twice width field rest after seen count values a j here marked read p = counts_twice field rest after seen count a j.counts here marked p.parts p.are p.distinct
 
 -- The forms of a field that is attributes.
 
@@ -160,9 +111,9 @@ form_at width field read p code value e = form_cases width code value
     here k is = subst (λ (j : ℕ). value_of j p.parts ≡ Some value) is e
 
 -- an attribute without the form of its type stands there
-pub judges_unfit : (width : Width) (field rest after : List ℕ) (seen : List Bool) (reach unreach : Option (List ℕ)) (a : OtherValue) → Judges width field rest seen reach unreach → HasFront IsAttribute rest a after
+pub judges_unfit : (width : Width) (field rest after : List ℕ) (seen : List Bool) (count : ℕ) (values : List (Option (Bor (List ℕ)))) (a : OtherValue) → Gathers width field rest seen count values → HasFront IsAttribute rest a after
     → get_or seen a.code false ≡ false → (FitsType width a.code a.value → ⊥) → (read : AttrsReadValue) → AreAttributes width field read → ⊥
-judges_unfit width field rest after seen reach unreach a j here unseen unfit read p =
+judges_unfit width field rest after seen count values a j here unseen unfit read p =
     let c = j.counts in
     let q = c.read.only p.parts p.are in
     let r = front_part rest after a q.0 here q.2 in
@@ -174,7 +125,7 @@ judges_unfit width field rest after seen reach unreach a j here unseen unfit rea
 -- The value of a field whose attributes have the forms of their types.
 
 -- the value at a type has the form of the type
-fits_at : (width : Width) (code : ℕ) (parts : List OtherValue) → HaveForms width parts → IfSome (value_of code parts) (λ value. FitsType width code value)
+pub fits_at : (width : Width) (code : ℕ) (parts : List OtherValue) → HaveForms width parts → IfSome (value_of code parts) (λ value. FitsType width code value)
 fits_at width code [] all = tt
 fits_at width code (a ∷ parts) all = go (eqb a.code code) refl (fits_at width code parts all.1)
   where
@@ -235,9 +186,9 @@ states_there Two value g p paths aggregators = at (ignores_as4 g (value as4_aggr
         (h, m.0, states_merged Two refl value g h p m.0 (value as4_aggregator) (value as4_path) paths aggregators refl refl e refl m.1)
 
 -- the field has attributes with these two
-attributes_are : (width : Width) (field : List ℕ) (reach unreach : Option (List ℕ)) (r u : Option MpValue) → HasForms width field reach unreach → Optional IsMpReach reach r → Optional IsMpUnreach unreach u
-    → (read : AttrsReadValue) × AreAttributes width field read × (read.reach ≡ r) × (read.unreach ≡ u)
-attributes_are width field reach unreach r u h rs us =
+attributes_are : (width : Width) (field : List ℕ) (count : ℕ) (at : ℕ → Option (List ℕ)) (r u : Option MpValue) → HasForms width field count at → Optional IsMpReach (at mp_reach_nlri) r → Optional IsMpUnreach (at mp_unreach_nlri) u
+    → (read : AttrsReadValue) × AreAttributes width field read × (read.reach ≡ r) × (read.unreach ≡ u) × (read.count ≡ count)
+attributes_are width field count at r u h rs us =
     let parts = h.parts in
     let value : ℕ → Option (List ℕ) = λ code. value_of code parts in
     let origins = optional_there (IsNumber 1) (λ v. length v ≡ 1) (number_there 1) (value origin) (fits_at width origin parts h.forms) in
@@ -277,8 +228,8 @@ attributes_are width field reach unreach r u h rs us =
         pref_is = prefs.1;
         atomic_is = atomics.1;
         communities_are = lists.1;
-        reach_is = subst (λ (o : Option (List ℕ)). Optional IsMpReach o r) h.reach_is rs;
-        unreach_is = subst (λ (o : Option (List ℕ)). Optional IsMpUnreach o u) h.unreach_is us;
+        reach_is = subst (λ (o : Option (List ℕ)). Optional IsMpReach o r) (h.values_are mp_reach_nlri (omega arith)) rs;
+        unreach_is = subst (λ (o : Option (List ℕ)). Optional IsMpUnreach o u) (h.values_are mp_unreach_nlri (omega arith)) us;
         stated = s.stated;
         as_path_is = s.as_path_is;
         aggregator_is = s.aggregator_is;
@@ -290,26 +241,27 @@ attributes_are width field reach unreach r u h rs us =
       },
       refl,
       refl,
+      sym h.count_is,
     )
 
-pub judged_are : (width : Width) (field : List ℕ) (reach unreach : Option (List ℕ)) (judged : Judged) → HasForms width field reach unreach → Optional IsMpReach reach (option_map mp_value judged.reach)
-    → Optional IsMpUnreach unreach (option_map mp_value judged.unreach) → IsJudged width field judged
-judged_are width field reach unreach judged h rs us =
-    let q = attributes_are width field reach unreach (option_map mp_value judged.reach) (option_map mp_value judged.unreach) h rs us in
-    record { read = q.0; are = q.1; reach_is = q.2; unreach_is = q.3 }
+pub judged_are : (width : Width) (field : List ℕ) (judged : Judged) → HasForms width field judged.count (value_at judged.values) → Optional IsMpReach (value_at judged.values mp_reach_nlri) (option_map mp_value judged.reach)
+    → Optional IsMpUnreach (value_at judged.values mp_unreach_nlri) (option_map mp_value judged.unreach) → IsJudged width field judged
+judged_are width field judged h rs us =
+    let q = attributes_are width field judged.count (value_at judged.values) (option_map mp_value judged.reach) (option_map mp_value judged.unreach) h rs us in
+    record { read = q.0; are = q.1; reach_is = q.2; unreach_is = q.3; count_is = q.4; forms = h }
 
 -- A value that has no value of the form of MP_REACH_NLRI or MP_UNREACH_NLRI.
 
-same_value : (width : Width) (field : List ℕ) (reach unreach : Option (List ℕ)) (h : HasForms width field reach unreach) (read : AttrsReadValue) (p : AreAttributes width field read) (code : ℕ) → value_of code p.parts ≡ value_of code h.parts
-same_value width field reach unreach h read p code = ap (λ (l : List OtherValue). value_of code l) (AreParts-one IsAttribute attribute_code field p.parts h.parts p.are h.are)
+pub same_value : (width : Width) (field : List ℕ) (count : ℕ) (at : ℕ → Option (List ℕ)) (h : HasForms width field count at) (read : AttrsReadValue) (p : AreAttributes width field read) (code : ℕ) → code ≤ as4_aggregator → value_of code p.parts ≡ at code
+same_value width field count at h read p code le = ap (λ (l : List OtherValue). value_of code l) (AreParts-one IsAttribute attribute_code field p.parts h.parts p.are h.are) ∙ sym (h.values_are code le)
 
-pub reach_broken : (width : Width) (field : List ℕ) (reach unreach : Option (List ℕ)) → HasForms width field reach unreach → ((m : Option MpValue) → Optional IsMpReach reach m → ⊥) → (read : AttrsReadValue) → AreAttributes width field read → ⊥
-reach_broken width field reach unreach h none read p =
-    none read.reach (subst (λ (o : Option (List ℕ)). Optional IsMpReach o read.reach) (same_value width field reach unreach h read p mp_reach_nlri ∙ sym h.reach_is) p.reach_is)
+pub reach_broken : (width : Width) (field : List ℕ) (count : ℕ) (at : ℕ → Option (List ℕ)) → HasForms width field count at → ((m : Option MpValue) → Optional IsMpReach (at mp_reach_nlri) m → ⊥) → (read : AttrsReadValue) → AreAttributes width field read → ⊥
+reach_broken width field count at h none read p =
+    none read.reach (subst (λ (o : Option (List ℕ)). Optional IsMpReach o read.reach) (same_value width field count at h read p mp_reach_nlri (omega arith)) p.reach_is)
 
-pub unreach_broken : (width : Width) (field : List ℕ) (reach unreach : Option (List ℕ)) → HasForms width field reach unreach → ((m : Option MpValue) → Optional IsMpUnreach unreach m → ⊥) → (read : AttrsReadValue) → AreAttributes width field read → ⊥
-unreach_broken width field reach unreach h none read p =
-    none read.unreach (subst (λ (o : Option (List ℕ)). Optional IsMpUnreach o read.unreach) (same_value width field reach unreach h read p mp_unreach_nlri ∙ sym h.unreach_is) p.unreach_is)
+pub unreach_broken : (width : Width) (field : List ℕ) (count : ℕ) (at : ℕ → Option (List ℕ)) → HasForms width field count at → ((m : Option MpValue) → Optional IsMpUnreach (at mp_unreach_nlri) m → ⊥) → (read : AttrsReadValue) → AreAttributes width field read → ⊥
+unreach_broken width field count at h none read p =
+    none read.unreach (subst (λ (o : Option (List ℕ)). Optional IsMpUnreach o read.unreach) (same_value width field count at h read p mp_unreach_nlri (omega arith)) p.unreach_is)
 
 -- attributes of the other types have any octets
 pub other_form : (width : Width) (code : ℕ) (value : List ℕ) → (code ≡ origin → ⊥) → (code ≡ as_path → ⊥) → (code ≡ next_hop → ⊥) → (code ≡ multi_exit_disc → ⊥) → (code ≡ local_pref → ⊥) → (code ≡ atomic_aggregate → ⊥)

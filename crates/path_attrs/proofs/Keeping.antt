@@ -2,7 +2,7 @@
 use Rattle.std.proofs.Common.{◌≡◌, ◌*◌, ◌%◌, ◌<◌, ℕ, Bool, true, false, cond, List, [], ◌∷◌, ◌++◌, length, take, drop, take-append-drop, map, filter, not, Option, Some, None, refl, sym, ap, subst, ◌∙◌, append_assoc, append-nil, arith, length-append}
 use Rattle.byteorder.specs.Endian.{big_number}
 use Rattle.bmp_specs.specs.Attribute.{IsAttribute}
-use Rattle.bmp_specs.specs.Attributes.{AreCommunities, Optional, is_read, kept}
+use Rattle.bmp_specs.specs.Attributes.{Optional, is_read, kept}
 use Rattle.bmp_specs.specs.Number.{IsNumber}
 use Rattle.bmp_specs.specs.Parts.{AreParts}
 use Rattle.bmp_specs.specs.Sequence.{HasFront}
@@ -47,11 +47,6 @@ keeps_end field rest others k none parts are = let q = k.go parts are in at q.0 
 pub length-AreNumbers : (bytes values : List ℕ) → AreParts (IsNumber 4) bytes values → length bytes ≡ 4 * length values
 length-AreNumbers bytes [] p = ap (λ (l : List ℕ). length l) p
 length-AreNumbers bytes (v ∷ values) (front, rest, split, is, p) = omega (arith, ap length split.joined, length-append front rest, is.len, length-AreNumbers rest values p)
-
-pub communities_broken : (o : Option (List ℕ)) (bytes : List ℕ) → Some bytes ≡ o → (length bytes % 4 ≡ 0 → ⊥) → (values : List ℕ) → AreCommunities o values → ⊥
-communities_broken o bytes e none values are =
-    let here : AreParts (IsNumber 4) bytes values = subst (λ (p : Option (List ℕ)). AreCommunities p values) (sym e) are in
-    none (omega (arith, length-AreNumbers bytes values here))
 
 pub numbers_more : (bytes rest front after out : List ℕ) (n : ℕ) → HasRead (IsNumber 4) bytes out rest → front ≡ take 4 rest → after ≡ drop 4 rest → length front ≡ 4 → n ≡ big_number 4 front
     → HasRead (IsNumber 4) bytes (out ++ n ∷ []) after

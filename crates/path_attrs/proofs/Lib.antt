@@ -4,3 +4,4 @@ pub mod Gathering
 pub mod Keeping
 pub mod AsStated
 pub mod Judging
+pub mod Making

@@ -14,7 +14,3 @@ pub record StatesAs (width : Width) (value : ℕ → Option (List ℕ)) (chosen_
   pub as4_path_is : stated.as4_path ≡ value as4_path
   pub as4_aggregator_is : stated.as4_aggregator ≡ value as4_aggregator
   pub chosen : Chooses width stated chosen_aggregator path
-
--- AS_PATH or AGGREGATOR has no value
-abbrev pub BreaksAs : Width → (ℕ → Option (List ℕ)) → Type 0
-BreaksAs width value = (chosen_aggregator : Option AggregatorValue) (path : Option (List SegmentValue)) → StatesAs width value chosen_aggregator path → ⊥

@@ -1,7 +1,7 @@
 ghost use Rattle.std.specs.Prelude.{◌≡◌};
-ghost use Rattle.path_attrs.specs.declared.fault.AttrFault.TheVariants.{Broken as OutOfForm, NoMemory as OutOfMemory};
+ghost use Rattle.path_attrs.specs.declared.fault.AttrFault.TheVariants.{NoMemory as OutOfMemory};
 
-use wire_io::{NoMemory, Unplaced};
+use wire_io::NoMemory;
 
 /// Why path attributes were not read.
 #[derive(Clone, Copy, Debug, PartialEq, Eq)]
@@ -18,26 +18,10 @@ pub enum AttrFault {
 #[derive(Clone, Copy)]
 pub(crate) struct Broken;
 
-impl From<Broken> for AttrFault {
-    ghost from_gives = { λ _ fault. fault ≡ OutOfForm };
-
-    fn from(_: Broken) -> Self {
-        AttrFault::Broken
-    }
-}
-
 impl From<NoMemory> for AttrFault {
     ghost from_gives = { λ _ fault. fault ≡ OutOfMemory };
 
     fn from(_: NoMemory) -> Self {
-        AttrFault::NoMemory
-    }
-}
-
-impl<T: Drop> From<Unplaced<T>> for AttrFault {
-    ghost from_gives = { λ _ fault. fault ≡ OutOfMemory };
-
-    fn from(_: Unplaced<T>) -> Self {
         AttrFault::NoMemory
     }
 }

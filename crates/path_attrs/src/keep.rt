@@ -1,4 +1,4 @@
-ghost use Rattle.std.specs.Prelude.{◌≡◌, ◌++◌, ◌==◌, List, map, filter, not, [], ◌∷◌, IfOk, IfErr, OnOk};
+ghost use Rattle.std.specs.Prelude.{◌≡◌, ◌++◌, ◌==◌, List, map, filter, not, [], ◌∷◌, IfOk, OnOk};
 ghost use Rattle.std.specs.List.{list_any};
 ghost use Rattle.bmp_specs.specs.Attribute.{IsAttribute};
 ghost use Rattle.bmp_specs.specs.Attributes.{is_read, kept, read_types};
@@ -11,10 +11,10 @@ use crate::codes::{
     AGGREGATOR, AS_PATH, AS4_AGGREGATOR, AS4_PATH, ATOMIC_AGGREGATE, COMMUNITIES, LOCAL_PREF,
     MP_REACH_NLRI, MP_UNREACH_NLRI, MULTI_EXIT_DISC, NEXT_HOP, ORIGIN,
 };
-use crate::fault::AttrFault;
 use crate::others::{Other, OtherList};
 use crate::part::{EXTENDED_LENGTH, Part, read_part};
 use std::alloc::Global;
+use wire_io::NoMemory;
 
 // Whether attributes of the type are read.
 fn is_read_type(code: u8) -> bool
@@ -38,9 +38,8 @@ fn is_read_type(code: u8) -> bool
 }
 
 // Keeps the attribute, where attributes of its type aren't read.
-fn keep(alloc: Global, others: &mut OtherList, part: &Part<'_>) -> Result<(), AttrFault>
-    ensures ok { OnOk result (others.new ≡ others.old ++ kept_of (record { flags = part.now.flags; code = part.now.code; value = part.now.value.now } ∷ [])) }
-    ensures fault { IfErr result (λ fault. fault ≡ AttrFault.NoMemory) }
+fn keep(alloc: Global, others: &mut OtherList, part: &Part<'_>) -> Result<(), NoMemory>
+    ensures { OnOk result (others.new ≡ others.old ++ kept_of (record { flags = part.now.flags; code = part.now.code; value = part.now.value.now } ∷ [])) }
 {
     if is_read_type(part.code) {
         return Ok(());
@@ -60,9 +59,8 @@ fn keep(alloc: Global, others: &mut OtherList, part: &Part<'_>) -> Result<(), At
 }
 
 // The field's attributes of all types that aren't read, in order.
-pub(crate) fn read_others(alloc: Global, field: &[u8]) -> Result<OtherList, AttrFault>
-    ensures ok { IfOk result (λ others. (parts : List OtherValue) → AreParts IsAttribute field.now parts → others ≡ kept_of parts) }
-    ensures fault { IfErr result (λ fault. fault ≡ AttrFault.NoMemory) }
+pub(crate) fn make_others(alloc: Global, field: &[u8]) -> Result<OtherList, NoMemory>
+    ensures { IfOk result (λ others. (parts : List OtherValue) → AreParts IsAttribute field.now parts → others ≡ kept_of parts) }
 {
     let mut others = OtherList::new(alloc);
     let mut rest = field;

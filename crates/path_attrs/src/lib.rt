@@ -4,14 +4,13 @@
 //! hop and the rest, each behind its flags, its type and its length. `bgp_update` reads them with this
 //! crate, and all routes of one UPDATE share what it gives.
 //!
-//! Proved: `read_attrs` gives the attributes that a field has, and `Broken` exactly where it has none:
-//! where it is no list of attributes, two are of one type, or a value isn't of the form of its type
-//! (RFC 4271, section 4.3; RFC 4760; RFC 1997). In two-octet form AS4_PATH and AS4_AGGREGATOR are put
-//! back (RFC 6793, section 4.2.3). `judge_attrs` tells whether a field has attributes and makes none, and
-//! lends the multiprotocol ones. A copy of attributes is equal to them. The words are in `bmp_specs`,
-//! `specs/Attributes.antt` and `specs/FourOctetAs.antt`. Begin with `src/read.rt`; `src/found.rt` finds
-//! the value of each type in one pass, and each further file reads the value of its type. `src/judge.rt`
-//! judges a field where it stands.
+//! Proved: `judge_attrs` tells exactly where a field has attributes: where it is a list of attributes, no
+//! two are of one type, and each value is of the form of its type (RFC 4271, section 4.3; RFC 4760; RFC
+//! 1997). It makes none, and lends what it found. `make_attrs` makes the attributes of what was found, and
+//! `read_attrs` judges and makes. In two-octet form AS4_PATH and AS4_AGGREGATOR are put back (RFC 6793,
+//! section 4.2.3). A copy of attributes is equal to them. The words are in `bmp_specs`,
+//! `specs/Attributes.antt` and `specs/FourOctetAs.antt`. Begin with `src/judge.rt`; `src/found.rt` finds
+//! the value of each type and tests its form in one pass, and `src/read.rt` makes the values.
 #![tactic(auto)]
 
 mod as4;
@@ -19,7 +18,6 @@ mod as_info;
 mod attrs;
 mod bytes;
 mod codes;
-mod communities;
 mod fault;
 mod found;
 mod judge;
@@ -38,5 +36,5 @@ pub use fault::AttrFault;
 pub use judge::{Judged, judge_attrs};
 pub use mp::{MpPart, MpSlice};
 pub use others::{Other, OtherList};
-pub use read::{AttrsRead, read_attrs};
+pub use read::{AttrsRead, make_attrs, read_attrs};
 pub use wire_io::{ByteList, NoMemory};

@@ -1,4 +1,4 @@
-ghost use Rattle.std.specs.Prelude.{◌≡◌, IfOk, IfErr, OnErr, IsErrOf, option_copied};
+ghost use Rattle.std.specs.Prelude.{◌≡◌, IfOk, OnErr, option_copied};
 ghost use Rattle.std.specs.Option.{option_map};
 ghost use Rattle.bmp_specs.specs.Attributes.{Optional};
 ghost use Rattle.bmp_specs.specs.MpNlri.{IsMpReach, IsMpUnreach};
@@ -7,11 +7,11 @@ ghost use Rattle.path_attrs.specs.Field.{Breaks};
 ghost use Rattle.path_attrs.specs.Judged.{mp_value};
 
 use crate::bytes::bytes_of;
-use crate::fault::{AttrFault, Broken};
+use crate::fault::Broken;
 use byteorder::{BigEndian, ByteOrder};
 use std::alloc::Global;
 use std::marker::Model;
-use wire_io::ByteList;
+use wire_io::{ByteList, NoMemory};
 
 /// MP_REACH_NLRI or MP_UNREACH_NLRI (RFC 4760, sections 3 and 4).
 #[derive(Drop)]
@@ -121,39 +121,20 @@ pub(crate) fn slice_unreach<'a>(value: Option<&'a [u8]>) -> Result<Option<MpSlic
     }
 }
 
-// A copy of the attribute.
-fn part_of(alloc: Global, slice: &MpSlice<'_>) -> Result<MpPart, AttrFault>
-    ensures ok { IfOk result (λ part. part ≡ mp_value slice.now) }
-    ensures fault { IfErr result (λ fault. fault ≡ AttrFault.NoMemory) }
+// A copy of the attribute, where it is there.
+pub(crate) fn make_part(
+    alloc: Global,
+    slice: &Option<MpSlice<'_>>,
+) -> Result<Option<MpPart>, NoMemory>
+    ensures { IfOk result (λ part. part ≡ option_map mp_value slice.now) }
 {
-    Ok(MpPart {
-        afi: slice.afi,
-        safi: slice.safi,
-        hop: bytes_of(alloc, slice.hop)?,
-        prefixes: bytes_of(alloc, slice.prefixes)?,
-    })
-}
-
-// MP_REACH_NLRI, where its value is there.
-pub(crate) fn read_reach(alloc: Global, value: Option<&[u8]>) -> Result<Option<MpPart>, AttrFault>
-    ensures ok { IfOk result (Optional IsMpReach (option_copied value.entry)) }
-    ensures broken { IsErrOf result AttrFault.Broken → Breaks IsMpReach (option_copied value.entry) }
-{
-    match slice_reach(value) {
-        Ok(None) => Ok(None),
-        Ok(Some(slice)) => Ok(Some(part_of(alloc, &slice)?)),
-        Err(_) => Err(AttrFault::Broken),
-    }
-}
-
-// MP_UNREACH_NLRI, where its value is there.
-pub(crate) fn read_unreach(alloc: Global, value: Option<&[u8]>) -> Result<Option<MpPart>, AttrFault>
-    ensures ok { IfOk result (Optional IsMpUnreach (option_copied value.entry)) }
-    ensures broken { IsErrOf result AttrFault.Broken → Breaks IsMpUnreach (option_copied value.entry) }
-{
-    match slice_unreach(value) {
-        Ok(None) => Ok(None),
-        Ok(Some(slice)) => Ok(Some(part_of(alloc, &slice)?)),
-        Err(_) => Err(AttrFault::Broken),
+    match slice {
+        None => Ok(None),
+        Some(slice) => Ok(Some(MpPart {
+            afi: slice.afi,
+            safi: slice.safi,
+            hop: bytes_of(alloc, slice.hop)?,
+            prefixes: bytes_of(alloc, slice.prefixes)?,
+        })),
     }
 }

@@ -1,23 +1,20 @@
 ghost use Rattle.std.specs.Prelude.{IfOk, IsErrOf};
 ghost use Rattle.bmp_specs.specs.Attributes.{AreAttributes};
 ghost use Rattle.bmp_specs.specs.Values.{AttrsReadValue};
+ghost use Rattle.path_attrs.specs.Judged.{IsJudged};
 
-use crate::as_info::read_as_info;
+use crate::as_info::make_as_info;
 use crate::attrs::Attrs;
-use crate::codes::{
-    ATOMIC_AGGREGATE, COMMUNITIES, LOCAL_PREF, MP_REACH_NLRI, MP_UNREACH_NLRI, MULTI_EXIT_DISC,
-    NEXT_HOP, ORIGIN,
-};
-use crate::communities::read_communities;
+use crate::codes::{ATOMIC_AGGREGATE, COMMUNITIES, LOCAL_PREF, MULTI_EXIT_DISC, NEXT_HOP, ORIGIN};
 use crate::fault::AttrFault;
-use crate::found::{Found, find_values};
-use crate::keep::read_others;
-use crate::mp::{MpPart, read_reach, read_unreach};
-use crate::values::{read_atomic, read_hop, read_med, read_origin, read_pref};
+use crate::judge::{Judged, judge_attrs};
+use crate::keep::make_others;
+use crate::mp::{MpPart, make_part};
+use crate::values::{is_there, make_communities, make_hop, number, octet};
 use as_path::Width;
 use std::alloc::Global;
 use std::marker::Model;
-use wire_tables::attribute_table;
+use wire_io::NoMemory;
 
 /// The path attributes of an UPDATE, as one field of it has them.
 #[derive(Drop)]
@@ -43,36 +40,31 @@ impl Model for AttrsRead {
     ghost view = { λ r. record { attrs = r.attrs; reach = r.reach; unreach = r.unreach; count = r.count } };
 }
 
-/// Reads the "Path Attributes" of an UPDATE message (RFC 4271, section 4.3), with AS numbers of the
-/// width. `AttrFault::Broken` exactly where the field is no attributes, two of them are of one type,
-/// or a value isn't of the form of its type. The headers are read twice: once to check them and find the
-/// values that are read, once to keep the others. Time and memory are linear in the field.
-pub fn read_attrs(alloc: Global, field: &[u8], width: Width) -> Result<AttrsRead, AttrFault>
-    ensures ok { IfOk result (AreAttributes width field.now) }
-    ensures broken { IsErrOf result AttrFault.Broken → (read : AttrsReadValue) → AreAttributes width field.now read → ⊥ }
+/// Makes the attributes of a field that was judged. It tests nothing again, and reads the headers once more
+/// to keep the attributes of other types. Time and memory are linear in the field.
+pub fn make_attrs(
+    alloc: Global,
+    field: &[u8],
+    width: Width,
+    judged: &Judged<'_>,
+) -> Result<AttrsRead, NoMemory>
+    requires { IsJudged width field.now judged.now }
+    ensures { IfOk result (AreAttributes width field.now) }
 {
-    let Found { count, values } = match find_values(field) {
-        Some(found) => found,
-        None => return Err(AttrFault::Broken),
-    };
-    let table = attribute_table();
-    let origin = read_origin(&table, values[ORIGIN as usize])?;
-    let med = read_med(&table, values[MULTI_EXIT_DISC as usize])?;
-    let pref = read_pref(&table, values[LOCAL_PREF as usize])?;
-    let atomic = read_atomic(&table, values[ATOMIC_AGGREGATE as usize])?;
-    let hop = read_hop(alloc, &table, values[NEXT_HOP as usize])?;
-    let communities = read_communities(alloc, &table, values[COMMUNITIES as usize])?;
-    let info = read_as_info(alloc, &values, width)?;
-    let reach = read_reach(alloc, values[MP_REACH_NLRI as usize])?;
-    let unreach = read_unreach(alloc, values[MP_UNREACH_NLRI as usize])?;
-    let others = read_others(alloc, field)?;
+    let values = &judged.values;
+    let hop = make_hop(alloc, values[NEXT_HOP as usize])?;
+    let communities = make_communities(alloc, values[COMMUNITIES as usize])?;
+    let info = make_as_info(alloc, values, width)?;
+    let reach = make_part(alloc, &judged.reach)?;
+    let unreach = make_part(alloc, &judged.unreach)?;
+    let others = make_others(alloc, field)?;
     let attrs = Attrs {
-        origin,
+        origin: octet(values[ORIGIN as usize]),
         path: info.path,
         hop,
-        med,
-        pref,
-        atomic,
+        med: number(values[MULTI_EXIT_DISC as usize]),
+        pref: number(values[LOCAL_PREF as usize]),
+        atomic: is_there(values[ATOMIC_AGGREGATE as usize]),
         aggregator: info.aggregator,
         communities,
         others,
@@ -81,6 +73,18 @@ pub fn read_attrs(alloc: Global, field: &[u8], width: Width) -> Result<AttrsRead
         attrs,
         reach,
         unreach,
-        count,
+        count: judged.count,
     })
+}
+
+/// Reads the "Path Attributes" of an UPDATE message (RFC 4271, section 4.3), with AS numbers of the
+/// width: judges them, and then makes them. `AttrFault::Broken` exactly where `judge_attrs` answers `None`.
+pub fn read_attrs(alloc: Global, field: &[u8], width: Width) -> Result<AttrsRead, AttrFault>
+    ensures ok { IfOk result (AreAttributes width field.now) }
+    ensures broken { IsErrOf result AttrFault.Broken → (read : AttrsReadValue) → AreAttributes width field.now read → ⊥ }
+{
+    let Some(judged) = judge_attrs(field, width) else {
+        return Err(AttrFault::Broken);
+    };
+    Ok(make_attrs(alloc, field, width, &judged)?)
 }

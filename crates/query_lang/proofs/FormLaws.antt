@@ -10,7 +10,6 @@ use Rattle.bmp_specs.specs.Values.{AddressValue, KeyValue, PrefixValue}
 use Rattle.query_lang.specs.Verbs.{verb_of, verb_text}
 use Rattle.query_lang.specs.declared.verb.Verb.{Verb}
 use Rattle.query_lang.specs.declared.verb.Verb.TheVariants.{Routers, Cut, Peers, Marks, Table, Count, Prefix, Match, Within, Origin, Stats, Changes, Quit}
-use Rattle.query_lang.proofs.OneKey.{key_one}
 use Rattle.query_lang.proofs.VerbLaws.{same_verb}
 
 -- a text and selectors behind a word
@@ -39,9 +38,9 @@ pub stats_read : (words others : List (List ℕ)) (text : List ℕ) (r : Option 
 stats_read words others text None split none is = tt
 stats_read words others text (Some key) split none is = stats_is words others text key split none is
 
-pub stats_only : (words others : List (List ℕ)) (text : List ℕ) (r : Option KeyValue) → words ≡ text ∷ others → IfSome r (λ key. IsKeyText text key) → IfSome r (λ key. (k : KeyValue) → IsStatsQuery k (codes "stats" ∷ words) → k ≡ key)
-stats_only words others text None split is = tt
-stats_only words others text (Some key) split is = λ k asked. key_one text k key (stats_parts words others text k split asked).0 is
+pub stats_only : (words others : List (List ℕ)) (text : List ℕ) (r : Option KeyValue) → words ≡ text ∷ others → IfSome r (λ key. (k : KeyValue) → IsKeyText text k → k ≡ key) → IfSome r (λ key. (k : KeyValue) → IsStatsQuery k (codes "stats" ∷ words) → k ≡ key)
+stats_only words others text None split only = tt
+stats_only words others text (Some key) split only = λ k asked. only k (stats_parts words others text k split asked).0
 
 pub stats_refused : (words others : List (List ℕ)) (text : List ℕ) (r : Option KeyValue) → words ≡ text ∷ others → IfNone r ((key : KeyValue) → IsKeyText text key → ⊥) → IfNone r ((k : KeyValue) → IsStatsQuery k (codes "stats" ∷ words) → ⊥)
 stats_refused words others text (Some key) split none = tt

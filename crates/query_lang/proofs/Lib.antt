@@ -1,6 +1,6 @@
 pub mod VerbLaws
 pub mod LineWords
-pub mod OneKey
+pub mod OneNumber
 pub mod SelectorLaws
 pub mod FormLaws
 pub mod NoSpace

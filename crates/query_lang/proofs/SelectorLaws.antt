@@ -8,7 +8,8 @@ use Rattle.bmp_specs.specs.Query.{IsFamilyText, IsSelector, ArePeerSelectors, Ar
 use Rattle.bmp_specs.specs.Selection.{SelectValue}
 use Rattle.bmp_specs.specs.Values.{KeyValue}
 use Rattle.query_lang.specs.Reading.{Unnamed, Takes, Breaks}
-use Rattle.query_lang.proofs.OneKey.{number_one, key_one, view_one, family_one}
+use Rattle.bmp_frames.proofs.OneText.{key_one, view_one}
+use Rattle.query_lang.proofs.OneNumber.{number_one, family_one}
 
 pub unnamed_none : (word : List ℕ) → Unnamed word []
 unnamed_none word text others e = absurd cc

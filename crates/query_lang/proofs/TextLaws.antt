@@ -1,16 +1,14 @@
 -- The text of a query is read as this query, and is written as a front, a text and selectors.
-use Rattle.std.proofs.Common.{◌≡◌, ℕ, ◌^◌, ◌<◌, List, [], ◌∷◌, ◌++◌, Option, Result, refl, sym, ap, subst, ◌∙◌, arith, append-nil, codes}
+use Rattle.std.proofs.Common.{◌≡◌, ℕ, List, [], ◌∷◌, ◌++◌, Option, Result, refl, sym, ap, subst, ◌∙◌, append-nil, codes}
 use Rattle.std.specs.List.{join_with_byte}
-use Rattle.bmp_specs.specs.Address.{IsAddress}
 use Rattle.bmp_specs.specs.AddressText.{address_text}
 use Rattle.bmp_specs.specs.NumberText.{number_text}
-use Rattle.bmp_specs.specs.PeerText.{key_text, distinguisher_text, IsKeyText}
+use Rattle.bmp_specs.specs.PeerText.{key_text}
 use Rattle.bmp_specs.specs.PrefixText.{prefix_text}
 use Rattle.bmp_specs.specs.Query.{QueryValue, routers, cut, peers, marks, table, count, exact, longest, within, origin, stats, changes, quit, space, AreQueryWords, IsQuery}
 use Rattle.bmp_specs.specs.Selection.{SelectValue}
 use Rattle.bmp_specs.specs.Values.{AddressValue, KeyValue, PrefixValue}
 use Rattle.query_lang.specs.QueryText.{peer_selector_words, select_words, query_words, spaced, query_text}
-use Rattle.ip_prefix.proofs.ReadsBack.{address_back}
 use Rattle.wire_io.specs.declared.sink.Failed.{Failed}
 use Rattle.wire_io.specs.Aside.{Aside}
 use Rattle.wire_io.specs.Writes.{Writes}
@@ -27,18 +25,6 @@ read_back q asks = record { words = query_words q; are_words = query_words_are q
 
 pub read_as : (q v : QueryValue) → q ≡ v → AreQueryWords v (query_words v) → IsQuery (query_text q) q
 read_as q v e asks = subst (λ (x : QueryValue). IsQuery (query_text x) x) (sym e) (read_back v asks)
-
--- a peer's text is read as this peer
-pub key_back : (key : KeyValue) → key.kind < 2 ^ 8 → key.distinguisher < 2 ^ 64 → IsAddress key.address → IsKeyText (key_text key) key
-key_back key kind distinguisher is = record {
-  kind = number_text key.kind;
-  distinguisher = distinguisher_text key.distinguisher;
-  address = address_text key.address;
-  spelled = refl;
-  is_kind = record { within = omega (arith, kind); spelled = refl };
-  is_distinguisher = record { within = distinguisher; spelled = refl };
-  is_address = address_back key.address is;
-}
 
 module _ {O : Type 0} {faults : O → ℕ} {told : O → Option (List ℕ)} {aside : O → Aside} where
   -- what was written is the same text

@@ -22,16 +22,6 @@ fn digits(number: u64) -> ShortText
     text
 }
 
-// The text of a peer, which is read as this peer.
-fn peer_text(key: &PeerKey) -> ShortText
-    ensures same { result ≡ key_text key.now }
-    ensures read_back { IsKeyText (key_text key.now) key.now }
-{
-    // The fields' types bound what they hold.
-    let (_kind, _distinguisher, _octets) = (key.kind, key.distinguisher, key.address.octets());
-    key.text()
-}
-
 // `router N` behind a space, as its word and its text; nothing where no router is named.
 fn router_pieces(router: Option<u32>) -> (&'static [u8], ShortText)
     ensures whole { result.0.now ++ result.1 ≡ spaced (selector_words (codes "router") number_text router) }
@@ -49,7 +39,7 @@ fn peer_pieces(peer: &Option<PeerKey>) -> (&'static [u8], ShortText)
     ensures read_back { IsSelector (codes "peer") IsKeyText peer.now (selector_words (codes "peer") key_text peer.now) }
 {
     match peer {
-        Some(key) => (b" peer ", peer_text(key)),
+        Some(key) => (b" peer ", key.text()),
         None => (b"", ShortText::new()),
     }
 }
@@ -173,7 +163,7 @@ impl Query {
             Query::Origin(number, select) => {
                 put_sought(out, b"origin ", digits(*number as u64), select)
             }
-            Query::Stats(key) => write_pieces(out, &[b"stats ", peer_text(key).as_slice()]),
+            Query::Stats(key) => write_pieces(out, &[b"stats ", key.text().as_slice()]),
             Query::Changes { lane, from, prefix } => put_changes(out, *lane, *from, prefix),
             Query::Quit => write_all(out, b"quit"),
         }

@@ -68,18 +68,25 @@ fn header(width: Width, bytes: &[u8]) -> Option<(SegmentKind, u8)>
     Some((kind, count))
 }
 
-// How many whole segments stand at the front of the bytes: as many as the path has, where the bytes are one.
-fn whole_segments(width: Width, bytes: &[u8]) -> usize
-    ensures { result ≤ length bytes.now }
+// How many segments the path has that the bytes are. `None` exactly where they are no list of segments. It looks at the
+// header of each segment once.
+fn segment_count(width: Width, bytes: &[u8]) -> Option<usize>
+    ensures some { IfSome result (λ count. (path : List SegmentValue) × ArePath width bytes.now path × (count ≡ length path)) }
+    ensures within { IfSome result (λ count. count ≤ length bytes.now) }
+    ensures none { IfNone result ((path : List SegmentValue) → ArePath width bytes.now path → ⊥) }
 {
+    let mut found = 0;
     let mut rest = bytes;
-    for found in 0..bytes.len() {
-        match header(width, rest) {
-            Some((_, count)) => rest = &rest[HEADER_LEN + width_bytes(width) * count as usize..],
-            None => return found,
-        }
+    while !rest.is_empty() {
+        let Some((_, count)) = header(width, rest) else {
+            return None;
+        };
+        let (_, asns) = rest.split_at(HEADER_LEN);
+        let (_, after) = asns.split_at(width_bytes(width) * count as usize);
+        found += 1;
+        rest = after;
     }
-    bytes.len()
+    Some(found)
 }
 
 // The AS numbers that the bytes are, so many of them.
@@ -100,25 +107,24 @@ fn numbers(alloc: Global, width: Width, count: usize, bytes: &[u8]) -> Result<Nu
 impl AsPath {
     /// Reads the value of an AS_PATH attribute (RFC 4271, section 4.3), or of AS4_PATH in four bytes
     /// (RFC 6793, section 3). `PathFault::Broken` exactly where the bytes aren't a list of segments.
-    /// Time and memory are linear in the bytes, and all memory is taken with its final size.
+    /// The segments are judged and counted first, by what `is_path` does, and then made. Time and memory are
+    /// linear in the bytes, and all memory is taken with its final size.
     pub fn read(alloc: Global, value: &[u8], width: Width) -> Result<AsPath, PathFault>
         ensures ok { IfOk result (λ path. ArePath width value.now path) }
         ensures broken { IsErrOf result PathFault.Broken → (path : List SegmentValue) → ArePath width value.now path → ⊥ }
     {
-        let mut segments = Vec::with_capacity(alloc, whole_segments(width, value))?;
+        let Some(found) = segment_count(width, value) else {
+            return Err(PathFault::Broken);
+        };
+        let mut segments = Vec::with_capacity(alloc, found)?;
         let mut rest = value;
-        while !rest.is_empty() {
-            match header(width, rest) {
-                Some((kind, count)) => {
-                    let count = count as usize;
-                    let (_, asns) = rest.split_at(HEADER_LEN);
-                    let (front, after) = asns.split_at(width_bytes(width) * count);
-                    let numbers = numbers(alloc, width, count, front)?;
-                    segments.push(Segment { kind, numbers })?;
-                    rest = after;
-                }
-                None => return Err(PathFault::Broken),
-            }
+        while let Some((kind, count)) = header(width, rest) {
+            let count = count as usize;
+            let (_, asns) = rest.split_at(HEADER_LEN);
+            let (front, after) = asns.split_at(width_bytes(width) * count);
+            let numbers = numbers(alloc, width, count, front)?;
+            segments.push(Segment { kind, numbers })?;
+            rest = after;
         }
         Ok(AsPath { segments })
     }
@@ -129,17 +135,6 @@ impl AsPath {
     pub fn is_path(value: &[u8], width: Width) -> bool
         ensures { IsTrue result ↔ ((path : List SegmentValue) × ArePath width value.now path) }
     {
-        let mut rest = value;
-        while !rest.is_empty() {
-            match header(width, rest) {
-                Some((_, count)) => {
-                    let (_, asns) = rest.split_at(HEADER_LEN);
-                    let (_, after) = asns.split_at(width_bytes(width) * count as usize);
-                    rest = after;
-                }
-                None => return false,
-            }
-        }
-        true
+        segment_count(width, value).is_some()
     }
 }

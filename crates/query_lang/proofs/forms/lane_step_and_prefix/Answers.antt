@@ -1,7 +1,7 @@
 use Rattle.query_lang.specs.Reading.{further_words}
 use Rattle.query_lang.proofs.LineWords.{nothing_follows, something_follows}
 use Rattle.query_lang.proofs.FormLaws.{changes_parts, changes_is}
-use Rattle.query_lang.proofs.OneKey.{number_one, step_one}
+use Rattle.query_lang.proofs.OneNumber.{number_one, step_one}
 use Rattle.query_lang.proofs.forms.lane_step_and_prefix.Goals as goal
 
 pub returns-then-not-is_empty-clause-none : goal.returns-then-not-is_empty-clause-none

@@ -1,7 +1,7 @@
 use Rattle.bmp_specs.specs.NumberText.{IsNumberText}
 use Rattle.query_lang.specs.Reading.{further_words}
 use Rattle.query_lang.proofs.FormLaws.{sought_parts}
-use Rattle.query_lang.proofs.OneKey.{number_one}
+use Rattle.query_lang.proofs.OneNumber.{number_one}
 use Rattle.query_lang.proofs.forms.sought_number.Goals as goal
 
 pub returns-in_default-parse_number-clause-none : goal.returns-in_default-parse_number-clause-none

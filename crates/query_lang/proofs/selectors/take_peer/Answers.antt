@@ -6,4 +6,4 @@ use Rattle.query_lang.proofs.selectors.take_peer.Goals as goal
 
 pub returns-in-Some-parse_key-clause-some : goal.returns-in-Some-parse_key-clause-some
 returns-in-Some-parse_key-clause-some c =
-    takes_named (codes "peer") IsKeyText (further_words c.args.rest.now) (further_words c.in-Some.others.now) c.in-Some.text.now c.in-Some-parse_key.key c.in-Some.ensures.some c.in-Some-parse_key.ensures.found
+    takes_named (codes "peer") IsKeyText (further_words c.args.rest.now) (further_words c.in-Some.others.now) c.in-Some.text.now c.in-Some-parse_key.key c.in-Some.ensures.some c.in-Some-parse_key.ensures.some

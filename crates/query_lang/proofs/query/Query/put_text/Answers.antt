@@ -1,7 +1,7 @@
 use Rattle.std.proofs.Common.{ℕ, List, ◌∷◌, ◌++◌, refl, sym, ap, subst, ◌∙◌, arith, codes}
 use Rattle.bmp_specs.specs.AddressText.{address_text, IsAddressText}
 use Rattle.bmp_specs.specs.NumberText.{number_text, IsNumberText}
-use Rattle.bmp_specs.specs.PeerText.{key_text}
+use Rattle.bmp_specs.specs.PeerText.{key_text, IsKeyText}
 use Rattle.bmp_specs.specs.PrefixText.{prefix_text, IsPrefixText}
 use Rattle.bmp_specs.specs.Query.{routers, cut, peers, marks, table, count, exact, longest, within, origin, stats, changes, quit}
 use Rattle.query_lang.specs.Queries.{query_value}
@@ -81,10 +81,10 @@ pub returns-in-Origin-clause-read_back : goal.returns-in-Origin-clause-read_back
 returns-in-Origin-clause-read_back g c = read_as (query_value c.args.self.now) (origin c.in-Origin.number c.in-Origin.select) (ap query_value c.in-Origin.is) (sought_is IsNumberText (number_text c.in-Origin.number ∷ select_words c.in-Origin.select) (select_words c.in-Origin.select) (number_text c.in-Origin.number) c.in-Origin.number c.in-Origin.select refl (record { within = omega arith; spelled = refl }) c.put_sought-in-Origin.ensures.read_back (codes "origin"))
 
 pub returns-in-Stats-clause-written : goal.returns-in-Stats-clause-written
-returns-in-Stats-clause-written g c = as_text _ _ _ _ _ c.write_pieces.ensures (ap text_of c.in-Stats.is ∙ stats_line c.in-Stats.key c.as_slice.result.now (c.as_slice.ensures ∙ c.peer_text.ensures.same))
+returns-in-Stats-clause-written g c = as_text _ _ _ _ _ c.write_pieces.ensures (ap text_of c.in-Stats.is ∙ stats_line c.in-Stats.key c.as_slice.result.now (c.as_slice.ensures ∙ c.text-in-Stats.ensures.same))
 
 pub returns-in-Stats-clause-read_back : goal.returns-in-Stats-clause-read_back
-returns-in-Stats-clause-read_back g c = read_as (query_value c.args.self.now) (stats c.in-Stats.key) (ap query_value c.in-Stats.is) (record { text = key_text c.in-Stats.key; is_text = c.peer_text.ensures.read_back; spelled = refl })
+returns-in-Stats-clause-read_back g c = read_as (query_value c.args.self.now) (stats c.in-Stats.key) (ap query_value c.in-Stats.is) (record { text = key_text c.in-Stats.key; is_text = subst (λ (l : List ℕ). IsKeyText l c.in-Stats.key) c.text-in-Stats.ensures.same c.text-in-Stats.ensures.read_back; spelled = refl })
 
 pub returns-in-Changes-clause-read_back : goal.returns-in-Changes-clause-read_back
 returns-in-Changes-clause-read_back g c = read_as (query_value c.args.self.now) (changes c.in-Changes.lane c.in-Changes.from c.in-Changes.prefix) (ap query_value c.in-Changes.is) (c.put_changes.ensures.read_back)

@@ -1,5 +1,5 @@
--- The text of a value in a selector has one value.
-use Rattle.std.proofs.Common.{◌≡◌, ℕ, List, ◌∷◌, ◌++◌, Option, None, Some, Ok, cond, get_or, length, take, drop, refl, sym, ap, subst, ◌∙◌, arith, ◌-◌, ◌+◌, codes}
+-- The text of a peer or of a view has one value.
+use Rattle.std.proofs.Common.{◌≡◌, ℕ, List, ◌∷◌, ◌++◌, Option, None, Some, Ok, cond, length, take, drop, refl, sym, ap, subst, ◌∙◌, arith, ◌-◌, ◌+◌, codes}
 use Rattle.std.specs.Prelude.{position, ◌==◌}
 use Rattle.std.specs.Str.{bytes_eq}
 use Rattle.std.proofs.lemmas.Fmt.{decimal_injective}
@@ -7,23 +7,14 @@ use Rattle.byteorder.specs.Endian.{big_bytes, big_number}
 use Rattle.hex.specs.Hex.{decode_sized}
 use Rattle.bmp_specs.specs.declared.peers.View.{View}
 use Rattle.bmp_specs.specs.declared.peers.View.TheVariants.{InPre, InPost, OutPre, OutPost, Loc}
-use Rattle.bmp_specs.specs.declared.wire.Family.{Family}
-use Rattle.bmp_specs.specs.declared.wire.Family.TheVariants.{V4, V6}
 use Rattle.bmp_specs.specs.AddressText.{IsAddressText}
-use Rattle.bmp_specs.specs.NumberText.{IsNumberUpTo, IsNumberText, IsStepText}
+use Rattle.bmp_specs.specs.NumberText.{IsNumberUpTo}
 use Rattle.bmp_specs.specs.PeerText.{dash, most_kind, view_text, distinguisher_text, IsDistinguisherText, IsKeyText, IsViewText}
-use Rattle.bmp_specs.specs.Query.{IsFamilyText}
 use Rattle.bmp_specs.specs.Values.{AddressValue, KeyValue}
 use Rattle.bmp_frames.specs.KeyText.{CutsAtDash}
 use Rattle.bmp_frames.proofs.Dash.{no_dash, cut_here, first_part, second_part}
 use Rattle.bmp_frames.proofs.Digits.{read_back, number_back}
 use Rattle.ip_prefix.proofs.OneValue.{address_one}
-
-pub number_one : (text : List ℕ) (a b : ℕ) → IsNumberText text a → IsNumberText text b → a ≡ b
-number_one text a b p q = decimal_injective a b (omega (arith, p.within)) (omega (arith, q.within)) (sym p.spelled ∙ q.spelled)
-
-pub step_one : (text : List ℕ) (a b : ℕ) → IsStepText text a → IsStepText text b → a ≡ b
-step_one text a b p q = decimal_injective a b (omega (arith, p.within)) (omega (arith, q.within)) (sym p.spelled ∙ q.spelled)
 
 kind_one : (text : List ℕ) (a b : ℕ) → IsNumberUpTo most_kind text a → IsNumberUpTo most_kind text b → a ≡ b
 kind_one text a b p q = decimal_injective a b (omega (arith, p.within)) (omega (arith, q.within)) (sym p.spelled ∙ q.spelled)
@@ -49,6 +40,7 @@ same_key a b kind distinguisher address =
     ∙ ap (λ (d : ℕ). let v : KeyValue = record { kind = b.kind; distinguisher = d; address = a.address } in v) distinguisher
     ∙ ap (λ (x : AddressValue). let v : KeyValue = record { kind = b.kind; distinguisher = b.distinguisher; address = x } in v) address
 
+-- a text writes one peer
 pub key_one : (text : List ℕ) (a b : KeyValue) → IsKeyText text a → IsKeyText text b → a ≡ b
 key_one text a b p q =
     let (front, rest, cut) = first_cut text p.kind (p.distinguisher ++ (dash ∷ p.address)) p.spelled in
@@ -78,13 +70,8 @@ view_found OutPre = refl
 view_found OutPost = refl
 view_found Loc = refl
 
+-- a text writes one view
 pub view_one : (text : List ℕ) (a b : View) → IsViewText text a → IsViewText text b → a ≡ b
 view_one text a b p q =
     let same : Some a ≡ Some b = sym (view_found a) ∙ ap (λ (l : List ℕ). view_at l) (sym p ∙ q) ∙ view_found b in
     cc
-
-pub family_one : (text : List ℕ) (a b : Family) → IsFamilyText text a → IsFamilyText text b → a ≡ b
-family_one text V4 V4 p q = refl
-family_one text V6 V6 p q = refl
-family_one text V4 V6 p q = absurd (omega (arith, ap (λ (l : List ℕ). get_or l 0 0) (sym p ∙ q)))
-family_one text V6 V4 p q = absurd (omega (arith, ap (λ (l : List ℕ). get_or l 0 0) (sym p ∙ q)))

@@ -1,6 +1,6 @@
 use Rattle.std.proofs.Common.{length}
 use Rattle.path_attrs.proofs.Keeping.{Keeps}
-use Rattle.path_attrs.proofs.keep.read_others.Given as goal
+use Rattle.path_attrs.proofs.keep.make_others.Given as goal
 
 abbrev pub invariant-loop-part : goal.invariant-loop-part
 invariant-loop-part l = Keeps l.field l.others l.rest

@@ -1,6 +1,6 @@
 use Rattle.std.proofs.Common.{arith, refl}
 use Rattle.path_attrs.proofs.Judging.{aggregator_form, other_form}
-use Rattle.path_attrs.proofs.judge.has_form.Goals as goal
+use Rattle.path_attrs.proofs.found.has_form.Goals as goal
 
 pub returns-in-2 : goal.returns-in-2
 returns-in-2 c = rw c.in-2.is c.is_path.ensures

@@ -1,6 +1,6 @@
 use Rattle.std.proofs.Common.{arith}
 use Rattle.path_attrs.proofs.Keeping.{numbers_more, numbers_end}
-use Rattle.path_attrs.proofs.communities.numbers_of.Goals as goal
+use Rattle.path_attrs.proofs.values.numbers_of.Goals as goal
 
 pub loop-rest-preserved : goal.loop-rest-preserved
 loop-rest-preserved c = record {
@@ -8,5 +8,5 @@ loop-rest-preserved c = record {
   whole = omega (arith, c.split_at.ensures.back_len, c.loop-rest.invariant.whole);
 }
 
-pub returns-clause-ok : goal.returns-clause-ok
-returns-clause-ok c = numbers_end _ _ _ c.loop-rest.invariant.read c.loop-rest.invariant.whole c.loop-rest-test.false
+pub returns : goal.returns
+returns c = numbers_end _ _ _ c.loop-rest.invariant.read c.loop-rest.invariant.whole c.loop-rest-test.false

@@ -1,0 +1,63 @@
+-- The attributes that are made of what judging found.
+use Rattle.std.proofs.Common.{◌≡◌, ◌≤◌, ◌+◌, ℕ, List, length, Option, sym, subst, ◌∙◌, arith}
+use Rattle.std.specs.Prelude.{IfSome}
+use Rattle.std.specs.Option.{option_map}
+use Rattle.std.proofs.lemmas.Option.{IfSome_then}
+use Rattle.bmp_specs.specs.declared.wire.Width.{Width}
+use Rattle.bmp_specs.specs.AsPath.{ArePath, as_width}
+use Rattle.bmp_specs.specs.Attribute.{IsAttribute}
+use Rattle.bmp_specs.specs.Attributes.{AreAttributes, AreCommunities, IsAggregator, IsAtomic, Optional, aggregator, as4_aggregator, as4_path, as_path, atomic_aggregate, communities, local_pref, mp_reach_nlri, mp_unreach_nlri, multi_exit_disc, next_hop, origin, value_of}
+use Rattle.bmp_specs.specs.MpNlri.{IsMpReach, IsMpUnreach}
+use Rattle.bmp_specs.specs.Number.{IsNumber}
+use Rattle.bmp_specs.specs.Parts.{AreParts}
+use Rattle.bmp_specs.specs.Sequence.{IsField}
+use Rattle.bmp_specs.specs.Values.{AttrsReadValue, MpValue, OtherValue}
+use Rattle.path_attrs.specs.AsInfo.{StatesAs}
+use Rattle.path_attrs.specs.Field.{value_at}
+use Rattle.path_attrs.specs.Judged.{FitsType, IsJudged, mp_value}
+use Rattle.path_attrs.specs.Kept.{kept_of}
+use Rattle.path_attrs.specs.declared.judge.Judged.{Judged}
+use Rattle.path_attrs.proofs.Judging.{fits_at, same_value}
+
+module _ (width : Width) (field : List ℕ) (judged : Judged) (j : IsJudged width field judged) where
+  -- the value that was found at a type has the form of the type
+  pub form_found : (code : ℕ) → code ≤ as4_aggregator → IfSome (value_at judged.values code) (λ value. FitsType width code value)
+  form_found code le = subst (λ (o : Option (List ℕ)). IfSome o (λ value. FitsType width code value)) (sym (j.forms.values_are code le)) (fits_at width code j.forms.parts j.forms.forms)
+
+  pub aggregator_long : IfSome (value_at judged.values aggregator) (λ value. length value ≡ as_width width + 4)
+  aggregator_long = IfSome_then (value_at judged.values aggregator) (form_found aggregator (omega arith)) (λ value q. q.1.len)
+
+  -- they are the attributes of the field, where each is made of the value at its type
+  pub made_are : (read : AttrsReadValue) → Optional (IsNumber 1) (value_at judged.values origin) read.attrs.origin → Optional (IsField 4) (value_at judged.values next_hop) read.attrs.hop
+      → Optional (IsNumber 4) (value_at judged.values multi_exit_disc) read.attrs.med → Optional (IsNumber 4) (value_at judged.values local_pref) read.attrs.pref → IsAtomic (value_at judged.values atomic_aggregate) read.attrs.atomic
+      → AreCommunities (value_at judged.values communities) read.attrs.communities → StatesAs width (value_at judged.values) read.attrs.aggregator read.attrs.path
+      → ((parts : List OtherValue) → AreParts IsAttribute field parts → read.attrs.others ≡ kept_of parts)
+      → read.reach ≡ option_map mp_value judged.reach → read.unreach ≡ option_map mp_value judged.unreach → read.count ≡ judged.count → AreAttributes width field read
+  made_are read is_origin is_hop is_med is_pref is_atomic are_communities s others reach unreach count =
+      let h = j.forms in
+      let at : (code : ℕ) → code ≤ as4_aggregator → value_at judged.values code ≡ value_of code h.parts = h.values_are in
+      record {
+        parts = h.parts;
+        are = h.are;
+        distinct = h.distinct;
+        origin_is = subst (λ (o : Option (List ℕ)). Optional (IsNumber 1) o read.attrs.origin) (at origin (omega arith)) is_origin;
+        hop_is = subst (λ (o : Option (List ℕ)). Optional (IsField 4) o read.attrs.hop) (at next_hop (omega arith)) is_hop;
+        med_is = subst (λ (o : Option (List ℕ)). Optional (IsNumber 4) o read.attrs.med) (at multi_exit_disc (omega arith)) is_med;
+        pref_is = subst (λ (o : Option (List ℕ)). Optional (IsNumber 4) o read.attrs.pref) (at local_pref (omega arith)) is_pref;
+        atomic_is = subst (λ (o : Option (List ℕ)). IsAtomic o read.attrs.atomic) (at atomic_aggregate (omega arith)) is_atomic;
+        communities_are = subst (λ (o : Option (List ℕ)). AreCommunities o read.attrs.communities) (at communities (omega arith)) are_communities;
+        reach_is =
+            subst (λ (m : Option MpValue). Optional IsMpReach (value_of mp_reach_nlri h.parts) m) (j.reach_is ∙ sym reach)
+            (subst (λ (o : Option (List ℕ)). Optional IsMpReach o j.read.reach) (same_value width field judged.count (value_at judged.values) h j.read j.are mp_reach_nlri (omega arith) ∙ at mp_reach_nlri (omega arith)) j.are.reach_is);
+        unreach_is =
+            subst (λ (m : Option MpValue). Optional IsMpUnreach (value_of mp_unreach_nlri h.parts) m) (j.unreach_is ∙ sym unreach)
+            (subst (λ (o : Option (List ℕ)). Optional IsMpUnreach o j.read.unreach) (same_value width field judged.count (value_at judged.values) h j.read j.are mp_unreach_nlri (omega arith) ∙ at mp_unreach_nlri (omega arith)) j.are.unreach_is);
+        stated = s.stated;
+        as_path_is = subst (λ (o : Option (List ℕ)). Optional (ArePath width) o s.stated.as_path) (at as_path (omega arith)) s.as_path_is;
+        aggregator_is = subst (λ (o : Option (List ℕ)). Optional (IsAggregator width) o s.stated.aggregator) (at aggregator (omega arith)) s.aggregator_is;
+        as4_path_is = s.as4_path_is ∙ at as4_path (omega arith);
+        as4_aggregator_is = s.as4_aggregator_is ∙ at as4_aggregator (omega arith);
+        chosen = s.chosen;
+        others_are = others h.parts h.are;
+        count_is = count ∙ h.count_is;
+      }
