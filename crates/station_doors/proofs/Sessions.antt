@@ -47,14 +47,16 @@ given_then xs i s d bytes last h e =
     ∙ sym (ap (λ (l : List Given). given_more l bytes last) (given_at xs i d h) ∙ given_more_last (map given_of (take i xs)) (given_of (get_or xs i d)) bytes last)
 
 -- the next connection is opened
-pub opens_next : (xs : List Session) (n : ℕ) (s d : Session) (fails : List ℕ) (taken faults : ℕ) (refused : Bool) → n < length xs → n + 1 < 2 ^ 64 → s ≡ record (get_or xs n d) { count = 0; last = Gave }
-    → Opens (shows_of xs n fails taken refused faults) (shows_of (set xs n s) (n + 1) fails 0 false faults) (Ok true)
-opens_next xs n s d fails taken faults refused h fits e = record {
+pub opens_next : (xs : List Session) (n : ℕ) (s d : Session) (fails : List ℕ) (taken faults closed : ℕ) (refused is_open : Bool) → n < length xs → n + 1 < 2 ^ 64 → s ≡ record (get_or xs n d) { count = 0; last = Gave }
+    → Opens (shows_of xs n closed is_open fails taken refused faults) (shows_of (set xs n s) (n + 1) closed true fails 0 false faults) (Ok true)
+opens_next xs n s d fails taken faults closed refused is_open h fits e = record {
   plan = ap (λ (l : List (List ℕ)). Some (record { connections = l; fails = fails })) (map-set_same bytes_of xs n s d (ap bytes_of e));
   coming = ap (λ (l : List Session). map bytes_of l) (drop_more xs n d h) ∙ ap (λ (l : List ℕ). l ∷ map bytes_of (drop (n + 1) xs)) (sym (rest_set xs n s h ∙ ap (λ (t : Session). drop t.count t.bytes) e))
       ∙ ap (λ (l : List (List ℕ)). rest_of (take (n + 1) (set xs n s)) ∷ l) (sym (coming_set xs n s));
   given = ap (λ (l : List Given). Some l) (given_set xs n s h ∙ ap (λ (g : Given). map given_of (take n xs) ++ g ∷ []) (ap given_of e));
   opened = omega arith;
+  closed = refl;
+  is_open = refl;
   taken = refl;
   refused = refl;
   cause = record { later = omega arith; failed = tt; fine = refl };
@@ -63,14 +65,16 @@ opens_next xs n s d fails taken faults refused h fits e = record {
 }
 
 -- a read gave bytes of the present connection
-pub reads_some : (xs : List Session) (i n taken faults count : ℕ) (s d : Session) (fails buf : List ℕ) (refused : Bool) → i < length xs → n ≡ i + 1 → IsGiven (get_or xs i d) s count buf
-    → Reads (shows_of xs n fails taken refused faults) (shows_of (set xs i s) n fails (taken + count) refused faults) (Ok count) buf
-reads_some xs i n taken faults count s d fails buf refused h e g = rw e (record {
+pub reads_some : (xs : List Session) (i n taken faults count closed : ℕ) (s d : Session) (fails buf : List ℕ) (refused is_open : Bool) → i < length xs → n ≡ i + 1 → IsGiven (get_or xs i d) s count buf
+    → Reads (shows_of xs n closed is_open fails taken refused faults) (shows_of (set xs i s) n closed is_open fails (taken + count) refused faults) (Ok count) buf
+reads_some xs i n taken faults count closed s d fails buf refused is_open h e g = rw e (record {
   plan = ap (λ (l : List (List ℕ)). Some (record { connections = l; fails = fails })) (map-set_same bytes_of xs i s d g.bytes);
   coming = ap (λ (l : List (List ℕ)). Some l) (coming_set xs i s);
   rest = (rest_at xs i d h ∙ g.rest ∙ ap (λ (l : List ℕ). take count buf ++ l) (sym left), λ z r. left ∙ g.end z);
   given = ap (λ (l : List Given). Some l) (given_then xs i s d (take count buf) (read_of count) h shows);
   opened = refl;
+  closed = refl;
+  is_open = refl;
   taken = refl;
   refused = refl;
   cause = record { later = omega arith; failed = tt; fine = refl };
@@ -85,14 +89,16 @@ reads_some xs i n taken faults count s d fails buf refused h e g = rw e (record 
     shows = ap (λ (l : List ℕ). record { bytes = l; last = last_of s.last }) (ap (λ (l : List ℕ). take s.count l) g.bytes ∙ g.given) ∙ ap (λ (l : LastRead). record { bytes = take (get_or xs i d).count (get_or xs i d).bytes ++ take count buf; last = l }) g.last
 
 -- a read failed in the present connection
-pub reads_fault : (xs : List Session) (i n taken faults now : ℕ) (s d : Session) (fails buf : List ℕ) (refused : Bool) (f : Failed) → i < length xs → n ≡ i + 1 → s ≡ record (get_or xs i d) { last = Fault } → now ≡ min (faults + 1) (2 ^ 64 - 1) → faults < 2 ^ 64
-    → Reads (shows_of xs n fails taken refused faults) (shows_of (set xs i s) n fails taken refused now) (Err f) buf
-reads_fault xs i n taken faults now s d fails buf refused f h e g rose fits = rw e (record {
+pub reads_fault : (xs : List Session) (i n taken faults now closed : ℕ) (s d : Session) (fails buf : List ℕ) (refused is_open : Bool) (f : Failed) → i < length xs → n ≡ i + 1 → s ≡ record (get_or xs i d) { last = Fault } → now ≡ min (faults + 1) (2 ^ 64 - 1) → faults < 2 ^ 64
+    → Reads (shows_of xs n closed is_open fails taken refused faults) (shows_of (set xs i s) n closed is_open fails taken refused now) (Err f) buf
+reads_fault xs i n taken faults now closed s d fails buf refused is_open f h e g rose fits = rw e (record {
   plan = ap (λ (l : List (List ℕ)). Some (record { connections = l; fails = fails })) (map-set_same bytes_of xs i s d (ap bytes_of g));
   coming = ap (λ (l : List (List ℕ)). Some l) (coming_set xs i s);
   rest = rest_set xs i s h ∙ ap (λ (t : Session). drop t.count t.bytes) g ∙ sym (rest_at xs i d h);
   given = ap (λ (l : List Given). Some l) (given_then xs i s d [] failed h (ap given_of g ∙ ap (λ (l : List ℕ). record { bytes = l; last = failed }) (sym (append-nil (take (get_or xs i d).count (get_or xs i d).bytes)))));
   opened = refl;
+  closed = refl;
+  is_open = refl;
   taken = refl;
   refused = refl;
   cause = record { later = omega (arith, rose, fits); failed = omega (arith, rose); fine = tt };

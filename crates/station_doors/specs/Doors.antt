@@ -12,7 +12,7 @@ one_more n = min (n + 1) (2 ^ 64 - 1)
 
 -- what a port with this plan shows that has answered no call yet
 abbrev pub untouched : Plan → Aside
-untouched plan = record { plan = Some plan; coming = Some plan.connections; rest = Some []; given = Some []; opened = 0; taken = 0; refused = false; open_faults = 0; read_faults = 0; laid = [] }
+untouched plan = record { plan = Some plan; coming = Some plan.connections; rest = Some []; given = Some []; opened = 0; closed = 0; is_open = false; taken = 0; refused = false; open_faults = 0; read_faults = 0; laid = [] }
 
 -- The connections to come, and what the present one has left, where they are told: the next connection was opened, where
 -- true, and there was none, where false. A failed call leaves what is to come.
@@ -41,6 +41,12 @@ taken_after n (Ok true) = 0
 taken_after n (Ok false) = n
 taken_after n (Err e) = n
 
+-- whether a connection is open, where one was before or not
+abbrev pub open_after : Bool → Result Bool Failed → Bool
+open_after before (Ok true) = true
+open_after before (Ok false) = before
+open_after before (Err e) = before
+
 abbrev pub is_refusal : Result Bool Failed → Bool
 is_refusal (Ok true) = false
 is_refusal (Ok false) = true
@@ -52,6 +58,8 @@ pub record Opens (old new : Aside) (result : Result Bool Failed) : Type 0 where
   pub coming : OpensNext old.coming new.coming new.rest result
   pub given : GivesNext old.given new.given result
   pub opened : new.opened ≡ opened_after old.opened result
+  pub closed : new.closed ≡ old.closed
+  pub is_open : new.is_open ≡ open_after old.is_open result
   pub taken : new.taken ≡ taken_after old.taken result
   pub refused : new.refused ≡ is_refusal result
   pub cause : HasCause old.open_faults new.open_faults result
@@ -85,15 +93,18 @@ pub record Reads (old new : Aside) (result : Result ℕ Failed) (buf : List ℕ)
   pub rest : ReadConsumes old.rest new.rest result buf
   pub given : GivesBytes old.given new.given result buf
   pub opened : new.opened ≡ old.opened
+  pub closed : new.closed ≡ old.closed
+  pub is_open : new.is_open ≡ old.is_open
   pub taken : new.taken ≡ taken_by old.taken result
   pub refused : new.refused ≡ old.refused
   pub cause : HasCause old.read_faults new.read_faults result
   pub calm : new.open_faults ≡ old.open_faults
   pub laid : new.laid ≡ old.laid
 
--- what closing the present connection does: what it has left is no more of interest, the rest stays
+-- what closing the present connection does: it is counted, what the connection has left is no more of interest, and all else
+-- stays
 pub record Closes (old new : Aside) : Type 0 where
-  pub same : new ≡ record old { rest = new.rest }
+  pub same : new ≡ record old { rest = new.rest; closed = one_more old.closed; is_open = false }
 
 -- how many bytes are asked for, where so many were taken of the connection
 abbrev pub read_size : ℕ → ℕ

@@ -24,14 +24,16 @@ rest_of [] = []
 rest_of (s ∷ []) = drop s.count s.bytes
 rest_of (s ∷ t ∷ ts) = rest_of (t ∷ ts)
 
--- what it shows with these connections, of which so many were opened
-abbrev pub shows_of : List Session → ℕ → List ℕ → ℕ → Bool → ℕ → Aside
-shows_of sessions opened fails taken refused faults = record {
+-- what it shows with these connections, of which so many were opened and so many closed
+abbrev pub shows_of : List Session → ℕ → ℕ → Bool → List ℕ → ℕ → Bool → ℕ → Aside
+shows_of sessions opened closed is_open fails taken refused faults = record {
   plan = Some (record { connections = map bytes_of sessions; fails = fails });
   coming = Some (map bytes_of (drop opened sessions));
   rest = Some (rest_of (take opened sessions));
   given = Some (map given_of (take opened sessions));
   opened = opened;
+  closed = closed;
+  is_open = is_open;
   taken = taken;
   refused = refused;
   open_faults = 0;

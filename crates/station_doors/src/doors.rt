@@ -1,4 +1,4 @@
-ghost use Rattle.std.specs.Prelude.{◌≡◌, ℕ, ◌<◌, Option, None, [], IfSome, OnErr, length};
+ghost use Rattle.std.specs.Prelude.{◌≡◌, ℕ, ◌<◌, Option, None, [], IsTrue, IfSome, OnErr, length};
 ghost use Rattle.std.specs.Io.{ReadsAtMost};
 ghost use Rattle.wire_io.specs.Aside.{Aside};
 ghost use Rattle.wire_io.specs.Faults.{HasCause};
@@ -21,17 +21,19 @@ pub trait Port {
         ensures planned { IfSome (aside self.old).plan (λ plan. OnErr result (plan.fails ≡ [] → ⊥)) }
         ensures calls { calls self.new ≡ calls self.old };
 
-    /// Gives the next bytes of the present connection, at least one, or none at its end. It is asked for
-    /// 65,536 bytes, or for what is left up to 2^46 bytes of one connection.
+    /// Gives the next bytes of the present connection, which is open: at least one, or none at its end. It
+    /// is asked for 65,536 bytes, or for what is left up to 2^46 bytes of one connection.
     fn read(&mut self, buf: &mut [u8]) -> Result<usize, Failed>
         requires some { 0 < length buf.old }
         requires size { length buf.old ≡ read_size (aside self.old).taken }
+        requires is_open { IsTrue (aside self.old).is_open }
         ensures bound { ReadsAtMost result buf.new }
         ensures reads { Reads (aside self.old) (aside self.new) result buf.new }
         ensures planned { AsPlanned (aside self.old).plan (calls self.old) (calls self.new) result };
 
-    /// Closes the present connection.
+    /// Closes the present connection, which is open. Nothing is read of it after that.
     fn close(&mut self)
+        requires { IsTrue (aside self.old).is_open }
         ensures closes { Closes (aside self.old) (aside self.new) }
         ensures calls { calls self.new ≡ calls self.old };
 }

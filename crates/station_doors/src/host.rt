@@ -34,13 +34,15 @@ impl<R: Read + Drop> HostYard<R> {
 pub struct HostPort<R> {
     input: R,
     opened: u64,
+    closed: u64,
+    is_open: bool,
     taken: u64,
     refused: bool,
     faults: u64,
 }
 
 impl<R: Read + Drop> Port for HostPort<R> {
-    ghost aside = { λ p. record { plan = None; coming = None; rest = R.remaining p.input; given = None; opened = p.opened; taken = p.taken; refused = p.refused; open_faults = 0; read_faults = p.faults; laid = [] } };
+    ghost aside = { λ p. record { plan = None; coming = None; rest = R.remaining p.input; given = None; opened = p.opened; closed = p.closed; is_open = p.is_open; taken = p.taken; refused = p.refused; open_faults = 0; read_faults = p.faults; laid = [] } };
 
     fn next_connection(&mut self) -> Result<bool, Failed> {
         if self.opened > 0 {
@@ -48,6 +50,7 @@ impl<R: Read + Drop> Port for HostPort<R> {
             return Ok(false);
         }
         self.opened = 1;
+        self.is_open = true;
         self.taken = 0;
         self.refused = false;
         Ok(true)
@@ -66,7 +69,10 @@ impl<R: Read + Drop> Port for HostPort<R> {
         }
     }
 
-    fn close(&mut self) {}
+    fn close(&mut self) {
+        self.closed = self.closed.saturating_add(1);
+        self.is_open = false;
+    }
 }
 
 impl<R: Read + Drop> Yard for HostYard<R> {
@@ -88,6 +94,8 @@ impl<R: Read + Drop> Yard for HostYard<R> {
             Some(input) => Ok(HostPort {
                 input,
                 opened: 0,
+                closed: 0,
+                is_open: false,
                 taken: 0,
                 refused: false,
                 faults: 0,

@@ -1,4 +1,4 @@
-ghost use Rattle.std.specs.Prelude.{◌≡◌, ℕ, ◌≤◌, ◌<◌, ◌+◌, ◌-◌, ◌++◌, [], min, map, drop, take, length, slice_get, unwrap_or, All, IfOk};
+ghost use Rattle.std.specs.Prelude.{◌≡◌, ℕ, ◌≤◌, ◌<◌, ◌+◌, ◌-◌, ◌++◌, [], min, map, drop, take, length, slice_get, unwrap_or, All, IfOk, IsTrue};
 ghost use Rattle.std.specs.Io.{ReadsAtMost};
 ghost use Rattle.bmp_specs.specs.Life.{gave};
 ghost use Rattle.wire_io.specs.Aside.{Plan};
@@ -35,6 +35,8 @@ struct Session {
 pub struct MemPort {
     sessions: Vec<Session>,
     opened: usize,
+    closed: u64,
+    is_open: bool,
     taken: u64,
     refused: bool,
     pieces: Vec<u32>,
@@ -44,14 +46,14 @@ pub struct MemPort {
 }
 
 impl Model for MemPort {
-    ghost use Rattle.std.specs.Prelude.{◌≤◌, ◌<◌, vec_len, All};
+    ghost use Rattle.std.specs.Prelude.{◌≤◌, ◌<◌, vec_len, All, IsTrue};
     ghost use Rattle.station_doors.specs.MemPort.{MemPortValue, shows_of};
 
     ghost Value = { MemPortValue };
 
-    ghost view = { λ p. record { shows = shows_of p.sessions.items p.opened p.fails.items p.taken p.refused p.faults; pieces = p.pieces.items; reads = p.reads } };
+    ghost view = { λ p. record { shows = shows_of p.sessions.items p.opened p.closed p.is_open p.fails.items p.taken p.refused p.faults; pieces = p.pieces.items; reads = p.reads } };
 
-    ghost invariant = { λ p. (p.opened ≤ vec_len p.sessions) × All (λ n. 0 < n) p.pieces.items };
+    ghost invariant = { λ p. (p.opened ≤ vec_len p.sessions) × (IsTrue p.is_open → 0 < p.opened) × All (λ n. 0 < n) p.pieces.items };
 }
 
 // The connections, of which none was opened.
@@ -86,6 +88,8 @@ impl MemPort {
         Ok(MemPort {
             sessions,
             opened: 0,
+            closed: 0,
+            is_open: false,
             taken: 0,
             refused: false,
             pieces,
@@ -167,6 +171,7 @@ impl Port for MemPort {
         }
         self.sessions[self.opened].begin();
         self.opened += 1;
+        self.is_open = true;
         self.taken = 0;
         self.refused = false;
         Ok(true)
@@ -175,6 +180,7 @@ impl Port for MemPort {
     fn read(&mut self, buf: &mut [u8]) -> Result<usize, Failed>
         requires some { 0 < length buf.old }
         requires size { length buf.old ≡ read_size self.old.shows.taken }
+        requires is_open { IsTrue self.old.shows.is_open }
         ensures bound { ReadsAtMost result buf.new }
         ensures reads { Reads self.old.shows self.new.shows result buf.new }
         ensures planned { AsPlanned self.old.shows.plan self.old.reads self.new.reads result }
@@ -185,14 +191,8 @@ impl Port for MemPort {
         self.reads = call.saturating_add(1);
         if self.fails.contains(&call) {
             self.faults = self.faults.saturating_add(1);
-            if self.opened == 0 {
-                return Err(Failed);
-            }
             self.sessions[self.opened - 1].last = Last::Fault;
             return Err(Failed);
-        }
-        if self.opened == 0 {
-            return Ok(0);
         }
         let most = piece_at(self.pieces.as_slice(), call, buf.len());
         let session = &mut self.sessions[self.opened - 1];
@@ -201,5 +201,8 @@ impl Port for MemPort {
         Ok(count)
     }
 
-    fn close(&mut self) {}
+    fn close(&mut self) {
+        self.closed = self.closed.saturating_add(1);
+        self.is_open = false;
+    }
 }

@@ -27,6 +27,10 @@ pub record Aside : Type 0 where
   pub given : Option (List Given)
   -- how many connections were given
   pub opened : ℕ
+  -- how many connections were closed
+  pub closed : ℕ
+  -- whether the present connection is open: it was opened, and not closed since
+  pub is_open : Bool
   -- how many bytes the present connection gave
   pub taken : ℕ
   -- whether it was answered that there is no further connection
@@ -40,7 +44,7 @@ pub record Aside : Type 0 where
 
 -- of an object that gives no connections
 abbrev pub nothing_aside : Aside
-nothing_aside = record { plan = None; coming = None; rest = None; given = None; opened = 0; taken = 0; refused = false; open_faults = 0; read_faults = 0; laid = [] }
+nothing_aside = record { plan = None; coming = None; rest = None; given = None; opened = 0; closed = 0; is_open = false; taken = 0; refused = false; open_faults = 0; read_faults = 0; laid = [] }
 
 -- the same, with a buffer over it
 abbrev pub laid_over : Option (List ℕ) → Aside → Aside
