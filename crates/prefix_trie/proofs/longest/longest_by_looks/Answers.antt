@@ -2,7 +2,7 @@ use Rattle.std.proofs.Common.{◌≡◌, ◌<◌, ap, sym, ◌∙◌, subst, ari
 use Rattle.bmp_specs.specs.Prefix.{width_of}
 use Rattle.prefix_trie.specs.Looking.{IsSearching}
 use Rattle.prefix_trie.proofs.Search.{search_starts, search_fails, search_finds, search_nears, search_goes_on}
-use Rattle.prefix_trie.proofs.Nearest.{width_small}
+use Rattle.bmp_specs.proofs.PrefixOrder.{width_small}
 use Rattle.prefix_trie.proofs.longest.longest_by_looks.Goals as goal
 
 pub loop-place-init : goal.loop-place-init
