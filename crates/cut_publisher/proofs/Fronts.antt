@@ -1,5 +1,5 @@
 -- In a history without the mark the revision is the length: a revision names one front of it.
-use Rattle.std.proofs.Common.{◌≡◌, ℕ, ◌+◌, ◌≤◌, List, [], ◌∷◌, ◌++◌, length, take, drop, ap, sym, ◌∙◌, subst, arith}
+use Rattle.std.proofs.Common.{◌≡◌, ℕ, ◌+◌, ◌≤◌, List, [], ◌∷◌, ◌++◌, length, get_or, take, drop, refl, ap, sym, ◌∙◌, subst, arith}
 use Rattle.std.proofs.lemmas.List.{take-append-drop, length-take-le}
 use Rattle.std.proofs.Math.Seq.{take-append_seam}
 use Rattle.cut_publisher.specs.declared.history.Event.{Event}
@@ -37,3 +37,14 @@ module _ {E : Type 0} where
   -- two fronts of one history that have no mark and the same revision are one
   pub front_same : (x y h : List (Event E)) → Begins x h → Begins y h → IsUnmarked x → IsUnmarked y → revision x ≡ revision y → x ≡ y
   front_same x y h bx by' ux uy e = front_is x h bx ux ∙ ap (λ (n : ℕ). take n h) e ∙ sym (front_is y h by' uy)
+
+  -- what has no mark begins what was before the mark, where it begins the whole
+  pub begins_before : (x before : List (Event E)) → Begins x (before ++ Finish ∷ []) → IsUnmarked x → Begins x before
+  begins_before [] before b u = record { rest = before; is = refl }
+  begins_before (Of k e ∷ x) [] b u = absurd (cc (ap (λ (l : List (Event E)). get_or l 0 Finish) b.is))
+  begins_before (Of k e ∷ x) (y ∷ before) b u =
+      let head : Of k e ≡ y = ap (λ (l : List (Event E)). get_or l 0 Finish) b.is in
+      let tail : x ++ b.rest ≡ before ++ Finish ∷ [] = ap (λ (l : List (Event E)). drop 1 l) b.is in
+      let front = begins_before x before (record { rest = b.rest; is = tail }) u in
+      record { rest = front.rest; is = λ i. head i ∷ front.is i }
+  begins_before (Finish ∷ x) before b u = absurd u
