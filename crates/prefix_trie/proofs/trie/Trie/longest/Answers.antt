@@ -2,10 +2,10 @@ use Rattle.std.proofs.Common.{◌≡◌, ◌<◌, ap, sym, ◌∙◌, subst, ari
 use Rattle.std.specs.List.{All}
 use Rattle.std.specs.Map.{keys_of}
 use Rattle.bmp_specs.specs.Prefix.{width_of}
+use Rattle.bmp_specs.proofs.Widths.{width_within}
 use Rattle.prefix_trie.specs.Looking.{IsSearching}
 use Rattle.prefix_trie.specs.Table.{TableValue, IsOfFamily}
 use Rattle.prefix_trie.proofs.Search.{search_starts, search_fails, search_finds, search_nears, search_goes_on}
-use Rattle.prefix_trie.proofs.Nearest.{width_small}
 use Rattle.prefix_trie.proofs.trie.Trie.longest.Goals as goal
 
 pub loop-place-init : goal.loop-place-init
@@ -21,7 +21,7 @@ returns-in_default-look-clause-longest g c =
     search_fails c.args.addr.now c.octets-octets.ensures.valid c.args.self.now.family c.requires c.args.self.now.pairs h.one_family c.loop-place.bits c.loop-place.invariant.0 c.in-Some.place c.in-Some.ensures.value h.last
 
 pub returns-in_default-look-clause-cost : goal.returns-in_default-look-clause-cost
-returns-in_default-look-clause-cost g c = omega (arith, c.in_default-look.ensures.step, c.loop-place.invariant.1, width_small c.args.addr.now.family)
+returns-in_default-look-clause-cost g c = omega (arith, c.in_default-look.ensures.step, c.loop-place.invariant.1, width_within c.args.addr.now.family)
 
 pub returns-then-bits-shared-clause-longest : goal.returns-then-bits-shared-clause-longest
 returns-then-bits-shared-clause-longest g c =
@@ -30,7 +30,7 @@ returns-then-bits-shared-clause-longest g c =
     search_finds c.args.addr.now c.octets-octets.ensures.valid c.args.self.now.family c.requires c.args.self.now.pairs h.one_family c.loop-place.bits c.loop-place.invariant.0 c.in-Some.place c.in-Some.ensures.value _ h.last c.shared_bits-shared.result agreed (omega (arith, c.bits.ensures.same, c.if-bits-shared.true))
 
 pub returns-then-bits-shared-clause-cost : goal.returns-then-bits-shared-clause-cost
-returns-then-bits-shared-clause-cost g c = omega (arith, c.in-Some-look.ensures.step, c.loop-place.invariant.1, width_small c.args.addr.now.family)
+returns-then-bits-shared-clause-cost g c = omega (arith, c.in-Some-look.ensures.step, c.loop-place.invariant.1, width_within c.args.addr.now.family)
 
 pub loop-place-smaller : goal.loop-place-smaller
 loop-place-smaller g c =
