@@ -15,10 +15,6 @@ use Rattle.bmp_specs.specs.Prefix.{first_bits, width_of}
 use Rattle.bmp_specs.specs.Values.{AddressValue, PrefixValue}
 use Rattle.bmp_specs.proofs.FirstBits.{IsAtMost, first_up, first_below, first_fewer, at_most_both, at_most_from, at_most_back, at_most_cases}
 
-pub width_small : (family : Family) → width_of family ≤ 128
-width_small V4 = omega arith
-width_small V6 = omega arith
-
 one_family : (a b : Family) (o : Ordering) → a ≡ b → ordering_then (family_cmp a b) o ≡ o
 one_family V4 V4 o e = refl
 one_family V6 V6 o e = refl

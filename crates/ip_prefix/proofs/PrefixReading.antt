@@ -16,6 +16,7 @@ use Rattle.bmp_specs.specs.NumberText.{IsNumberText}
 use Rattle.bmp_specs.specs.Prefix.{width_of}
 use Rattle.bmp_specs.specs.PrefixText.{IsPrefixText}
 use Rattle.bmp_specs.specs.Values.{AddressValue, PrefixValue}
+use Rattle.bmp_specs.proofs.Widths.{width_within}
 use Rattle.ip_prefix.proofs.V4Text.{Lacks, v4_to, v4_has_dot}
 use Rattle.ip_prefix.proofs.V6Text.{v6_lacks}
 use Rattle.ip_prefix.proofs.AddressReading.{slash_lacks, no_dot}
@@ -94,10 +95,6 @@ no_number text slash found none p is = none is.bits (subst (λ (l : List ℕ). I
 
 same_bits : (text : List ℕ) (slash bits : ℕ) → Some slash ≡ position (λ b. b == 47) text → IsNumberText (after text slash) bits → (p : PrefixValue) (is : IsPrefixText text p) → bits ≡ is.bits
 same_bits text slash bits found number p is = same_number is.back bits is.bits (subst (λ (l : List ℕ). IsNumberText l bits) (cut_at text slash p is found).back number) is.is_number
-
-pub width_within : (family : Family) → width_of family ≤ 128
-width_within V4 = omega arith
-width_within V6 = omega arith
 
 pub too_many : (text : List ℕ) (slash bits : ℕ) → Some slash ≡ position (λ b. b == 47) text → IsNumberText (take (length text - (slash + 1)) (drop (slash + 1) text)) bits → 128 < bits → (p : PrefixValue) → IsPrefixText text p → ⊥
 too_many text slash bits found number over p is = omega (arith, over, same_bits text slash bits found number p is, is.within, width_within is.address.family)

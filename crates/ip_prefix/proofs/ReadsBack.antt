@@ -13,8 +13,8 @@ use Rattle.bmp_specs.specs.AddressText.{joined_groups, group_text, groups_text, 
 use Rattle.bmp_specs.specs.PrefixText.{prefix_text, IsPrefixText}
 use Rattle.bmp_specs.specs.Values.{AddressValue, PrefixValue}
 use Rattle.bmp_specs.specs.NumberText.{number_text}
+use Rattle.bmp_specs.proofs.Widths.{width_within}
 use Rattle.ip_prefix.proofs.Digits.{group_within}
-use Rattle.ip_prefix.proofs.PrefixReading.{width_within}
 use Rattle.ip_prefix.proofs.Runs.{and-true}
 
 abbrev AreBytes : List ℕ → Type 0

@@ -11,10 +11,11 @@ use Rattle.bmp_specs.specs.declared.wire.Family.TheVariants.{V4, V6}
 use Rattle.bmp_specs.specs.Address.{IsAddress, IsAddressPrefix, prefix_at}
 use Rattle.bmp_specs.specs.Containment.{HoldsAddress}
 use Rattle.bmp_specs.specs.Orders.{family_cmp, prefix_cmp}
-use Rattle.bmp_specs.specs.Prefix.{first_bits, width_of}
+use Rattle.bmp_specs.specs.Prefix.{first_bits}
 use Rattle.bmp_specs.specs.Values.{AddressValue, PrefixValue}
+use Rattle.bmp_specs.proofs.Widths.{width_within}
 use Rattle.ip_prefix.proofs.Kept.{length-first_bits, first_bits_below}
-use Rattle.bmp_specs.proofs.PrefixOrder.{width_small, octets_up_to, bits_up_to, octets_from, bits_from, up_to}
+use Rattle.bmp_specs.proofs.PrefixOrder.{octets_up_to, bits_up_to, octets_from, bits_from, up_to}
 use Rattle.prefix_trie.specs.Agreement.{AgreesFor}
 use Rattle.prefix_trie.specs.Table.{IsOfFamily}
 use Rattle.bmp_specs.proofs.FirstBits.{IsAtMost, first_few, first_up, first_below, first_fewer, at_most_both, at_most_from, at_most_back, at_most_cases}
@@ -61,7 +62,7 @@ module _ (a : AddressValue) (address : IsAddress a) (c : ℕ) where
         first_up q.bits p.address.octets (first_bits c a.octets) (of.exact.address.len ∙ sym place_long) of.exact.address.bytes (first_bits_below c a.octets address.bytes) at_most_place in
         let low' : IsAtMost (first_bits q.bits a.octets) (first_bits q.bits p.address.octets) = subst (λ (l : List ℕ). IsAtMost l (first_bits q.bits p.address.octets)) h.agree low in
         let high' : IsAtMost (first_bits q.bits p.address.octets) (first_bits q.bits a.octets) = subst (IsAtMost (first_bits q.bits p.address.octets)) (first_few q.bits c a.octets less) high in
-        agreed.most q.bits (omega (arith, in_family.exact.within, width_small q.address.family, of.exact.address.len)) (at_most_both _ _ high' low')
+        agreed.most q.bits (omega (arith, in_family.exact.within, width_within q.address.family, of.exact.address.len)) (at_most_both _ _ high' low')
 
     -- one that holds the address too is no longer
     pub holder_shorter : HoldsAddress p a → (q : PrefixValue) → IsOfFamily a.family q → HoldsAddress q a → is_lt (prefix_cmp p q) ≡ false → q.bits ≤ p.bits

@@ -2,7 +2,7 @@ use Rattle.std.proofs.Common.{◌≡◌, ◌<◌, ap, sym, ◌∙◌, subst, ari
 use Rattle.bmp_specs.specs.Prefix.{width_of}
 use Rattle.prefix_trie.specs.Looking.{IsSearching}
 use Rattle.prefix_trie.proofs.Search.{search_starts, search_fails, search_finds, search_nears, search_goes_on}
-use Rattle.bmp_specs.proofs.PrefixOrder.{width_small}
+use Rattle.bmp_specs.proofs.Widths.{width_within}
 use Rattle.prefix_trie.proofs.longest.longest_by_looks.Goals as goal
 
 pub loop-place-init : goal.loop-place-init
@@ -18,7 +18,7 @@ returns-in_default-last_up_to-clause-longest g c =
     search_fails c.args.addr.now c.octets-octets.ensures.valid c.args.looks.now.family c.requires c.args.looks.now.pairs h.one_family c.loop-place.bits c.loop-place.invariant.0 c.in-Some.place c.in-Some.ensures.value h.last
 
 pub returns-in_default-last_up_to-clause-cost : goal.returns-in_default-last_up_to-clause-cost
-returns-in_default-last_up_to-clause-cost g c = omega (arith, c.in_default-last_up_to.ensures.step, c.loop-place.invariant.1, width_small c.args.addr.now.family)
+returns-in_default-last_up_to-clause-cost g c = omega (arith, c.in_default-last_up_to.ensures.step, c.loop-place.invariant.1, width_within c.args.addr.now.family)
 
 pub returns-then-bits-shared-clause-longest : goal.returns-then-bits-shared-clause-longest
 returns-then-bits-shared-clause-longest g c =
@@ -27,7 +27,7 @@ returns-then-bits-shared-clause-longest g c =
     search_finds c.args.addr.now c.octets-octets.ensures.valid c.args.looks.now.family c.requires c.args.looks.now.pairs h.one_family c.loop-place.bits c.loop-place.invariant.0 c.in-Some.place c.in-Some.ensures.value _ h.last c.shared_bits-shared.result agreed (omega (arith, c.bits.ensures.same, c.if-bits-shared.true))
 
 pub returns-then-bits-shared-clause-cost : goal.returns-then-bits-shared-clause-cost
-returns-then-bits-shared-clause-cost g c = omega (arith, c.in-Some-last_up_to.ensures.step, c.loop-place.invariant.1, width_small c.args.addr.now.family)
+returns-then-bits-shared-clause-cost g c = omega (arith, c.in-Some-last_up_to.ensures.step, c.loop-place.invariant.1, width_within c.args.addr.now.family)
 
 pub loop-place-smaller : goal.loop-place-smaller
 loop-place-smaller g c =
