@@ -1,54 +1,16 @@
 -- How many bytes an item takes by its length octet, and how many items fill bytes.
-use Rattle.std.proofs.Common.{◌≡◌, ◌+◌, ◌<◌, ◌≤◌, ℕ, Bool, true, false, List, [], ◌∷◌, ◌++◌, length, take, drop, Option, Some, None, refl, sym, ap, subst, ◌∙◌, add-one, arith, get_or, zero, suc, take-append-drop, length-append, length-drop, length-take}
+use Rattle.std.proofs.Common.{◌≡◌, ◌+◌, ◌<◌, ◌≤◌, ℕ, Bool, true, false, List, [], ◌∷◌, ◌++◌, length, take, drop, Option, Some, None, refl, sym, ap, subst, arith, take-append-drop, length-append, length-drop}
 use Rattle.std.specs.Prelude.{IfNone}
 use Rattle.std.proofs.lemmas.List.{length-take-le}
 use Rattle.byteorder.specs.Endian.{big_number}
 use Rattle.bmp_specs.specs.declared.wire.Family.{Family}
 use Rattle.bmp_specs.specs.Nlri.{AreNlri, IsNlri}
-use Rattle.bmp_specs.specs.Prefix.{IsPrefix, StandsAtFront, bytes_for, prefix_of, width_of}
+use Rattle.bmp_specs.specs.Prefix.{StandsAtFront}
 use Rattle.bmp_specs.specs.Sequence.{HasFront}
 use Rattle.bmp_specs.specs.Values.{NlriValue, PrefixValue}
 use Rattle.bmp_specs.proofs.NlriCode.{nlri_code}
-use Rattle.bmp_specs.proofs.PartsRead.{AreParts-one, HasRead, HasRead-nil, HasRead-front, HasRead-none, HasRead-end}
+use Rattle.bmp_specs.proofs.PartsRead.{HasRead, HasRead-nil, HasRead-front, HasRead-none, HasRead-end}
 use Rattle.bgp_update.proofs.Reading.{bare_none, identified_found}
-
--- One prefix at the front.
-
--- so many bits, and as many bytes as hold them, are a prefix
-pub prefix_stands : (family : Family) (input : List ℕ) (bits size : ℕ) → 0 < length input → bits ≡ get_or input 0 0 → size ≡ bytes_for bits + 1 → bits ≤ width_of family → size ≤ length input
-    → (p : PrefixValue) × StandsAtFront family input p size
-prefix_stands family [] bits size some is long within room = absurd (omega (arith, some))
-prefix_stands family (b ∷ sent) bits size some is long within room =
-    let same : bytes_for b + 1 ≡ size = sym (long ∙ ap (λ (n : ℕ). bytes_for n + 1) is) in
-    subst (λ (n : ℕ). (p : PrefixValue) × StandsAtFront family (b ∷ sent) p n) same it
-  where
-    wide : b ≤ width_of family
-    wide = omega (arith, is, within)
-
-    enough : bytes_for b ≤ length sent
-    enough = omega (arith, is, long, room)
-
-    it : (p : PrefixValue) × StandsAtFront family (b ∷ sent) p (bytes_for b + 1)
-    it = (prefix_of family b (take (bytes_for b) sent), record { within = omega (arith, enough); is = rw add-one (record { within = wide; whole = length-take-le (bytes_for b) sent enough; value = refl }) })
-
--- where the bits are too many or the bytes too few, no prefix stands there
-pub prefix_none : (family : Family) (input : List ℕ) (bits : ℕ) → 0 < length input → bits ≡ get_or input 0 0 → (bits ≤ width_of family → bytes_for bits + 1 ≤ length input → ⊥)
-    → (size : ℕ) (p : PrefixValue) → StandsAtFront family input p size → ⊥
-prefix_none family input bits some is not size p stands = at size input stands.within stands.is some is not
-  where
-    at : (size : ℕ) (input : List ℕ) → size ≤ length input → IsPrefix family (take size input) p → 0 < length input → bits ≡ get_or input 0 0 → (bits ≤ width_of family → bytes_for bits + 1 ≤ length input → ⊥) → ⊥
-    at zero input le is' some same not = is'
-    at (suc n) [] le is' some same not = is'
-    at (suc n) (b ∷ sent) le is' some same not =
-        not (omega (arith, same, is'.within)) (let whole : length (take n sent) ≡ bytes_for bits = is'.whole ∙ ap bytes_for (sym same) in omega (arith, whole, length-take n sent))
-
-pub empty_none : (family : Family) (input : List ℕ) → length input ≡ 0 → (size : ℕ) (p : PrefixValue) → StandsAtFront family input p size → ⊥
-empty_none family input none size p stands = at size input stands.within stands.is none
-  where
-    at : (size : ℕ) (input : List ℕ) → size ≤ length input → IsPrefix family (take size input) p → length input ≡ 0 → ⊥
-    at zero input le is none = is
-    at (suc n) [] le is none = is
-    at (suc n) (b ∷ sent) le is none = omega (arith, none)
 
 -- One item at the front.
 
@@ -94,8 +56,3 @@ counts_stuck family identified bytes rest count c left none ns are = HasRead-non
 pub counts_end : (family : Family) (identified : Bool) (bytes rest : List ℕ) (count : ℕ) → CountsItems family identified bytes rest count → length rest ≡ 0
     → (ns : List NlriValue) × AreNlri family identified bytes ns × (count ≡ length ns)
 counts_end family identified bytes rest count c empty = (c.out, HasRead-end (IsNlri family identified) bytes c.out rest c.read empty, c.count_is)
-
--- bytes are items of one number
-pub counted_once : (family : Family) (identified : Bool) (bytes : List ℕ) (count : ℕ) → (ms : List NlriValue) × AreNlri family identified bytes ms × (count ≡ length ms)
-    → (ns : List NlriValue) → AreNlri family identified bytes ns → count ≡ length ns
-counted_once family identified bytes count (ms, these, is) ns those = is ∙ ap (λ (l : List NlriValue). length l) (AreParts-one (IsNlri family identified) (nlri_code family identified) bytes ms ns these those)

@@ -1,58 +1,97 @@
--- Whether a body is that of an UPDATE message, from what its fields are.
-use Rattle.std.proofs.Common.{◌+◌, ℕ, List, ◌++◌, Option, refl, sym, subst}
+-- The body of an UPDATE message, from what judging it found.
+use Rattle.std.proofs.Common.{◌≡◌, ◌+◌, ℕ, List, ◌++◌, Option, refl, sym, ap, subst, ◌∙◌}
 use Rattle.std.specs.Option.{option_map}
 use Rattle.bmp_specs.specs.declared.wire.Family.TheVariants.{V4}
 use Rattle.bmp_specs.specs.declared.wire.IdUse.{IdUse}
 use Rattle.bmp_specs.specs.declared.wire.Width.{Width}
+use Rattle.bmp_specs.specs.AddressFamily.{uses_ids}
+use Rattle.bmp_specs.specs.Attributes.{AreAttributes}
 use Rattle.bmp_specs.specs.Nlri.{AreNlri}
 use Rattle.bmp_specs.specs.Update.{AreMpNlri, IsUpdate, end_of_rib, passed_over, with_hop_of}
-use Rattle.bmp_specs.specs.Values.{MpValue, NlriValue, UpdateValue}
+use Rattle.bmp_specs.specs.Values.{AttrsReadValue, MpValue, NlriValue, UpdateValue}
+use Rattle.bmp_specs.proofs.AttributesOne.{AreAttributes-one}
 use Rattle.path_attrs.specs.declared.judge.Judged.{Judged}
 use Rattle.path_attrs.specs.Judged.{IsJudged, mp_value}
-use Rattle.bgp_update.proofs.OneBody.{HasFields, multi_none, plain_none, update_is, withdrawn_none}
-use Rattle.bgp_update.specs.Withdrawn.{AreWithdrawn}
+use Rattle.bgp_update.specs.declared.judge.Found.{Found}
+use Rattle.bgp_update.specs.Found.{HasFound}
+use Rattle.bgp_update.proofs.OneBody.{HasFields, multi_none, unreachable_none}
 
 module _ (width : Width) (ids : IdUse) (body withdrawn attributes nlri : List ℕ) (fields : HasFields body withdrawn attributes nlri) (judged : Judged) (j : IsJudged width attributes judged) where
-  -- what is lent of a multiprotocol attribute is what the attributes have
-  reach_of : (Is : Option MpValue → Type 0) → Is (option_map mp_value judged.reach) → Is j.read.reach
-  reach_of Is p = subst Is (sym j.reach_is) p
+  -- the multiprotocol attributes are those that are lent
+  pub unreachable_broken : ((ns : List NlriValue) → AreMpNlri ids (option_map mp_value judged.unreach) ns → ⊥) → (u : UpdateValue) → IsUpdate width ids body u → ⊥
+  unreachable_broken none = unreachable_none width ids body withdrawn attributes nlri fields j.read j.are (λ ns are. none ns (subst (λ (m : Option MpValue). AreMpNlri ids m ns) j.unreach_is are))
 
-  unreach_of : (Is : Option MpValue → Type 0) → Is (option_map mp_value judged.unreach) → Is j.read.unreach
-  unreach_of Is p = subst Is (sym j.unreach_is) p
+  pub multi_broken : ((ns : List NlriValue) → AreMpNlri ids (option_map mp_value judged.reach) ns → ⊥) → (u : UpdateValue) → IsUpdate width ids body u → ⊥
+  multi_broken none = multi_none width ids body withdrawn attributes nlri fields j.read j.are (λ ns are. none ns (subst (λ (m : Option MpValue). AreMpNlri ids m ns) j.reach_is are))
 
-  pub body_is : (gone : List NlriValue) × AreNlri V4 ids.v4 withdrawn gone → (plain : List NlriValue) × AreNlri V4 ids.v4 nlri plain → (lost : List NlriValue) × AreMpNlri ids (option_map mp_value judged.unreach) lost
-      → (multi : List NlriValue) × AreMpNlri ids (option_map mp_value judged.reach) multi → (u : UpdateValue) × IsUpdate width ids body u
-  body_is gone plain lost multi =
-      let read = j.read in
-      let u : UpdateValue = record {
-        withdrawn = gone.0 ++ lost.0;
-        plain = plain.0;
+module _ (width : Width) (ids : IdUse) (body : List ℕ) (found : Found) (h : HasFound width ids body found) (read : AttrsReadValue) (are : AreAttributes width found.fields.attributes.now read) where
+  -- the attributes are those that were judged
+  same_read : h.judged.read ≡ read
+  same_read = AreAttributes-one width found.fields.attributes.now h.judged.read read h.judged.are are
+
+  reach_is : option_map mp_value found.judged.reach ≡ read.reach
+  reach_is = sym h.judged.reach_is ∙ ap (λ (r : AttrsReadValue). r.reach) same_read
+
+  unreach_is : option_map mp_value found.judged.unreach ≡ read.unreach
+  unreach_is = sym h.judged.unreach_is ∙ ap (λ (r : AttrsReadValue). r.unreach) same_read
+
+  -- the body is this UPDATE message
+  pub update_is : (u : UpdateValue) → ((gone lost : List NlriValue) → AreNlri V4 (uses_ids ids V4) found.fields.withdrawn.now gone → AreMpNlri ids read.unreach lost → u.withdrawn ≡ gone ++ lost)
+      → ((ns : List NlriValue) → AreNlri V4 (uses_ids ids V4) found.fields.nlri.now ns → u.plain ≡ ns) → u.plain_attrs ≡ read.attrs → ((ns : List NlriValue) → AreMpNlri ids read.reach ns → u.multi ≡ ns)
+      → u.multi_attrs ≡ with_hop_of read.reach read.attrs → u.mark ≡ end_of_rib found.fields.withdrawn.now read found.fields.nlri.now → u.unread ≡ passed_over read.reach + passed_over read.unreach → IsUpdate width ids body u
+  update_is u withdrawn plain plain_attrs multi multi_attrs mark unread =
+      let lost = subst (λ (m : Option MpValue). AreMpNlri ids m h.lost) unreach_is h.lost_are in
+      let multi_are = subst (λ (m : Option MpValue). AreMpNlri ids m h.multi) reach_is h.multi_are in
+      record {
+        withdrawn_routes = found.fields.withdrawn.now;
+        path_attributes = found.fields.attributes.now;
+        nlri = found.fields.nlri.now;
+        fields = h.fields;
+        read = read;
+        attributes = are;
+        withdrawn = h.gone;
+        withdrawn_are = h.gone_are;
+        unreachable = h.lost;
+        unreachable_are = lost;
+        all_withdrawn = withdrawn h.gone h.lost h.gone_are lost;
+        plain_are = subst (λ (l : List NlriValue). AreNlri V4 (uses_ids ids V4) found.fields.nlri.now l) (sym (plain h.plain h.plain_are)) h.plain_are;
+        plain_attrs_are = plain_attrs;
+        multi_are = subst (λ (l : List NlriValue). AreMpNlri ids read.reach l) (sym (multi h.multi multi_are)) multi_are;
+        multi_attrs_are = multi_attrs;
+        mark_is = mark;
+        unread_is = unread;
+      }
+
+-- what was found is the body of an UPDATE message
+pub found_is : (width : Width) (ids : IdUse) (body : List ℕ) (found : Found) → HasFound width ids body found → (u : UpdateValue) × IsUpdate width ids body u
+found_is width ids body found h =
+    let read = h.judged.read in (
+      record {
+        withdrawn = h.gone ++ h.lost;
+        plain = h.plain;
         plain_attrs = read.attrs;
-        multi = multi.0;
+        multi = h.multi;
         multi_attrs = with_hop_of read.reach read.attrs;
-        mark = end_of_rib withdrawn read nlri;
+        mark = end_of_rib found.fields.withdrawn.now read found.fields.nlri.now;
         unread = passed_over read.reach + passed_over read.unreach;
-      } in
-      let all : AreWithdrawn ids withdrawn read.unreach u.withdrawn = record {
-        withdrawn = gone.0;
-        withdrawn_are = gone.1;
-        unreachable = lost.0;
-        unreachable_are = unreach_of (λ (m : Option MpValue). AreMpNlri ids m lost.0) lost.1;
+      },
+      record {
+        withdrawn_routes = found.fields.withdrawn.now;
+        path_attributes = found.fields.attributes.now;
+        nlri = found.fields.nlri.now;
+        fields = h.fields;
+        read = read;
+        attributes = h.judged.are;
+        withdrawn = h.gone;
+        withdrawn_are = h.gone_are;
+        unreachable = h.lost;
+        unreachable_are = subst (λ (m : Option MpValue). AreMpNlri ids m h.lost) (sym h.judged.unreach_is) h.lost_are;
         all_withdrawn = refl;
-      } in
-      (u, update_is width ids body withdrawn attributes nlri fields read j.are u all plain.1 refl (reach_of (λ (m : Option MpValue). AreMpNlri ids m multi.0) multi.1) refl refl refl)
-
-  pub withdrawn_broken : ((gone : List NlriValue) × AreNlri V4 ids.v4 withdrawn gone → ⊥) → (u : UpdateValue) × IsUpdate width ids body u → ⊥
-  withdrawn_broken none (u, is) = withdrawn_none width ids body withdrawn attributes nlri fields j.read j.are (λ ns are. none (are.withdrawn, are.withdrawn_are)) u is
-
-  pub plain_broken : ((plain : List NlriValue) × AreNlri V4 ids.v4 nlri plain → ⊥) → (u : UpdateValue) × IsUpdate width ids body u → ⊥
-  plain_broken none (u, is) = plain_none width ids body withdrawn attributes nlri fields (λ ns are. none (ns, are)) u is
-
-  pub unreachable_broken : ((lost : List NlriValue) × AreMpNlri ids (option_map mp_value judged.unreach) lost → ⊥) → (u : UpdateValue) × IsUpdate width ids body u → ⊥
-  unreachable_broken none (u, is) =
-      withdrawn_none width ids body withdrawn attributes nlri fields j.read j.are
-      (λ ns are. none (are.unreachable, subst (λ (m : Option MpValue). AreMpNlri ids m are.unreachable) j.unreach_is are.unreachable_are)) u is
-
-  pub multi_broken : ((multi : List NlriValue) × AreMpNlri ids (option_map mp_value judged.reach) multi → ⊥) → (u : UpdateValue) × IsUpdate width ids body u → ⊥
-  multi_broken none (u, is) =
-      multi_none width ids body withdrawn attributes nlri fields j.read j.are (λ ns are. none (ns, subst (λ (m : Option MpValue). AreMpNlri ids m ns) j.reach_is are)) u is
+        plain_are = h.plain_are;
+        plain_attrs_are = refl;
+        multi_are = subst (λ (m : Option MpValue). AreMpNlri ids m h.multi) (sym h.judged.reach_is) h.multi_are;
+        multi_attrs_are = refl;
+        mark_is = refl;
+        unread_is = refl;
+      },
+    )

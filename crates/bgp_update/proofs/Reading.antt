@@ -1,5 +1,5 @@
 -- One item of a list of prefixes after another, as the loop reads them.
-use Rattle.std.proofs.Common.{◌≡◌, ◌+◌, ◌<◌, ◌≤◌, ℕ, Bool, true, false, List, [], ◌∷◌, ◌++◌, length, take, drop, Some, sym, ap, subst, ◌∙◌, append_assoc, append-nil, arith, take-append-drop, length-append, length-drop}
+use Rattle.std.proofs.Common.{◌≡◌, ◌+◌, ◌≤◌, ℕ, Bool, true, false, List, [], ◌∷◌, ◌++◌, length, take, drop, Some, sym, ap, subst, ◌∙◌, append_assoc, append-nil, arith, take-append-drop, length-append, length-drop}
 use Rattle.std.proofs.lemmas.List.{drop-append-le, drop-take, length-take-le}
 use Rattle.std.proofs.Math.Seq.{take-append_seam}
 use Rattle.byteorder.specs.Endian.{big_number}
@@ -10,7 +10,7 @@ use Rattle.bmp_specs.specs.Prefix.{IsPrefix, StandsAtFront}
 use Rattle.bmp_specs.specs.Sequence.{HasFront}
 use Rattle.bmp_specs.specs.Values.{NlriValue, PrefixValue}
 use Rattle.bmp_specs.proofs.NlriCode.{nlri_code}
-use Rattle.bmp_specs.proofs.PartsRead.{HasRead, HasRead-nil, HasRead-front, HasRead-none, HasRead-end}
+use Rattle.bmp_specs.proofs.PartsRead.{HasRead, HasRead-nil, HasRead-front}
 
 front_stands : (family : Family) (input front rest : List ℕ) (p : PrefixValue) → input ≡ front ++ rest → IsPrefix family front p → StandsAtFront family input p (length front)
 front_stands family input front rest p split is = record {
@@ -69,10 +69,11 @@ items_more family identified bytes rest after first now next n size r here other
   is = e ∙ ap (λ (l : List NlriValue). l ++ n ∷ []) r.is ∙ append_assoc first r.out (n ∷ []);
 }
 
-pub items_stuck : (family : Family) (identified : Bool) (bytes rest : List ℕ) (first now : List NlriValue) → ReadsItems family identified bytes rest first now → 0 < length rest
-    → ((n : NlriValue) (after : List ℕ) → HasFront (IsNlri family identified) rest n after → ⊥) → (ns : List NlriValue) → AreNlri family identified bytes ns → ⊥
-items_stuck family identified bytes rest first now r left none ns are = HasRead-none (IsNlri family identified) bytes r.out rest r.read left none ns are
-
-pub items_end : (family : Family) (identified : Bool) (bytes rest : List ℕ) (first now : List NlriValue) → ReadsItems family identified bytes rest first now → length rest ≡ 0
-    → (ns : List NlriValue) × AreNlri family identified bytes ns × (now ≡ first ++ ns)
-items_end family identified bytes rest first now r empty = (r.out, HasRead-end (IsNlri family identified) bytes r.out rest r.read empty, r.is)
+-- once no item stands at what is left, the items of the bytes stand behind what the list had
+pub items_end : (family : Family) (identified : Bool) (bytes rest : List ℕ) (first now : List NlriValue) → ReadsItems family identified bytes rest first now
+    → ((n : NlriValue) (after : List ℕ) → HasFront (IsNlri family identified) rest n after → ⊥) → (ns : List NlriValue) → AreNlri family identified bytes ns → now ≡ first ++ ns
+items_end family identified bytes rest first now r none ns are = let q = r.read.only ns are in at q.0 q.1 q.2
+  where
+    at : (later : List NlriValue) → ns ≡ r.out ++ later → AreNlri family identified rest later → now ≡ first ++ ns
+    at [] e p = r.is ∙ ap (λ (l : List NlriValue). first ++ l) (sym (e ∙ append-nil r.out))
+    at (n ∷ later) e (front, after, split, is, _) = absurd (none n after (front, split, is))

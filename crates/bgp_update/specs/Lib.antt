@@ -1,1 +1,1 @@
-pub mod Withdrawn
+pub mod Found

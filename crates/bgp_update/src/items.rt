@@ -1,15 +1,15 @@
-ghost use Rattle.std.specs.Prelude.{◌≡◌, ◌≤◌, ◌<◌, ◌++◌, ℕ, List, Some, true, false, length, drop, IfSome, IfNone, OnOk, IfOk, IsErrOf};
+ghost use Rattle.std.specs.Prelude.{◌≡◌, ◌≤◌, ◌<◌, ◌++◌, ℕ, List, Some, true, false, length, drop, IfSome, IfNone, OnOk};
 ghost use Rattle.bmp_specs.specs.declared.wire.Family.{Family};
 ghost use Rattle.bmp_specs.specs.AddressFamily.{uses_ids};
 ghost use Rattle.bmp_specs.specs.Nlri.{AreNlri, IsNlri};
 ghost use Rattle.bmp_specs.specs.Sequence.{HasFront};
 ghost use Rattle.bmp_specs.specs.Values.{NlriValue};
 
-use crate::fault::UpdateFault;
 use crate::list::NlriList;
 use bmp_specs::IdUse;
 use byteorder::{BigEndian, ByteOrder};
 use ip_prefix::{Family, Nlri, Prefix};
+use wire_io::NoMemory;
 
 /// The bytes of a "Path Identifier" (RFC 7911, section 3).
 pub(crate) const PATH_IDENTIFIER: usize = 4;
@@ -70,21 +70,17 @@ fn read_item(family: Family, identified: bool, input: &[u8]) -> Option<(Nlri, us
     }
 }
 
-// Appends the items that fill these bytes.
+// Appends the items that stand in these bytes, up to bytes that are none.
 pub(crate) fn add_items(
     list: &mut NlriList,
     family: Family,
     identified: bool,
     bytes: &[u8],
-) -> Result<(), UpdateFault>
-    ensures ok { OnOk result ((ns : List NlriValue) × AreNlri family identified bytes.now ns × (list.new ≡ list.old ++ ns)) }
-    ensures broken { IsErrOf result UpdateFault.Broken → (ns : List NlriValue) → AreNlri family identified bytes.now ns → ⊥ }
+) -> Result<(), NoMemory>
+    ensures { OnOk result ((ns : List NlriValue) → AreNlri family identified bytes.now ns → list.new ≡ list.old ++ ns) }
 {
     let mut rest = bytes;
-    while !rest.is_empty() {
-        let Some((nlri, size)) = read_item(family, identified, rest) else {
-            return Err(UpdateFault::Broken);
-        };
+    while let Some((nlri, size)) = read_item(family, identified, rest) {
         list.push(nlri)?;
         let (_, after) = rest.split_at(size);
         rest = after;

@@ -5,12 +5,12 @@
 //! multiprotocol attributes (RFC 4760), with path identifiers where the session uses them (RFC 7911).
 //! `path_attrs` reads the attributes, this crate the prefixes and the whole.
 //!
-//! Proved: `read_update` gives the value of the grammar exactly where the body has one, with the
-//! End-of-RIB marker (RFC 4724, section 2) and how many multiprotocol attributes are of families that
-//! aren't read. `judge_update` tells whether the body has a value, and makes none. The grammar is
-//! `IsUpdate` in `specs/Update.antt` of `bmp_specs`; begin there, then with `src/read.rt`. `src/items.rt`
-//! reads lists of prefixes, `src/sizes.rt` counts them, `src/multi.rt` reads those of multiprotocol
-//! attributes.
+//! Proved: `judge_update` tells exactly whether the body has a value in the grammar, and makes none.
+//! `read_update` judges by the same body of code and then makes the value, with the End-of-RIB marker (RFC
+//! 4724, section 2) and how many multiprotocol attributes are of families that aren't read. The grammar is
+//! `IsUpdate` in `specs/Update.antt` of `bmp_specs`; begin there, then with `src/judge.rt`. `src/sizes.rt`
+//! counts the prefixes of a list, `src/items.rt` makes them, `src/multi.rt` those of multiprotocol
+//! attributes too.
 #![tactic(auto)]
 
 mod body;

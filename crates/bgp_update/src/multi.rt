@@ -1,19 +1,17 @@
-ghost use Rattle.std.specs.Prelude.{◌≡◌, ◌<◌, ◌^◌, ◌++◌, List, length, IfOk, OnOk, IsErrOf};
+ghost use Rattle.std.specs.Prelude.{◌≡◌, ◌++◌, List, IfOk, OnOk};
 ghost use Rattle.bmp_specs.specs.AddressFamily.{unicast_family, uses_ids};
 ghost use Rattle.bmp_specs.specs.Nlri.{AreNlri};
 ghost use Rattle.bmp_specs.specs.Update.{AreMpNlri, empty_family, end_of_rib, passed_over};
-ghost use Rattle.bgp_update.specs.Withdrawn.{AreWithdrawn};
 ghost use Rattle.bmp_specs.specs.Values.{NlriValue};
 ghost use Rattle.bmp_specs.specs.declared.wire.Family.TheVariants.{V4};
 
-use crate::fault::UpdateFault;
 use crate::items::{add_items, uses_ids};
 use crate::list::NlriList;
-use crate::sizes::count_items;
 use bmp_specs::IdUse;
 use ip_prefix::Family;
 use path_attrs::{AttrsRead, MpPart};
 use std::alloc::Global;
+use wire_io::NoMemory;
 
 /// "Address Family Identifier" of IPv4 (RFC 4760, section 3).
 const AFI_IP: u16 = 1;
@@ -83,24 +81,9 @@ pub(crate) fn end_of_rib(withdrawn: &[u8], read: &AttrsRead, nlri: &[u8]) -> Opt
     }
 }
 
-// How many prefixes the attribute has, by their length octets alone.
-fn count_multi(ids: IdUse, part: &Option<MpPart>) -> usize
-    ensures count { (ns : List NlriValue) → AreMpNlri ids part.now ns → result ≡ length ns }
-    ensures room { result < 2 ^ 63 }
-{
-    match part {
-        None => 0,
-        Some(part) => match unicast_family(part.afi, part.safi) {
-            None => 0,
-            Some(family) => count_items(family, uses_ids(ids, family), part.prefixes.as_slice()),
-        },
-    }
-}
-
 // Appends the prefixes of the attribute. One of a family that isn't read is passed over.
-fn add_multi(list: &mut NlriList, ids: IdUse, part: &Option<MpPart>) -> Result<(), UpdateFault>
-    ensures ok { OnOk result ((ns : List NlriValue) × AreMpNlri ids part.now ns × (list.new ≡ list.old ++ ns)) }
-    ensures broken { IsErrOf result UpdateFault.Broken → (ns : List NlriValue) → AreMpNlri ids part.now ns → ⊥ }
+fn add_multi(list: &mut NlriList, ids: IdUse, part: &Option<MpPart>) -> Result<(), NoMemory>
+    ensures { OnOk result ((ns : List NlriValue) → AreMpNlri ids part.now ns → list.new ≡ list.old ++ ns) }
 {
     match part {
         None => Ok(()),
@@ -118,41 +101,44 @@ fn add_multi(list: &mut NlriList, ids: IdUse, part: &Option<MpPart>) -> Result<(
     }
 }
 
-// The prefixes of MP_REACH_NLRI.
-pub(crate) fn read_multi(
+// The prefixes of MP_REACH_NLRI, so many.
+pub(crate) fn make_multi(
     alloc: Global,
     ids: IdUse,
     reach: &Option<MpPart>,
-) -> Result<NlriList, UpdateFault>
-    ensures ok { IfOk result (AreMpNlri ids reach.now) }
-    ensures broken { IsErrOf result UpdateFault.Broken → (ns : List NlriValue) → AreMpNlri ids reach.now ns → ⊥ }
+    count: usize,
+) -> Result<NlriList, NoMemory>
+    ensures { IfOk result (λ list. (ns : List NlriValue) → AreMpNlri ids reach.now ns → list ≡ ns) }
 {
-    let mut list = NlriList::with_capacity(alloc, count_multi(ids, reach))?;
+    let mut list = NlriList::with_capacity(alloc, count)?;
     add_multi(&mut list, ids, reach)?;
     Ok(list)
 }
 
-// The prefixes of "Network Layer Reachability Information".
-pub(crate) fn read_plain(alloc: Global, ids: IdUse, nlri: &[u8]) -> Result<NlriList, UpdateFault>
-    ensures ok { IfOk result (AreNlri V4 (uses_ids ids V4) nlri.now) }
-    ensures broken { IsErrOf result UpdateFault.Broken → (ns : List NlriValue) → AreNlri V4 (uses_ids ids V4) nlri.now ns → ⊥ }
+// The prefixes of "Network Layer Reachability Information", so many.
+pub(crate) fn make_plain(
+    alloc: Global,
+    ids: IdUse,
+    nlri: &[u8],
+    count: usize,
+) -> Result<NlriList, NoMemory>
+    ensures { IfOk result (λ list. (ns : List NlriValue) → AreNlri V4 (uses_ids ids V4) nlri.now ns → list ≡ ns) }
 {
-    let mut list = NlriList::with_capacity(alloc, count_items(Family::V4, ids.v4, nlri))?;
+    let mut list = NlriList::with_capacity(alloc, count)?;
     add_items(&mut list, Family::V4, ids.v4, nlri)?;
     Ok(list)
 }
 
-// The prefixes of "Withdrawn Routes", and then those of MP_UNREACH_NLRI.
-pub(crate) fn read_withdrawn(
+// The prefixes of "Withdrawn Routes", and then those of MP_UNREACH_NLRI, so many.
+pub(crate) fn make_withdrawn(
     alloc: Global,
     ids: IdUse,
     routes: &[u8],
     unreach: &Option<MpPart>,
-) -> Result<NlriList, UpdateFault>
-    ensures ok { IfOk result (AreWithdrawn ids routes.now unreach.now) }
-    ensures broken { IsErrOf result UpdateFault.Broken → (ns : List NlriValue) → AreWithdrawn ids routes.now unreach.now ns → ⊥ }
+    count: usize,
+) -> Result<NlriList, NoMemory>
+    ensures { IfOk result (λ list. (gone lost : List NlriValue) → AreNlri V4 (uses_ids ids V4) routes.now gone → AreMpNlri ids unreach.now lost → list ≡ gone ++ lost) }
 {
-    let count = count_items(Family::V4, ids.v4, routes) + count_multi(ids, unreach);
     let mut list = NlriList::with_capacity(alloc, count)?;
     add_items(&mut list, Family::V4, ids.v4, routes)?;
     add_multi(&mut list, ids, unreach)?;

@@ -1,42 +1,10 @@
-ghost use Rattle.std.specs.Prelude.{◌≡◌, ◌↔◌, ◌≤◌, ◌<◌, ℕ, List, true, length, drop, IsTrue, IfSome, IfNone};
+ghost use Rattle.std.specs.Prelude.{◌≡◌, ◌≤◌, ◌<◌, ℕ, List, true, length, drop, IfSome, IfNone};
 ghost use Rattle.bmp_specs.specs.Nlri.{AreNlri, IsNlri};
-ghost use Rattle.bmp_specs.specs.Prefix.{StandsAtFront, width_of};
 ghost use Rattle.bmp_specs.specs.Sequence.{HasFront};
-ghost use Rattle.bmp_specs.specs.Values.{NlriValue, PrefixValue};
+ghost use Rattle.bmp_specs.specs.Values.{NlriValue};
 
 use crate::items::PATH_IDENTIFIER;
-use ip_prefix::Family;
-
-// How many bits an address of the family has.
-fn most_bits(family: Family) -> u8
-    ensures { result ≡ width_of family }
-{
-    match family {
-        Family::V4 => 32,
-        Family::V6 => 128,
-    }
-}
-
-// How many bytes the prefix at the front takes, by its length octet (RFC 4271, section 4.3).
-fn prefix_size(family: Family, input: &[u8]) -> Option<usize>
-    ensures found { IfSome result (λ size. (p : PrefixValue) × StandsAtFront family input.now p size) }
-    ensures some { IfSome result (λ size. 0 < size) }
-    ensures within { IfSome result (λ size. size ≤ length input.now) }
-    ensures none { IfNone result ((size : ℕ) (p : PrefixValue) → StandsAtFront family input.now p size → ⊥) }
-{
-    if input.is_empty() {
-        return None;
-    }
-    let bits = input[0];
-    let size = (bits as usize + 7) / 8 + 1;
-    if most_bits(family) < bits {
-        return None;
-    }
-    if input.len() < size {
-        return None;
-    }
-    Some(size)
-}
+use ip_prefix::{Family, Prefix};
 
 // How many bytes the path identifier and the prefix at the front take (RFC 7911, section 3).
 fn identified_size(family: Family, input: &[u8]) -> Option<usize>
@@ -49,7 +17,7 @@ fn identified_size(family: Family, input: &[u8]) -> Option<usize>
         return None;
     }
     let (_, after) = input.split_at(PATH_IDENTIFIER);
-    match prefix_size(family, after) {
+    match Prefix::wire_size(family, after) {
         Some(size) => Some(size + PATH_IDENTIFIER),
         None => None,
     }
@@ -63,13 +31,13 @@ fn item_size(family: Family, identified: bool, input: &[u8]) -> Option<usize>
     ensures none { IfNone result ((n : NlriValue) (rest : List ℕ) → HasFront (IsNlri family identified) input.now n rest → ⊥) }
 {
     match identified {
-        false => prefix_size(family, input),
+        false => Prefix::wire_size(family, input),
         true => identified_size(family, input),
     }
 }
 
 // How many items fill the bytes. `None` exactly where the bytes aren't items of the family.
-fn item_count(family: Family, identified: bool, bytes: &[u8]) -> Option<usize>
+pub(crate) fn item_count(family: Family, identified: bool, bytes: &[u8]) -> Option<usize>
     ensures some { IfSome result (λ count. (ns : List NlriValue) × AreNlri family identified bytes.now ns × (count ≡ length ns)) }
     ensures within { IfSome result (λ count. count ≤ length bytes.now) }
     ensures none { IfNone result ((ns : List NlriValue) → AreNlri family identified bytes.now ns → ⊥) }
@@ -85,25 +53,4 @@ fn item_count(family: Family, identified: bool, bytes: &[u8]) -> Option<usize>
         rest = after;
     }
     Some(count)
-}
-
-// Whether items fill the bytes.
-pub(crate) fn are_items(family: Family, identified: bool, bytes: &[u8]) -> bool
-    ensures { IsTrue result ↔ ((ns : List NlriValue) × AreNlri family identified bytes.now ns) }
-{
-    match item_count(family, identified, bytes) {
-        Some(_) => true,
-        None => false,
-    }
-}
-
-// How many items the bytes are; 0 where they are none.
-pub(crate) fn count_items(family: Family, identified: bool, bytes: &[u8]) -> usize
-    ensures count { (ns : List NlriValue) → AreNlri family identified bytes.now ns → result ≡ length ns }
-    ensures within { result ≤ length bytes.now }
-{
-    match item_count(family, identified, bytes) {
-        Some(count) => count,
-        None => 0,
-    }
 }
