@@ -6,7 +6,7 @@ use Rattle.std.proofs.lemmas.List.{take_all}
 use Rattle.bmp_specs.specs.declared.causes.Cause.{Cause}
 use Rattle.bmp_specs.specs.declared.causes.Cause.TheVariants.{Ended, Terminated, CutShort, Broken, ReadFault, Full}
 use Rattle.bmp_specs.specs.Life.{LastRead, gave, gave_none, failed, most_taken, IsUndecided, IsCause}
-use Rattle.bmp_specs.specs.Meaning.{WalksBy}
+use Rattle.bmp_specs.specs.Meaning.{Meaning, WalksBy}
 use Rattle.bmp_specs.specs.MessageEffects.{strict}
 use Rattle.bmp_specs.specs.Values.{EntryValue}
 use Rattle.bmp_specs.specs.Walk.{Verdict, whole, more, terminated, broken, Walks}
@@ -24,28 +24,28 @@ pub undecided : (rest : ℕ) → IsUndecided (verdict_with rest)
 undecided zero = tt
 undecided (suc n) = subst (λ (b : Bool). IsUndecided (if b then whole else more)) (sym (eqb-suc-zero n)) tt
 
-module _ (bytes : List ℕ) (messages : List EntryValue) (offset : ℕ) where
+module _ (meaning : Meaning) (bytes : List ℕ) (messages : List EntryValue) (offset : ℕ) where
   -- the last read gave no byte
-  pub come_end : (rest : ℕ) → length bytes < most_taken → WalksBy strict bytes messages offset (verdict_with rest) → HasCome (record { bytes = bytes; last = gave_none }) messages (cause_at_end rest offset)
+  pub come_end : (rest : ℕ) → length bytes < most_taken → WalksBy meaning bytes messages offset (verdict_with rest) → HasCome meaning (record { bytes = bytes; last = gave_none }) messages (cause_at_end rest offset)
   come_end zero room w = record { offset = offset; verdict = whole; within = omega (arith, room); walk = w; because = cause_of_end (length bytes) offset (below_most (length bytes) room) }
-  come_end (suc n) room w = subst (λ (b : Bool). HasCome (record { bytes = bytes; last = gave_none }) messages (if b then Ended else CutShort offset)) (sym (eqb-suc-zero n)) (record {
+  come_end (suc n) room w = subst (λ (b : Bool). HasCome meaning (record { bytes = bytes; last = gave_none }) messages (if b then Ended else CutShort offset)) (sym (eqb-suc-zero n)) (record {
     offset = offset;
     verdict = more;
     within = omega (arith, room);
-    walk = subst (λ (b : Bool). WalksBy strict bytes messages offset (if b then whole else more)) (eqb-suc-zero n) w;
+    walk = subst (λ (b : Bool). WalksBy meaning bytes messages offset (if b then whole else more)) (eqb-suc-zero n) w;
     because = cause_of_cut (length bytes) offset (below_most (length bytes) room);
   })
 
   -- the last read failed
-  pub come_fault : (rest : ℕ) → length bytes < most_taken → WalksBy strict bytes messages offset (verdict_with rest) → HasCome (record { bytes = bytes; last = failed }) messages (ReadFault (length bytes))
+  pub come_fault : (rest : ℕ) → length bytes < most_taken → WalksBy meaning bytes messages offset (verdict_with rest) → HasCome meaning (record { bytes = bytes; last = failed }) messages (ReadFault (length bytes))
   come_fault rest room w = record { offset = offset; verdict = verdict_with rest; within = omega (arith, room); walk = w; because = cause_of_fault (length bytes) (verdict_with rest) offset (undecided rest) (below_most (length bytes) room) }
 
   -- the limit was reached
-  pub come_full : (rest : ℕ) → length bytes ≡ most_taken → WalksBy strict bytes messages offset (verdict_with rest) → HasCome (record { bytes = bytes; last = gave }) messages Full
+  pub come_full : (rest : ℕ) → length bytes ≡ most_taken → WalksBy meaning bytes messages offset (verdict_with rest) → HasCome meaning (record { bytes = bytes; last = gave }) messages Full
   come_full rest full w = record { offset = offset; verdict = verdict_with rest; within = omega (arith, full); walk = w; because = cause_of_fullness (length bytes) gave (verdict_with rest) offset (undecided rest) full }
 
 -- the walk ended in the bytes
-pub come_early : (bytes : List ℕ) (messages : List EntryValue) (cause : Cause) → EndsBy bytes messages cause → (after : List ℕ) (last : LastRead) → length (bytes ++ after) ≤ most_taken → HasCome (record { bytes = bytes ++ after; last = last }) messages cause
+pub come_early : (bytes : List ℕ) (messages : List EntryValue) (cause : Cause) → EndsBy bytes messages cause → (after : List ℕ) (last : LastRead) → length (bytes ++ after) ≤ most_taken → HasCome strict (record { bytes = bytes ++ after; last = last }) messages cause
 come_early bytes messages Terminated (offset, ends) after last within = record { offset = offset; verdict = terminated; within = within; walk = ends after; because = cause_of_termination (length (bytes ++ after)) last offset }
 come_early bytes messages (Broken offset why) ends after last within = record { offset = offset; verdict = broken why; within = within; walk = ends after; because = cause_of_break (length (bytes ++ after)) last why offset }
 come_early bytes messages Ended ends after last within = absurd ends
@@ -53,8 +53,8 @@ come_early bytes messages (CutShort offset) ends after last within = absurd ends
 come_early bytes messages (ReadFault offset) ends after last within = absurd ends
 come_early bytes messages Full ends after last within = absurd ends
 
-pub come_early_here : (bytes : List ℕ) (messages : List EntryValue) (cause : Cause) (last : LastRead) → EndsBy bytes messages cause → length bytes ≤ most_taken → HasCome (record { bytes = bytes; last = last }) messages cause
-come_early_here bytes messages cause last ends within = subst (λ (l : List ℕ). HasCome (record { bytes = l; last = last }) messages cause) (append-nil bytes) (come_early bytes messages cause ends [] last (omega (arith, within, length-append bytes [])))
+pub come_early_here : (bytes : List ℕ) (messages : List EntryValue) (cause : Cause) (last : LastRead) → EndsBy bytes messages cause → length bytes ≤ most_taken → HasCome strict (record { bytes = bytes; last = last }) messages cause
+come_early_here bytes messages cause last ends within = subst (λ (l : List ℕ). HasCome strict (record { bytes = l; last = last }) messages cause) (append-nil bytes) (come_early bytes messages cause ends [] last (omega (arith, within, length-append bytes [])))
 
 -- a connection that ended isn't decided by its bytes
 pub not_early : (rest offset : ℕ) → IsEarly (cause_at_end rest offset) → ⊥
@@ -62,11 +62,11 @@ not_early zero offset e = e
 not_early (suc n) offset e = subst (λ (b : Bool). IsEarly (if b then Ended else CutShort offset)) (eqb-suc-zero n) e
 
 -- nothing was taken
-pub come_none : HasCome (record { bytes = []; last = gave_none }) [] Ended
-come_none = record { offset = 0; verdict = whole; within = omega arith; walk = (refl, refl); because = cause_of_end 0 0 (λ e. omega (arith, e)) }
+pub come_none : (meaning : Meaning) → HasCome meaning (record { bytes = []; last = gave_none }) [] Ended
+come_none meaning = record { offset = 0; verdict = whole; within = omega arith; walk = (refl, refl); because = cause_of_end 0 0 (λ e. omega (arith, e)) }
 
-pub come_unopened : HasCome (record { bytes = []; last = failed }) [] (ReadFault 0)
-come_unopened = record { offset = 0; verdict = whole; within = omega arith; walk = (refl, refl); because = cause_of_fault 0 whole 0 tt (λ e. omega (arith, e)) }
+pub come_unopened : (meaning : Meaning) → HasCome meaning (record { bytes = []; last = failed }) [] (ReadFault 0)
+come_unopened meaning = record { offset = 0; verdict = whole; within = omega arith; walk = (refl, refl); because = cause_of_fault 0 whole 0 tt (λ e. omega (arith, e)) }
 
 -- a full connection, whatever its last read was
 full_undecided : (taken : ℕ) (last : LastRead) (v : Verdict) (offset : ℕ) → IsCause taken last v offset Full → IsUndecided v
@@ -80,25 +80,25 @@ most_of : (bytes rest : List ℕ) → length bytes ≤ most_taken → take most_
 most_of bytes rest within = let room : most_taken ≡ length bytes + (most_taken - length bytes) = omega (arith, within) in ap (λ (n : ℕ). take n (bytes ++ rest)) room ∙ take-append-add bytes rest (most_taken - length bytes)
 
 -- What a connection with these bytes comes to, where no read fails: the same, whatever its pieces.
-module _ (b bytes rest : List ℕ) (last : LastRead) (messages : List EntryValue) (split : b ≡ bytes ++ rest) (whole' : last ≡ gave_none → rest ≡ []) (calm : last ≡ failed → ⊥) where
-  as_early : (cause : Cause) → length bytes ≤ most_taken → ((after : List ℕ) (at : LastRead) → length (bytes ++ after) ≤ most_taken → HasCome (record { bytes = bytes ++ after; last = at }) messages cause)
-      → HasCome (record { bytes = take most_taken b; last = gave_none }) messages cause
+module _ (meaning : Meaning) (b bytes rest : List ℕ) (last : LastRead) (messages : List EntryValue) (split : b ≡ bytes ++ rest) (whole' : last ≡ gave_none → rest ≡ []) (calm : last ≡ failed → ⊥) where
+  as_early : (cause : Cause) → length bytes ≤ most_taken → ((after : List ℕ) (at : LastRead) → length (bytes ++ after) ≤ most_taken → HasCome meaning (record { bytes = bytes ++ after; last = at }) messages cause)
+      → HasCome meaning (record { bytes = take most_taken b; last = gave_none }) messages cause
   as_early cause within early =
       let tail = take (most_taken - length bytes) rest in
       let same : take most_taken b ≡ bytes ++ tail = ap (λ (l : List ℕ). take most_taken l) split ∙ most_of bytes rest within in
-      subst (λ (l : List ℕ). HasCome (record { bytes = l; last = gave_none }) messages cause) (sym same) (early tail gave_none (omega (arith, within, length-append bytes tail, length-take (most_taken - length bytes) rest)))
+      subst (λ (l : List ℕ). HasCome meaning (record { bytes = l; last = gave_none }) messages cause) (sym same) (early tail gave_none (omega (arith, within, length-append bytes tail, length-take (most_taken - length bytes) rest)))
 
-  as_ended : (cause : Cause) → length bytes ≤ most_taken → last ≡ gave_none → HasCome (record { bytes = bytes; last = last }) messages cause → HasCome (record { bytes = take most_taken b; last = gave_none }) messages cause
+  as_ended : (cause : Cause) → length bytes ≤ most_taken → last ≡ gave_none → HasCome meaning (record { bytes = bytes; last = last }) messages cause → HasCome meaning (record { bytes = take most_taken b; last = gave_none }) messages cause
   as_ended cause within end come =
       let all : b ≡ bytes = split ∙ ap (λ (l : List ℕ). bytes ++ l) (whole' end) ∙ append-nil bytes in
       let same : take most_taken b ≡ bytes = ap (λ (l : List ℕ). take most_taken l) all ∙ take_all most_taken bytes within in
-      subst (λ (l : List ℕ). HasCome (record { bytes = l; last = gave_none }) messages cause) (sym same) (subst (λ (r : LastRead). HasCome (record { bytes = bytes; last = r }) messages cause) end come)
+      subst (λ (l : List ℕ). HasCome meaning (record { bytes = l; last = gave_none }) messages cause) (sym same) (subst (λ (r : LastRead). HasCome meaning (record { bytes = bytes; last = r }) messages cause) end come)
 
-  as_full : HasCome (record { bytes = bytes; last = last }) messages Full → HasCome (record { bytes = take most_taken b; last = gave_none }) messages Full
+  as_full : HasCome meaning (record { bytes = bytes; last = last }) messages Full → HasCome meaning (record { bytes = take most_taken b; last = gave_none }) messages Full
   as_full come =
       let full : length bytes ≡ most_taken = come.because.fits in
       let same : take most_taken b ≡ bytes = ap (λ (l : List ℕ). take most_taken l) split ∙ ap (λ (n : ℕ). take n (bytes ++ rest)) (sym full) ∙ take-append_seam bytes rest in
-      subst (λ (l : List ℕ). HasCome (record { bytes = l; last = gave_none }) messages Full) (sym same) (record {
+      subst (λ (l : List ℕ). HasCome meaning (record { bytes = l; last = gave_none }) messages Full) (sym same) (record {
         offset = come.offset;
         verdict = come.verdict;
         within = come.within;
@@ -106,9 +106,9 @@ module _ (b bytes rest : List ℕ) (last : LastRead) (messages : List EntryValue
         because = cause_of_fullness (length bytes) gave_none come.verdict come.offset (full_undecided (length bytes) last come.verdict come.offset come.because) full;
       })
 
-  pub come_of : (cause : Cause) → HasCome (record { bytes = bytes; last = last }) messages cause
-      → (IsEarly cause → (after : List ℕ) (at : LastRead) → length (bytes ++ after) ≤ most_taken → HasCome (record { bytes = bytes ++ after; last = at }) messages cause)
-      → HasCome (record { bytes = take most_taken b; last = gave_none }) messages cause
+  pub come_of : (cause : Cause) → HasCome meaning (record { bytes = bytes; last = last }) messages cause
+      → (IsEarly cause → (after : List ℕ) (at : LastRead) → length (bytes ++ after) ≤ most_taken → HasCome meaning (record { bytes = bytes ++ after; last = at }) messages cause)
+      → HasCome meaning (record { bytes = take most_taken b; last = gave_none }) messages cause
   come_of Terminated come early = as_early Terminated come.within (early tt)
   come_of (Broken offset why) come early = as_early (Broken offset why) come.within (early tt)
   come_of Ended come early = as_ended Ended come.within come.because.fits.0 come

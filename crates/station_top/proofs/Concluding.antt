@@ -4,7 +4,9 @@ use Rattle.std.specs.Prelude.{OnOk, OnErr, sum_by}
 use Rattle.std.proofs.lemmas.List.Sums.{sum_by-cons}
 use Rattle.bmp_specs.specs.Check.{length_of}
 use Rattle.bmp_specs.specs.Lines.{stop_line}
+use Rattle.bmp_specs.specs.Meaning.{Meaning}
 use Rattle.bmp_specs.specs.MessageBody.{no_peers}
+use Rattle.bmp_specs.specs.MessageEffects.{strict}
 use Rattle.bmp_specs.specs.Values.{EntryValue, opened}
 use Rattle.wire_io.specs.declared.sink.Failed.{Failed}
 use Rattle.wire_io.specs.Aside.{Aside, Plan}
@@ -24,15 +26,15 @@ use Rattle.station_top.proofs.Lengths.{walk_lengths}
 
 -- the port was handed out, taken from and given back
 pub lends : {P : Type 0} (Is : Plan → Aside → Type 0) (shows : P → Aside) (calls : P → ℕ) (old mid new : Option YardValue) (number : ℕ) (port : P) (after : Aside) → HandsOut shows calls 0 number old mid (Ok port) → ((plan : Plan) → shows port ≡ untouched plan → calls port ≡ 0 → Is plan after) → TakesBack 0 after mid new
-    → LendsWhereTold Is old new
+    → LendsWhereTold Is old new number
 lends Is shows calls None mid new number port after h is t = subst (λ (m : Option YardValue). TakesBack 0 after m new) h t
 lends Is shows calls (Some old) mid new number port after h is t =
     let t1 = subst (λ (m : Option YardValue). TakesBack 0 after m new) h.4 t in
-    record { plan = h.1; waiting = h.2; shows = after; first = h.3; given_back = t1.lent (0, omega arith, refl); is = is h.1 h.5 h.6 }
+    record { planned = h.0; plan = h.1; waiting = h.2; shows = after; first = h.3; given_back = t1.lent (0, omega arith, refl); is = is h.1 h.5 h.6 }
 
-pub is_taken : {P : Type 0} (Stands : List EntryValue → Type 0) (shows : P → Aside) (calls : P → ℕ) (old mid new : Option YardValue) (number : ℕ) (port : P) (after : Aside) (taken : Taken) → HandsOut shows calls 0 number old mid (Ok port) → TakesInput Stands (shows port) after (calls port) taken → TakesBack 0 after mid new
-    → IsTaken Stands old new taken
-is_taken Stands shows calls old mid new number port after taken h t back = record {
+pub is_taken : {P : Type 0} (meaning : Meaning) (Stands : List EntryValue → Type 0) (shows : P → Aside) (calls : P → ℕ) (old mid new : Option YardValue) (number : ℕ) (port : P) (after : Aside) (taken : Taken) → HandsOut shows calls 0 number old mid (Ok port) → TakesInput meaning Stands (shows port) after (calls port) taken → TakesBack 0 after mid new
+    → IsTaken meaning Stands old new number taken
+is_taken meaning Stands shows calls old mid new number port after taken h t back = record {
   input = t.input;
   messages = t.messages;
   come = t.come;
@@ -42,13 +44,13 @@ is_taken Stands shows calls old mid new number port after taken h t back = recor
   lends = lends _ shows calls old mid new number port after h t.shows back;
 }
 
-pub breaks_off : {P : Type 0} (shows : P → Aside) (calls : P → ℕ) (old mid new : Option YardValue) (number : ℕ) (port : P) (after : Aside) → HandsOut shows calls 0 number old mid (Ok port) → ((plan : Plan) → shows port ≡ untouched plan → calls port ≡ 0 → BreaksOff plan after) → TakesBack 0 after mid new
-    → LendsWhereTold BreaksOff old new
-breaks_off shows calls old mid new number port after h breaks back = lends BreaksOff shows calls old mid new number port after h breaks back
+pub breaks_off : {P : Type 0} (meaning : Meaning) (shows : P → Aside) (calls : P → ℕ) (old mid new : Option YardValue) (number : ℕ) (port : P) (after : Aside) → HandsOut shows calls 0 number old mid (Ok port) → ((plan : Plan) → shows port ≡ untouched plan → calls port ≡ 0 → BreaksOff meaning plan after) → TakesBack 0 after mid new
+    → LendsWhereTold (BreaksOff meaning) old new number
+breaks_off meaning shows calls old mid new number port after h breaks back = lends (BreaksOff meaning) shows calls old mid new number port after h breaks back
 
 -- the messages of an input have fewer than 2^64 bytes
-short : (Stands : List EntryValue → Type 0) (old new : Option YardValue) (taken : Taken) (t : IsTaken Stands old new taken) → sum_by length_of (opened ∷ t.messages) < 2 ^ 64
-short Stands old new taken t =
+short : (Stands : List EntryValue → Type 0) (old new : Option YardValue) (number : ℕ) (taken : Taken) (t : IsTaken strict Stands old new number taken) → sum_by length_of (opened ∷ t.messages) < 2 ^ 64
+short Stands old new number taken t =
     let long = walk_lengths no_peers t.input.bytes t.messages t.come.offset t.come.verdict t.come.walk in
     omega (arith, sum_by-cons length_of opened t.messages, long.bytes, long.within, t.come.within)
 
@@ -59,26 +61,26 @@ module _ {O : Type 0} {faults : O → ℕ} {told : O → Option (List ℕ)} {asi
   is_written a b text (Err e) meant status w fine fault = inr (fault, w.front)
 
   -- the input was taken, and the reply was written
-  pub concludes_replied : (Stands : List EntryValue → Type 0) (Replies : List EntryValue → List ℕ → Type 0) (old new : Option YardValue) (number : ℕ) (taken : Taken) (reply : List ℕ) (a b : O) (r : Result (Unit {0}) Failed) (status : Status) → IsTaken Stands old new taken → RepliesBy Stands Replies taken.revision reply
-      → Writes faults told aside a (reply ++ stop_line taken.cause) r b → OnOk r (status ≡ status_of taken.cause) → OnErr r (status ≡ WriteFault) → Concludes Replies old new number (told a) (told b) status
+  pub concludes_replied : (Stands : List EntryValue → Type 0) (Replies : List EntryValue → List ℕ → Type 0) (old new : Option YardValue) (number : ℕ) (taken : Taken) (reply : List ℕ) (a b : O) (r : Result (Unit {0}) Failed) (status : Status) → IsTaken strict Stands old new number taken → RepliesBy Stands Replies taken.revision reply
+      → Writes faults told aside a (reply ++ stop_line taken.cause) r b → OnOk r (status ≡ status_of taken.cause) → OnErr r (status ≡ WriteFault) → Concludes strict Replies old new number (told a) (told b) status
   concludes_replied Stands Replies old new number taken reply a b r status t replies w fine fault = record {
     meant = status_of taken.cause;
     text = reply ++ stop_line taken.cause;
-    runs = replied t.input t.messages taken.cause reply t.come t.no_further (replies (opened ∷ t.messages) t.noted t.count (short Stands old new taken t)) t.lends;
+    runs = replied t.input t.messages taken.cause reply t.come t.no_further (replies (opened ∷ t.messages) t.noted t.count (short Stands old new number taken t)) t.lends;
     written = is_written a b (reply ++ stop_line taken.cause) r (status_of taken.cause) status w fine fault;
   }
 
 -- the port was refused, or there was no memory: nothing is written
-pub concludes_unread : (Stands : List EntryValue → Type 0) (Replies : List EntryValue → List ℕ → Type 0) (old new : Option YardValue) (number : ℕ) (told : Option (List ℕ)) (status : Status) → FromYard Stands old new number (Err status) → Concludes Replies old new number told told status
-concludes_unread Stands Replies old new number told YardFault from = record { meant = YardFault; text = []; runs = refused from; written = inl (refl, appends_none told) }
-concludes_unread Stands Replies old new number told NoMemory from = record { meant = NoMemory; text = []; runs = starved from; written = inl (refl, appends_none told) }
-concludes_unread Stands Replies old new number told Done from = absurd from
-concludes_unread Stands Replies old new number told Stopped from = absurd from
-concludes_unread Stands Replies old new number told Usage from = absurd from
-concludes_unread Stands Replies old new number told ReadFault from = absurd from
-concludes_unread Stands Replies old new number told WriteFault from = absurd from
+pub concludes_unread : (meaning : Meaning) (Stands : List EntryValue → Type 0) (Replies : List EntryValue → List ℕ → Type 0) (old new : Option YardValue) (number : ℕ) (told : Option (List ℕ)) (status : Status) → FromYard meaning Stands old new number (Err status) → Concludes meaning Replies old new number told told status
+concludes_unread meaning Stands Replies old new number told YardFault from = record { meant = YardFault; text = []; runs = refused from; written = inl (refl, appends_none told) }
+concludes_unread meaning Stands Replies old new number told NoMemory from = record { meant = NoMemory; text = []; runs = starved from; written = inl (refl, appends_none told) }
+concludes_unread meaning Stands Replies old new number told Done from = absurd from
+concludes_unread meaning Stands Replies old new number told Stopped from = absurd from
+concludes_unread meaning Stands Replies old new number told Usage from = absurd from
+concludes_unread meaning Stands Replies old new number told ReadFault from = absurd from
+concludes_unread meaning Stands Replies old new number told WriteFault from = absurd from
 
 -- the words are a command
-pub answers_commanded : (command : Command) (words : List (List ℕ)) (old new : Option YardValue) (number calls : ℕ) (told0 told1 : Option (List ℕ)) (status : Status) → IsCommand command words → calls ≡ one_more number → Concludes (IsReply command) old new number told0 told1 status
-    → Answers words old new number calls told0 told1 status
-answers_commanded command words old new number calls told0 told1 status is counted c = rw counted (record { meant = c.meant; text = c.text; means = commanded command c.meant c.text is c.runs; written = c.written })
+pub answers_commanded : (meaning : Meaning) (command : Command) (words : List (List ℕ)) (old new : Option YardValue) (number calls : ℕ) (told0 told1 : Option (List ℕ)) (status : Status) → IsCommand command words → calls ≡ one_more number → Concludes meaning (IsReply command) old new number told0 told1 status
+    → Answers meaning words old new number calls told0 told1 status
+answers_commanded meaning command words old new number calls told0 told1 status is counted c = rw counted (record { meant = c.meant; text = c.text; means = commanded command c.meant c.text is c.runs; written = c.written })

@@ -6,9 +6,7 @@ use Rattle.std.proofs.lemmas.List.{get_or_append_left, nil_from_length, take-app
 use Rattle.std.proofs.Math.Seq.{take-append-add}
 use Rattle.bmp_specs.specs.Frame.{IsFrame, HasHeader, IsInRange, NeedsMore, stated}
 use Rattle.bmp_specs.specs.Life.{IsUndecided, IsReadNoFurther, most_read}
-use Rattle.bmp_specs.specs.MessageBody.{no_peers}
-use Rattle.bmp_specs.specs.Meaning.{WalksBy}
-use Rattle.bmp_specs.specs.MessageEffects.{IsMessageEntry, strict}
+use Rattle.bmp_specs.specs.Meaning.{Meaning, WalksBy}
 use Rattle.bmp_specs.specs.Values.{EntryValue}
 use Rattle.bmp_specs.specs.Walk.{Verdict, whole, more, terminated, broken, Step, Stops, Walks, termination}
 use Rattle.bmp_specs.proofs.FrameCode.{stated-append}
@@ -88,15 +86,15 @@ module _ {S M : Type 0} (Is : S → ℕ → List ℕ → M → S → Type 0) whe
       ]
 
 -- a read of at most so many bytes, after bytes whose walk isn't decided
-pub read_no_further : (bytes : List ℕ) (ms : List EntryValue) (offset : ℕ) (v : Verdict) → WalksBy strict bytes ms offset v → IsUndecided v → (piece : List ℕ) → length piece ≤ most_read → IsReadNoFurther strict (bytes ++ piece)
-read_no_further bytes ms offset v w u piece short =
+pub read_no_further : (meaning : Meaning) (bytes : List ℕ) (ms : List EntryValue) (offset : ℕ) (v : Verdict) → WalksBy meaning bytes ms offset v → IsUndecided v → (piece : List ℕ) → length piece ≤ most_read → IsReadNoFurther meaning (bytes ++ piece)
+read_no_further meaning bytes ms offset v w u piece short =
     let n : ℕ = length (bytes ++ piece) - most_read in
     let within : n ≤ length bytes = omega (arith, short, length-append bytes piece) in
-    let front = waits_front IsMessageEntry no_peers bytes ms offset v w u n in
+    let front = waits_front meaning.Means meaning.start bytes ms offset v w u n in
     record {
       messages = front.messages;
       offset = front.offset;
       verdict = front.verdict;
-      walk = subst (λ (l : List ℕ). WalksBy strict l front.messages front.offset front.verdict) (sym (take-append-le n bytes piece within)) front.walk;
+      walk = subst (λ (l : List ℕ). WalksBy meaning l front.messages front.offset front.verdict) (sym (take-append-le n bytes piece within)) front.walk;
       undecided = front.undecided;
     }

@@ -2,7 +2,7 @@
 use Rattle.std.proofs.Common.{◌≡◌, ◌≢◌, ℕ, zero, suc, ◌+◌, ◌<◌, ◌≤◌, length, take, List, [], ◌∷◌, ◌++◌, Option, Some, None, Bool, Result, Ok, Err, refl, ap, sym, ◌∙◌, subst, append_assoc, append-nil, length-append, length-take, arith, if◌then◌else◌}
 use Rattle.std.proofs.Math.Dec.{eqb-suc-zero}
 use borrow.Author.Count.{below_more}
-use Rattle.std.specs.Prelude.{IfSome, Contains, OnErr}
+use Rattle.std.specs.Prelude.{IsTrue, IfSome, Contains, OnErr}
 use Rattle.std.specs.Io.KnownBytes.{Consumes, Keeps}
 use Rattle.bmp_specs.specs.declared.causes.Cause.{Cause}
 use Rattle.bmp_specs.specs.declared.causes.Cause.TheVariants.{ReadFault, Full}
@@ -54,8 +54,12 @@ given_more_twice (g ∷ h ∷ i ∷ gs) s t l m = ap (λ (k : List Given). g ∷
 pub record Goes (first now : Aside) (calls0 calls : ℕ) (taken : ℕ) : Type 0 where
   pub bytes : List ℕ
   pub plan : now.plan ≡ first.plan
+  pub coming : now.coming ≡ first.coming
   pub rest : Consumes first.rest now.rest bytes
   pub given : GivesMore first.given now.given bytes gave
+  pub opened : now.opened ≡ first.opened
+  pub closed : now.closed ≡ first.closed
+  pub is_open : IsTrue now.is_open
   pub refused : now.refused ≡ first.refused
   pub taken_is : now.taken ≡ taken
   pub count : length bytes ≡ taken
@@ -69,7 +73,7 @@ gives_none None calls e = tt
 gives_none (Some p) calls e = record { most = omega (arith, e); fewest = omega arith; calm = λ k below fails. absurd (omega (arith, e, below)) }
 
 pub goes_none : (a : Aside) (calls : ℕ) → IsNew a → Goes a a calls calls 0
-goes_none a calls n = record { bytes = []; plan = refl; rest = consumes_none a.rest; given = n.fresh; refused = refl; taken_is = n.none; count = refl; planned = gives_none a.plan calls; open_faults = refl; read_faults = refl }
+goes_none a calls n = record { bytes = []; plan = refl; coming = refl; rest = consumes_none a.rest; given = n.fresh; opened = refl; closed = refl; is_open = n.is_open; refused = refl; taken_is = n.none; count = refl; planned = gives_none a.plan calls; open_faults = refl; read_faults = refl }
 
 given_then : (a b c : Option (List Given)) (s buf : List ℕ) (n : ℕ) → GivesMore a b s gave → GivesBytes b c (Ok n) buf → GivesMore a c (s ++ take n buf) (read_of n)
 given_then None b c s buf n p q = subst (λ (o : Option (List Given)). GivesBytes o c (Ok n) buf) p q
@@ -114,8 +118,12 @@ pub goes_more : (a0 a b : Aside) (calls0 c d n m : ℕ) (buf : List ℕ) → Goe
 goes_more a0 a b calls0 c d n m buf g r p some within room size = record {
   bytes = g.bytes ++ take m buf;
   plan = r.plan ∙ g.plan;
+  coming = r.coming ∙ g.coming;
   rest = consumes_then a0.rest a.rest b.rest g.bytes (take m buf) g.rest r.rest.0;
   given = subst (λ (l : LastRead). GivesMore a0.given b.given (g.bytes ++ take m buf) l) (read_some m some) (given_then a0.given a.given b.given g.bytes buf m g.given r.given);
+  opened = r.opened ∙ g.opened;
+  closed = r.closed ∙ g.closed;
+  is_open = r.is_open ∙ g.is_open;
   refused = r.refused ∙ g.refused;
   taken_is = r.taken ∙ ap (λ (k : ℕ). k + m) g.taken_is;
   count = omega (arith, length-append g.bytes (take m buf), length-take m buf, g.count, within);
@@ -149,11 +157,11 @@ exact Stands bytes messages offset revision v within w noted = let long = walk_l
 
 -- a walk that waits was read no further
 waits : (bytes : List ℕ) (messages : List EntryValue) (offset rest : ℕ) → WalksBy strict bytes messages offset (verdict_with rest) → IsReadNoFurther strict bytes
-waits bytes messages offset rest w = subst (λ (l : List ℕ). IsReadNoFurther strict l) (append-nil bytes) (read_no_further bytes messages offset (verdict_with rest) w (undecided rest) [] (omega arith))
+waits bytes messages offset rest w = subst (λ (l : List ℕ). IsReadNoFurther strict l) (append-nil bytes) (read_no_further strict bytes messages offset (verdict_with rest) w (undecided rest) [] (omega arith))
 
 module _ (Stands : List EntryValue → Type 0) (a0 a : Aside) (calls0 c n : ℕ) (walk : WalkValue) (revision : ℕ) (t : Taking Stands a0 a calls0 c n walk revision) where
   -- a read gave none
-  pub takes_end : (b : Aside) (d' : ℕ) (buf : List ℕ) (taken : Taken) → Reads a b (Ok 0) buf → AsPlanned a.plan c d' (Ok 0) → 0 < length buf → n < most_taken → taken ≡ record { cause = cause_at_end (rest_of walk) walk.offset; revision = revision } → Takes Stands a0 b calls0 taken
+  pub takes_end : (b : Aside) (d' : ℕ) (buf : List ℕ) (taken : Taken) → Reads a b (Ok 0) buf → AsPlanned a.plan c d' (Ok 0) → 0 < length buf → n < most_taken → taken ≡ record { cause = cause_at_end (rest_of walk) walk.offset; revision = revision } → Takes strict Stands a0 b calls0 taken
   takes_end b d' buf taken r p some room is =
       let g = t.goes in
       let d = t.drained in
@@ -164,8 +172,11 @@ module _ (Stands : List EntryValue → Type 0) (a0 a : Aside) (calls0 c n : ℕ)
         messages = d.messages;
         took = record {
           plan = r.plan ∙ g.plan;
+          coming = r.coming ∙ g.coming;
           rest = subst (λ (l : List ℕ). Consumes a0.rest b.rest l) same (consumes_then a0.rest a.rest b.rest g.bytes (take 0 buf) g.rest r.rest.0);
           given = subst (λ (l : List ℕ). GivesMore a0.given b.given l gave_none) same (given_then a0.given a.given b.given g.bytes buf 0 g.given r.given);
+          opened = r.opened ∙ g.opened;
+          closed = r.closed ∙ g.closed;
           refused = r.refused ∙ g.refused;
           within = omega (arith, g.count, room);
           no_further = waits g.bytes d.messages walk.offset (rest_of walk) d.walks;
@@ -174,14 +185,14 @@ module _ (Stands : List EntryValue → Type 0) (a0 a : Aside) (calls0 c n : ℕ)
           open_faults = r.calm ∙ g.open_faults;
           read_faults = r.cause.fine ∙ g.read_faults;
         };
-        come = come_end g.bytes d.messages walk.offset (rest_of walk) (omega (arith, g.count, room)) d.walks;
+        come = come_end strict g.bytes d.messages walk.offset (rest_of walk) (omega (arith, g.count, room)) d.walks;
         noted = d.noted.noted;
         count = exact Stands g.bytes d.messages walk.offset revision (verdict_with (rest_of walk)) (omega (arith, g.count, room)) d.walks d.noted;
         early = λ e. absurd (not_early (rest_of walk) walk.offset e);
       })
 
   -- a read failed
-  pub takes_fault : (b : Aside) (d' : ℕ) (buf : List ℕ) (e : Failed) (taken : Taken) → Reads a b (Err e) buf → AsPlanned a.plan c d' (Err e) → n < most_taken → taken ≡ record { cause = ReadFault n; revision = revision } → Takes Stands a0 b calls0 taken
+  pub takes_fault : (b : Aside) (d' : ℕ) (buf : List ℕ) (e : Failed) (taken : Taken) → Reads a b (Err e) buf → AsPlanned a.plan c d' (Err e) → n < most_taken → taken ≡ record { cause = ReadFault n; revision = revision } → Takes strict Stands a0 b calls0 taken
   takes_fault b d' buf e taken r p room is =
       let g = t.goes in
       let d = t.drained in
@@ -192,8 +203,11 @@ module _ (Stands : List EntryValue → Type 0) (a0 a : Aside) (calls0 c n : ℕ)
         messages = d.messages;
         took = record {
           plan = r.plan ∙ g.plan;
+          coming = r.coming ∙ g.coming;
           rest = subst (λ (l : List ℕ). Consumes a0.rest b.rest l) same (consumes_then a0.rest a.rest b.rest g.bytes [] g.rest (keeps_consumes a.rest b.rest r.rest));
           given = subst (λ (l : List ℕ). GivesMore a0.given b.given l failed) same (given_failed a0.given a.given b.given g.bytes buf e g.given r.given);
+          opened = r.opened ∙ g.opened;
+          closed = r.closed ∙ g.closed;
           refused = r.refused ∙ g.refused;
           within = omega (arith, g.count, room);
           no_further = waits g.bytes d.messages walk.offset (rest_of walk) d.walks;
@@ -202,14 +216,14 @@ module _ (Stands : List EntryValue → Type 0) (a0 a : Aside) (calls0 c n : ℕ)
           open_faults = r.calm ∙ g.open_faults;
           read_faults = subst (λ (k : ℕ). Rose k b.read_faults) g.read_faults r.cause.failed;
         };
-        come = come_fault g.bytes d.messages walk.offset (rest_of walk) (omega (arith, g.count, room)) d.walks;
+        come = come_fault strict g.bytes d.messages walk.offset (rest_of walk) (omega (arith, g.count, room)) d.walks;
         noted = d.noted.noted;
         count = exact Stands g.bytes d.messages walk.offset revision (verdict_with (rest_of walk)) (omega (arith, g.count, room)) d.walks d.noted;
         early = λ e. absurd e;
       })
 
   -- the limit of one connection was reached
-  pub takes_full : (taken : Taken) → n ≡ most_taken → taken ≡ record { cause = Full; revision = revision } → Takes Stands a0 a calls0 taken
+  pub takes_full : (taken : Taken) → n ≡ most_taken → taken ≡ record { cause = Full; revision = revision } → Takes strict Stands a0 a calls0 taken
   takes_full taken full is =
       let g = t.goes in
       let d = t.drained in
@@ -219,8 +233,11 @@ module _ (Stands : List EntryValue → Type 0) (a0 a : Aside) (calls0 c n : ℕ)
         messages = d.messages;
         took = record {
           plan = g.plan;
+          coming = g.coming;
           rest = g.rest;
           given = g.given;
+          opened = g.opened;
+          closed = g.closed;
           refused = g.refused;
           within = omega (arith, g.count, full);
           no_further = waits g.bytes d.messages walk.offset (rest_of walk) d.walks;
@@ -229,7 +246,7 @@ module _ (Stands : List EntryValue → Type 0) (a0 a : Aside) (calls0 c n : ℕ)
           open_faults = g.open_faults;
           read_faults = g.read_faults;
         };
-        come = come_full g.bytes d.messages walk.offset (rest_of walk) (g.count ∙ full) d.walks;
+        come = come_full strict g.bytes d.messages walk.offset (rest_of walk) (g.count ∙ full) d.walks;
         noted = d.noted.noted;
         count = exact Stands g.bytes d.messages walk.offset revision (verdict_with (rest_of walk)) (omega (arith, g.count, full)) d.walks d.noted;
         early = λ e. absurd e;
@@ -247,7 +264,7 @@ module _ (Stands : List EntryValue → Type 0) (a0 a : Aside) (calls0 c n : ℕ)
 
   -- the walk ended in the bytes of a read
   pub takes_early : (Next : List EntryValue → Type 0) (b : Aside) (d' m : ℕ) (buf : List ℕ) (cause : Cause) (now : ℕ) (taken : Taken) → Reads a b (Ok m) buf → AsPlanned a.plan c d' (Ok m) → m ≢ 0 → m ≤ length buf → n + m ≤ most_taken → m ≤ most_read
-      → IsEnded Next (t.goes.bytes ++ take m buf) now cause → taken ≡ record { cause = cause; revision = now } → Takes Next a0 b calls0 taken
+      → IsEnded Next (t.goes.bytes ++ take m buf) now cause → taken ≡ record { cause = cause; revision = now } → Takes strict Next a0 b calls0 taken
   unfolding goes_more
   takes_early Next b d' m buf cause now taken r p some within room size ended is =
       let g = goes_more a0 a b calls0 c d' n m buf t.goes r p some within room size in
@@ -259,11 +276,14 @@ module _ (Stands : List EntryValue → Type 0) (a0 a : Aside) (calls0 c n : ℕ)
         messages = ended.messages;
         took = record {
           plan = g.plan;
+          coming = g.coming;
           rest = g.rest;
           given = g.given;
+          opened = g.opened;
+          closed = g.closed;
           refused = g.refused;
           within = long;
-          no_further = read_no_further t.goes.bytes t.drained.messages walk.offset (verdict_with (rest_of walk)) t.drained.walks (undecided (rest_of walk)) (take m buf) (omega (arith, size, length-take m buf));
+          no_further = read_no_further strict t.goes.bytes t.drained.messages walk.offset (verdict_with (rest_of walk)) t.drained.walks (undecided (rest_of walk)) (take m buf) (omega (arith, size, length-take m buf));
           end = λ other. absurd (cc other);
           planned = λ none. last_gave a0.plan d' g.bytes (g.planned none);
           open_faults = g.open_faults;
@@ -276,18 +296,21 @@ module _ (Stands : List EntryValue → Type 0) (a0 a : Aside) (calls0 c n : ℕ)
       })
 
   -- want of memory came behind a read that gave bytes
-  pub breaks : (b : Aside) (d' m : ℕ) (buf : List ℕ) → Reads a b (Ok m) buf → AsPlanned a.plan c d' (Ok m) → m ≢ 0 → m ≤ length buf → n + m ≤ most_taken → m ≤ most_read → (bytes : List ℕ) × TakesBytes a0 b calls0 bytes gave
+  pub breaks : (b : Aside) (d' m : ℕ) (buf : List ℕ) → Reads a b (Ok m) buf → AsPlanned a.plan c d' (Ok m) → m ≢ 0 → m ≤ length buf → n + m ≤ most_taken → m ≤ most_read → (bytes : List ℕ) × TakesBytes strict a0 b calls0 bytes gave
   unfolding goes_more
   breaks b d' m buf r p some within room size =
       let g = goes_more a0 a b calls0 c d' n m buf t.goes r p some within room size in (
         g.bytes,
         record {
           plan = g.plan;
+          coming = g.coming;
           rest = g.rest;
           given = g.given;
+          opened = g.opened;
+          closed = g.closed;
           refused = g.refused;
           within = omega (arith, g.count, room);
-          no_further = read_no_further t.goes.bytes t.drained.messages walk.offset (verdict_with (rest_of walk)) t.drained.walks (undecided (rest_of walk)) (take m buf) (omega (arith, size, length-take m buf));
+          no_further = read_no_further strict t.goes.bytes t.drained.messages walk.offset (verdict_with (rest_of walk)) t.drained.walks (undecided (rest_of walk)) (take m buf) (omega (arith, size, length-take m buf));
           end = λ other. absurd (cc other);
           planned = λ none. last_gave a0.plan d' g.bytes (g.planned none);
           open_faults = g.open_faults;

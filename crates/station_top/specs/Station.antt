@@ -5,7 +5,7 @@ use Rattle.bmp_specs.specs.declared.causes.Cause.{Cause}
 use Rattle.bmp_specs.specs.Check.{check_lines}
 use Rattle.bmp_specs.specs.Lines.{stop_line, usage_line}
 use Rattle.bmp_specs.specs.Life.{IsReadNoFurther}
-use Rattle.bmp_specs.specs.MessageEffects.{strict}
+use Rattle.bmp_specs.specs.Meaning.{Meaning}
 use Rattle.bmp_specs.specs.Query.{table}
 use Rattle.bmp_specs.specs.QueryReply as query
 use Rattle.bmp_specs.specs.Values.{EntryValue, opened}
@@ -28,9 +28,10 @@ abbrev pub IsReply : Command → List EntryValue → List ℕ → Type 0
 IsReply (ReplayTable select) entries bytes = query.IsReply (table select) (entries ∷ []) bytes
 IsReply Check entries bytes = bytes ≡ check_lines entries
 
--- The yard handed out the first port that waits under the number 0, and took it back: what it showed then stands in this
--- relation to its plan.
-pub record Lends (Is : Plan → Aside → Type 0) (old : YardValue) (new : Option YardValue) : Type 0 where
+-- The yard, whose plan doesn't fail the call of this number, handed out the first port that waits under the number 0, and
+-- took it back: what it showed then stands in this relation to its plan.
+pub record Lends (Is : Plan → Aside → Type 0) (old : YardValue) (new : Option YardValue) (number : ℕ) : Type 0 where
+  pub planned : Contains old.fails number → ⊥
   pub plan : Plan
   pub waiting : List Plan
   pub shows : Aside
@@ -39,9 +40,9 @@ pub record Lends (Is : Plan → Aside → Type 0) (old : YardValue) (new : Optio
   pub is : Is plan shows
 
 -- the same of a yard that tells
-abbrev pub LendsWhereTold : (Plan → Aside → Type 0) → Option YardValue → Option YardValue → Type 0
-LendsWhereTold Is None new = new ≡ None
-LendsWhereTold Is (Some old) new = Lends Is old new
+abbrev pub LendsWhereTold : (Plan → Aside → Type 0) → Option YardValue → Option YardValue → ℕ → Type 0
+LendsWhereTold Is None new number = new ≡ None
+LendsWhereTold Is (Some old) new number = Lends Is old new number
 
 -- the yard refused the port: its plan fails the call of this number, or it has nothing to hand out
 abbrev pub Refuses : Option YardValue → Option YardValue → ℕ → Type 0
@@ -50,42 +51,42 @@ Refuses (Some old) new number = (Contains old.fails number ⊎ (old.ports ≡ []
 
 -- What a command comes to by the yard, before anything is written: the status that is meant, and the text. Replies says
 -- which bytes are its reply on some entries.
-pub data Runs (Replies : List EntryValue → List ℕ → Type 0) (old new : Option YardValue) (number : ℕ) : Status → List ℕ → Type 0 where
+pub data Runs (meaning : Meaning) (Replies : List EntryValue → List ℕ → Type 0) (old new : Option YardValue) (number : ℕ) : Status → List ℕ → Type 0 where
   -- the yard refused the port: nothing is written
-  refused : Refuses old new number → Runs Replies old new number YardFault []
+  refused : Refuses old new number → Runs meaning Replies old new number YardFault []
   -- the input was taken, and no further than its walk goes: the reply on its opening and its messages, then the stop
   -- line, and the port is given back
-  replied : (input : Given) (messages : List EntryValue) (cause : Cause) (reply : List ℕ) → HasCome input messages cause → IsReadNoFurther strict input.bytes → Replies (opened ∷ messages) reply
-      → LendsWhereTold (λ plan shows. Comes plan shows input messages cause) old new → Runs Replies old new number (status_of cause) (reply ++ stop_line cause)
+  replied : (input : Given) (messages : List EntryValue) (cause : Cause) (reply : List ℕ) → HasCome meaning input messages cause → IsReadNoFurther meaning input.bytes → Replies (opened ∷ messages) reply
+      → LendsWhereTold (λ plan shows. Comes meaning plan shows input messages cause) old new number → Runs meaning Replies old new number (status_of cause) (reply ++ stop_line cause)
   -- want of memory while the input was taken: nothing is written, and the port is given back, with what it gave until then
-  starved : LendsWhereTold BreaksOff old new → Runs Replies old new number NoMemory []
+  starved : LendsWhereTold (BreaksOff meaning) old new number → Runs meaning Replies old new number NoMemory []
 
 -- What a call comes to by its words and the yard, before anything is written: how many calls of the yard were made then, the
 -- status that is meant, and the text.
-pub data Means (words : List (List ℕ)) (old new : Option YardValue) (number : ℕ) : ℕ → Status → List ℕ → Type 0 where
+pub data Means (meaning : Meaning) (words : List (List ℕ)) (old new : Option YardValue) (number : ℕ) : ℕ → Status → List ℕ → Type 0 where
   -- the words are no command: the usage line, and the yard is asked for nothing
-  usage : ((command : Command) → IsCommand command words → ⊥) → new ≡ old → Means words old new number number Usage usage_line
+  usage : ((command : Command) → IsCommand command words → ⊥) → new ≡ old → Means meaning words old new number number Usage usage_line
   -- want of memory while the words were read: nothing is written, and the yard is asked for nothing
-  unread : TakeMemory words → new ≡ old → Means words old new number number NoMemory []
+  unread : TakeMemory words → new ≡ old → Means meaning words old new number number NoMemory []
   -- they are this command
-  commanded : (command : Command) (status : Status) (text : List ℕ) → IsCommand command words → Runs (IsReply command) old new number status text → Means words old new number (one_more number) status text
+  commanded : (command : Command) (status : Status) (text : List ℕ) → IsCommand command words → Runs meaning (IsReply command) old new number status text → Means meaning words old new number (one_more number) status text
 
 -- The text was written and the status is the one that is meant; or a write failed, and a front of the text was written.
 abbrev pub IsWritten : Option (List ℕ) → Option (List ℕ) → List ℕ → Status → Status → Type 0
 IsWritten old new text meant status = ((status ≡ meant) × Appends old new text) ⊎ ((status ≡ WriteFault) × AppendsFront old text new)
 
 -- what a command answers, and what it wrote
-pub record Concludes (Replies : List EntryValue → List ℕ → Type 0) (old new : Option YardValue) (number : ℕ) (told0 told1 : Option (List ℕ)) (status : Status) : Type 0 where
+pub record Concludes (meaning : Meaning) (Replies : List EntryValue → List ℕ → Type 0) (old new : Option YardValue) (number : ℕ) (told0 told1 : Option (List ℕ)) (status : Status) : Type 0 where
   pub meant : Status
   pub text : List ℕ
-  pub runs : Runs Replies old new number meant text
+  pub runs : Runs meaning Replies old new number meant text
   pub written : IsWritten told0 told1 text meant status
 
 -- what a call answers, and what it wrote
-pub record Answers (words : List (List ℕ)) (old new : Option YardValue) (number calls : ℕ) (told0 told1 : Option (List ℕ)) (status : Status) : Type 0 where
+pub record Answers (meaning : Meaning) (words : List (List ℕ)) (old new : Option YardValue) (number calls : ℕ) (told0 told1 : Option (List ℕ)) (status : Status) : Type 0 where
   pub meant : Status
   pub text : List ℕ
-  pub means : Means words old new number calls meant text
+  pub means : Means meaning words old new number calls meant text
   pub written : IsWritten told0 told1 text meant status
 
 -- the status is this one exactly where the count rose
@@ -95,21 +96,21 @@ pub record IsCause (before now : ℕ) (status fault : Status) : Type 0 where
 
 -- What the yard and its port came to: how the input was taken, with what the ledger then stands for, or the status that says
 -- why it was not.
-pub record IsTaken (Stands : List EntryValue → Type 0) (old new : Option YardValue) (taken : Taken) : Type 0 where
+pub record IsTaken (meaning : Meaning) (Stands : List EntryValue → Type 0) (old new : Option YardValue) (number : ℕ) (taken : Taken) : Type 0 where
   pub input : Given
   pub messages : List EntryValue
-  pub come : HasCome input messages taken.cause
+  pub come : HasCome meaning input messages taken.cause
   pub noted : Stands (opened ∷ messages)
   pub count : taken.revision ≡ length (opened ∷ messages)
-  pub no_further : IsReadNoFurther strict input.bytes
-  pub lends : LendsWhereTold (λ plan shows. Comes plan shows input messages taken.cause) old new
+  pub no_further : IsReadNoFurther meaning input.bytes
+  pub lends : LendsWhereTold (λ plan shows. Comes meaning plan shows input messages taken.cause) old new number
 
-abbrev pub FromYard : (List EntryValue → Type 0) → Option YardValue → Option YardValue → ℕ → Result Taken Status → Type 0
-FromYard Stands old new number (Ok taken) = IsTaken Stands old new taken
-FromYard Stands old new number (Err YardFault) = Refuses old new number
-FromYard Stands old new number (Err NoMemory) = LendsWhereTold BreaksOff old new
-FromYard Stands old new number (Err Done) = ⊥
-FromYard Stands old new number (Err Stopped) = ⊥
-FromYard Stands old new number (Err Usage) = ⊥
-FromYard Stands old new number (Err ReadFault) = ⊥
-FromYard Stands old new number (Err WriteFault) = ⊥
+abbrev pub FromYard : Meaning → (List EntryValue → Type 0) → Option YardValue → Option YardValue → ℕ → Result Taken Status → Type 0
+FromYard meaning Stands old new number (Ok taken) = IsTaken meaning Stands old new number taken
+FromYard meaning Stands old new number (Err YardFault) = Refuses old new number
+FromYard meaning Stands old new number (Err NoMemory) = LendsWhereTold (BreaksOff meaning) old new number
+FromYard meaning Stands old new number (Err Done) = ⊥
+FromYard meaning Stands old new number (Err Stopped) = ⊥
+FromYard meaning Stands old new number (Err Usage) = ⊥
+FromYard meaning Stands old new number (Err ReadFault) = ⊥
+FromYard meaning Stands old new number (Err WriteFault) = ⊥

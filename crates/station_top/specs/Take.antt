@@ -1,10 +1,10 @@
 -- What taking a connection does to a port.
-use Rattle.std.specs.Prelude.{◌≡◌, ◌↔◌, false, ℕ, ◌*◌, ◌<◌, ◌≤◌, ◌==◌, ◌++◌, ◌⊎◌, List, [], ◌∷◌, Option, Some, None, IfSome, Contains, length, take, if◌then◌else◌}
+use Rattle.std.specs.Prelude.{◌≡◌, ◌↔◌, IsTrue, true, false, ℕ, ◌*◌, ◌<◌, ◌≤◌, ◌==◌, ◌++◌, ◌⊎◌, List, [], ◌∷◌, Option, Some, None, IfSome, Contains, length, take, drop, if◌then◌else◌}
 use Rattle.std.specs.Io.KnownBytes.{Consumes, IsAtEnd}
 use Rattle.bmp_specs.specs.declared.causes.Cause.{Cause}
 use Rattle.bmp_specs.specs.declared.causes.Cause.TheVariants.{Ended, Terminated, CutShort, Broken, ReadFault, Full}
 use Rattle.bmp_specs.specs.Life.{LastRead, gave, gave_none, failed, most_taken, most_read, IsReadNoFurther}
-use Rattle.bmp_specs.specs.MessageEffects.{strict}
+use Rattle.bmp_specs.specs.Meaning.{Meaning}
 use Rattle.bmp_specs.specs.Values.{EntryValue, opened}
 use Rattle.wire_io.specs.Aside.{Aside, Given, Plan}
 use Rattle.wire_io.specs.Faults.{Rose}
@@ -17,8 +17,9 @@ abbrev pub GivesMore : Option (List Given) → Option (List Given) → List ℕ 
 GivesMore None new bytes last = new ≡ None
 GivesMore (Some old) new bytes last = new ≡ Some (given_more old bytes last)
 
--- of the present connection no byte was given yet
+-- the present connection is open, and no byte of it was given yet
 pub record IsNew (a : Aside) : Type 0 where
+  pub is_open : IsTrue a.is_open
   pub none : a.taken ≡ 0
   pub fresh : GivesMore a.given a.given [] gave
 
@@ -60,28 +61,31 @@ IsEarly (ReadFault offset) = ⊥
 IsEarly Full = ⊥
 
 -- the present connection gave these bytes, its last read went so, and it was read no further than its walk goes
-pub record TakesBytes (old new : Aside) (calls : ℕ) (bytes : List ℕ) (last : LastRead) : Type 0 where
+pub record TakesBytes (meaning : Meaning) (old new : Aside) (calls : ℕ) (bytes : List ℕ) (last : LastRead) : Type 0 where
   pub plan : new.plan ≡ old.plan
+  pub coming : new.coming ≡ old.coming
   pub rest : Consumes old.rest new.rest bytes
   pub given : GivesMore old.given new.given bytes last
+  pub opened : new.opened ≡ old.opened
+  pub closed : new.closed ≡ old.closed
   pub refused : new.refused ≡ old.refused
   pub within : length bytes ≤ most_taken
-  pub no_further : IsReadNoFurther strict bytes
+  pub no_further : IsReadNoFurther meaning bytes
   pub end : last ≡ gave_none → IsAtEnd new.rest
   pub planned : calls ≡ 0 → IfSome old.plan (λ plan. ReadsAsPlanned plan bytes last)
   pub open_faults : new.open_faults ≡ old.open_faults
   pub read_faults : CountsLast old.read_faults new.read_faults last
 
 -- the present connection was taken to its end, and the ledger stands for its opening and its messages
-pub record Takes (Stands : List EntryValue → Type 0) (old new : Aside) (calls : ℕ) (taken : Taken) : Type 0 where
+pub record Takes (meaning : Meaning) (Stands : List EntryValue → Type 0) (old new : Aside) (calls : ℕ) (taken : Taken) : Type 0 where
   pub bytes : List ℕ
   pub last : LastRead
   pub messages : List EntryValue
-  pub took : TakesBytes old new calls bytes last
-  pub come : HasCome (record { bytes = bytes; last = last }) messages taken.cause
+  pub took : TakesBytes meaning old new calls bytes last
+  pub come : HasCome meaning (record { bytes = bytes; last = last }) messages taken.cause
   pub noted : Stands (opened ∷ messages)
   pub count : taken.revision ≡ length (opened ∷ messages)
-  pub early : IsEarly taken.cause → (after : List ℕ) (at : LastRead) → length (bytes ++ after) ≤ most_taken → HasCome (record { bytes = bytes ++ after; last = at }) messages taken.cause
+  pub early : IsEarly taken.cause → (after : List ℕ) (at : LastRead) → length (bytes ++ after) ≤ most_taken → HasCome meaning (record { bytes = bytes ++ after; last = at }) messages taken.cause
 
 -- the bytes of the first connection, none where there is no connection
 abbrev pub first_of : List (List ℕ) → List ℕ
@@ -93,16 +97,25 @@ first_of (bytes ∷ more) = bytes
 -- that connection alone: they are those of its first 2^46 bytes, and then its end. So many reads gave these bytes; a
 -- failed read is the one after them, and the first that the plan fails. A fault of an opening is counted exactly where no
 -- connection was given, nor was it answered that there is none; a fault of a read, exactly where one of its reads failed.
-pub record Comes (plan : Plan) (shows : Aside) (input : Given) (messages : List EntryValue) (cause : Cause) : Type 0 where
+-- The connection that was given was closed once, and after its last read, since a port is read only while its connection is
+-- open. It was answered that there is none only where the plan has none.
+pub record Comes (meaning : Meaning) (plan : Plan) (shows : Aside) (input : Given) (messages : List EntryValue) (cause : Cause) : Type 0 where
   pub shown : shows.plan ≡ Some plan
   pub given : List Given
   pub given_is : shows.given ≡ Some given
   pub one : length given ≤ 1
+  pub some : length given ≤ length plan.connections
+  pub coming : shows.coming ≡ Some (drop (length given) plan.connections)
+  pub opened : shows.opened ≡ length given
+  pub closed : shows.closed ≡ length given
+  pub is_closed : shows.is_open ≡ false
+  pub asked : 0 < length given → shows.refused ≡ false
+  pub none : IsTrue shows.refused → plan.connections ≡ []
   pub input_is : input ≡ input_of given shows.refused
   pub rest : List ℕ
   pub front : first_of plan.connections ≡ input.bytes ++ rest
   pub whole : input.last ≡ gave_none → rest ≡ []
-  pub steady : plan.fails ≡ [] → HasCome (record { bytes = take most_taken (first_of plan.connections); last = gave_none }) messages cause
+  pub steady : plan.fails ≡ [] → HasCome meaning (record { bytes = take most_taken (first_of plan.connections); last = gave_none }) messages cause
   pub reads : ℕ
   pub gives : Gives plan reads input.bytes
   pub next : 0 < length given → GoesAsPlanned plan reads input.last
@@ -110,15 +123,22 @@ pub record Comes (plan : Plan) (shows : Aside) (input : Given) (messages : List 
   pub reading : ((0 < length given) × (input.last ≡ failed)) ↔ 0 < shows.read_faults
 
 -- Of the plan's first connection this front was given, by so many reads, and it was read no further than its walk goes. No
--- call failed, and no read told the end.
-pub record HasBegun (plan : Plan) (shows : Aside) : Type 0 where
+-- call failed, and no read told the end. The connection was closed once, after its last read, and no further one was asked
+-- for.
+pub record HasBegun (meaning : Meaning) (plan : Plan) (shows : Aside) : Type 0 where
   pub shown : shows.plan ≡ Some plan
   pub bytes : List ℕ
   pub given : shows.given ≡ Some (record { bytes = bytes; last = gave } ∷ [])
+  pub some : 0 < length plan.connections
+  pub coming : shows.coming ≡ Some (drop 1 plan.connections)
+  pub opened : shows.opened ≡ 1
+  pub closed : shows.closed ≡ 1
+  pub is_closed : shows.is_open ≡ false
+  pub asked : shows.refused ≡ false
   pub rest : List ℕ
   pub front : first_of plan.connections ≡ bytes ++ rest
   pub within : length bytes ≤ most_taken
-  pub no_further : IsReadNoFurther strict bytes
+  pub no_further : IsReadNoFurther meaning bytes
   pub reads : ℕ
   pub gives : Gives plan reads bytes
   pub opening : shows.open_faults ≡ 0
@@ -126,15 +146,15 @@ pub record HasBegun (plan : Plan) (shows : Aside) : Type 0 where
 
 -- what a port with this plan shows where want of memory ended the taking: no call was made of it, or its one input
 -- connection was begun
-abbrev pub BreaksOff : Plan → Aside → Type 0
-BreaksOff plan shows = (shows ≡ untouched plan) ⊎ HasBegun plan shows
+abbrev pub BreaksOff : Meaning → Plan → Aside → Type 0
+BreaksOff meaning plan shows = (shows ≡ untouched plan) ⊎ HasBegun meaning plan shows
 
 -- the one input connection was taken: what it comes to, and what the port shows
-pub record TakesInput (Stands : List EntryValue → Type 0) (old new : Aside) (calls : ℕ) (taken : Taken) : Type 0 where
+pub record TakesInput (meaning : Meaning) (Stands : List EntryValue → Type 0) (old new : Aside) (calls : ℕ) (taken : Taken) : Type 0 where
   pub input : Given
   pub messages : List EntryValue
-  pub come : HasCome input messages taken.cause
+  pub come : HasCome meaning input messages taken.cause
   pub noted : Stands (opened ∷ messages)
   pub count : taken.revision ≡ length (opened ∷ messages)
-  pub no_further : IsReadNoFurther strict input.bytes
-  pub shows : (plan : Plan) → old ≡ untouched plan → calls ≡ 0 → Comes plan new input messages taken.cause
+  pub no_further : IsReadNoFurther meaning input.bytes
+  pub shows : (plan : Plan) → old ≡ untouched plan → calls ≡ 0 → Comes meaning plan new input messages taken.cause

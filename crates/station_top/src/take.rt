@@ -1,5 +1,6 @@
-ghost use Rattle.std.specs.Prelude.{◌≡◌, ℕ, List, ◌∷◌, [], IfOk, OnErr};
+ghost use Rattle.std.specs.Prelude.{◌≡◌, ℕ, List, ◌∷◌, [], IsTrue, IfOk, OnErr};
 ghost use Rattle.bmp_specs.specs.Life.{gave};
+ghost use Rattle.bmp_specs.specs.MessageEffects.{strict};
 ghost use Rattle.bmp_specs.specs.Values.{opened};
 ghost use Rattle.wire_io.specs.Aside.{Plan};
 ghost use Rattle.station_doors.specs.Doors.{untouched};
@@ -37,8 +38,8 @@ pub fn take_input<P: Port, L: Ledger>(
     ledger: &mut L,
 ) -> Result<Taken, NoMemory>
     requires { L.stands ledger.old [] }
-    ensures takes { IfOk result (TakesInput (L.stands ledger.new) (P.aside port.old) (P.aside port.new) (P.calls port.old)) }
-    ensures breaks { OnErr result ((plan : Plan) → P.aside port.old ≡ untouched plan → P.calls port.old ≡ 0 → BreaksOff plan (P.aside port.new)) }
+    ensures takes { IfOk result (TakesInput strict (L.stands ledger.new) (P.aside port.old) (P.aside port.new) (P.calls port.old)) }
+    ensures breaks { OnErr result ((plan : Plan) → P.aside port.old ≡ untouched plan → P.calls port.old ≡ 0 → BreaksOff strict plan (P.aside port.new)) }
 {
     ledger.note(&Entry::Opened)?;
     match port.next_connection() {
@@ -68,8 +69,9 @@ fn take_bytes<P: Port, L: Ledger>(
 ) -> Result<Taken, NoMemory>
     requires new { IsNew (P.aside port.old) }
     requires opened { L.stands ledger.old (opened ∷ []) }
-    ensures takes { IfOk result (Takes (L.stands ledger.new) (P.aside port.old) (P.aside port.new) (P.calls port.old)) }
-    ensures breaks { OnErr result ((bytes : List ℕ) × TakesBytes (P.aside port.old) (P.aside port.new) (P.calls port.old) bytes gave) }
+    ensures takes { IfOk result (Takes strict (L.stands ledger.new) (P.aside port.old) (P.aside port.new) (P.calls port.old)) }
+    ensures breaks { OnErr result ((bytes : List ℕ) × TakesBytes strict (P.aside port.old) (P.aside port.new) (P.calls port.old) bytes gave) }
+    ensures is_open { IsTrue (P.aside port.new).is_open }
 {
     let mut walk = StreamWalk::new(alloc);
     let mut buf = [0u8; MOST_READ as usize];

@@ -2,6 +2,7 @@ ghost use Rattle.std.specs.Prelude.{◌≡◌, ℕ, [], ◌∷◌, ◌++◌, Lis
 ghost use Rattle.std.specs.String.{string_bytes};
 ghost use Rattle.std.specs.Io.KnownBytes.{append_known};
 ghost use Rattle.bmp_specs.specs.Lines.{stop_line};
+ghost use Rattle.bmp_specs.specs.MessageEffects.{strict};
 ghost use Rattle.wire_io.specs.Aside.{laid_over};
 ghost use Rattle.wire_io.specs.Faults.{Rose};
 ghost use Rattle.wire_io.specs.Writes.{Writes};
@@ -35,7 +36,7 @@ fn take_from<Y: Yard, L: Ledger>(
     ledger: &mut L,
 ) -> Result<Taken, Status>
     requires { L.stands ledger.old [] }
-    ensures from { FromYard (L.stands ledger.new) (Y.told yard.old) (Y.told yard.new) (Y.calls yard.old) result }
+    ensures from { FromYard strict (L.stands ledger.new) (Y.told yard.old) (Y.told yard.new) (Y.calls yard.old) result }
     ensures rose { result ≡ Err Status.YardFault → Rose (Y.faults yard.old) (Y.faults yard.new) }
     ensures calm { (result ≡ Err Status.YardFault → ⊥) → Y.faults yard.new ≡ Y.faults yard.old }
     ensures calls { Y.calls yard.new ≡ one_more (Y.calls yard.old) }
@@ -139,7 +140,7 @@ fn run<L: Ledger + Drop, Y: Yard, O: Sink>(
     out: &mut O,
 ) -> Status
     requires { L.stands ledger [] }
-    ensures concludes { Concludes (L.replies ask.now) (Y.told yard.old) (Y.told yard.new) (Y.calls yard.old) (O.told out.old) (O.told out.new) result }
+    ensures concludes { Concludes strict (L.replies ask.now) (Y.told yard.old) (Y.told yard.new) (Y.calls yard.old) (O.told out.old) (O.told out.new) result }
     ensures calls { Y.calls yard.new ≡ one_more (Y.calls yard.old) }
     ensures out { IsCause (O.faults out.old) (O.faults out.new) result Status.WriteFault }
     ensures yard { IsCause (Y.faults yard.old) (Y.faults yard.new) result Status.YardFault }
@@ -161,7 +162,7 @@ fn run_command<Y: Yard, O: Sink>(
     yard: &mut Y,
     out: &mut O,
 ) -> Status
-    ensures concludes { Concludes (IsReply command) (Y.told yard.old) (Y.told yard.new) (Y.calls yard.old) (O.told out.old) (O.told out.new) result }
+    ensures concludes { Concludes strict (IsReply command) (Y.told yard.old) (Y.told yard.new) (Y.calls yard.old) (O.told out.old) (O.told out.new) result }
     ensures calls { Y.calls yard.new ≡ one_more (Y.calls yard.old) }
     ensures out { IsCause (O.faults out.old) (O.faults out.new) result Status.WriteFault }
     ensures yard { IsCause (Y.faults yard.old) (Y.faults yard.new) result Status.YardFault }
@@ -187,7 +188,7 @@ pub fn station<Y: Yard, O: Sink>(
     out: &mut O,
 ) -> Status
     // Which status, by the words and what the yard tells; what was written; how many calls of the yard were made.
-    ensures answers { Answers (map string_bytes words.now) (Y.told yard.old) (Y.told yard.new) (Y.calls yard.old) (Y.calls yard.new) (O.told out.old) (O.told out.new) result }
+    ensures answers { Answers strict (map string_bytes words.now) (Y.told yard.old) (Y.told yard.new) (Y.calls yard.old) (Y.calls yard.new) (O.told out.old) (O.told out.new) result }
 
     // A write fault is answered exactly where a write failed, and a yard's fault exactly where the yard failed.
     ensures out { IsCause (O.faults out.old) (O.faults out.new) result Status.WriteFault }

@@ -1,3 +1,4 @@
+use Rattle.bmp_specs.specs.MessageEffects.{strict}
 use Rattle.station_top.proofs.Concluding.{concludes_replied, concludes_unread}
 use Rattle.station_top.proofs.top.run.Goals as goal
 
@@ -8,4 +9,4 @@ returns-in-Ok-clause-concludes g c =
     c.in-Ok.ensures.from c.write_reply.ensures.reply c.write_reply.ensures.writes (rw c.status_after.ensures at c.unless_failed.ensures.fine) c.unless_failed.ensures.failed
 
 pub returns-clause-concludes : goal.returns-clause-concludes
-returns-clause-concludes g c = concludes_unread (g.L.Ledger.stands c.take_from.new.ledger) (g.L.Ledger.replies c.args.ask.now) (g.Y.Yard.told c.args.yard.now) (g.Y.Yard.told c.take_from.new.yard) (g.Y.Yard.calls c.args.yard.now) (g.O.Sink.told c.args.out.now) c.in-Err.status c.in-Err.ensures.from
+returns-clause-concludes g c = concludes_unread strict (g.L.Ledger.stands c.take_from.new.ledger) (g.L.Ledger.replies c.args.ask.now) (g.Y.Yard.told c.args.yard.now) (g.Y.Yard.told c.take_from.new.yard) (g.Y.Yard.calls c.args.yard.now) (g.O.Sink.told c.args.out.now) c.in-Err.status c.in-Err.ensures.from
