@@ -76,7 +76,7 @@ sorted_join cmp [] ys s t a = t
 sorted_join cmp (x ∷ xs) ys s t a = (all_join (λ y. cmp x y ≡ Less) xs ys s.0 a.0, sorted_join cmp xs ys s.1 t a.1)
 
 -- two places of one peer, and of two
-within_one : (key : KeyValue) (p q : Place) → peer_place_cmp p q ≡ Less → place_cmp (place_of key p) (place_of key q) ≡ Less
+within_one : (key : KeyValue) (p q : Place) → peer_place_cmp p q ≡ Less → row_key_cmp (place_of key p) (place_of key q) ≡ Less
 within_one key p q less = ap (λ (o : Ordering). ordering_then o (peer_place_cmp p q)) (tied_itself key_total key) ∙ less
 
 of_later : (key k : KeyValue) (p q : Place) → key_cmp key k ≡ Less → row_key_cmp (place_of key p) (place_of k q) ≡ Less
@@ -90,7 +90,7 @@ peer_below : (key : KeyValue) (p : Place) (es : List (Place × Arc AttrsValue Gl
 peer_below key p [] a = tt
 peer_below key p (e ∷ es) a = (within_one key p e.0 a.0, peer_below key p es a.1)
 
-peer_sorted : (key : KeyValue) (es : List (Place × Arc AttrsValue Global)) → IsStrictlySortedBy peer_place_cmp (keys_of es) → IsStrictlySortedBy place_cmp (places (map (row_of key) es))
+peer_sorted : (key : KeyValue) (es : List (Place × Arc AttrsValue Global)) → IsStrictlySortedBy peer_place_cmp (keys_of es) → IsStrictlySortedBy row_key_cmp (places (map (row_of key) es))
 unfolding IsStrictlySortedBy
 peer_sorted key [] s = tt
 peer_sorted key (e ∷ es) s = (peer_below key e.0 es s.0, peer_sorted key es s.1)
@@ -109,7 +109,7 @@ each_below : (key : KeyValue) (rows : List (Place × Arc AttrsValue Global)) (es
 each_below key [] es a = tt
 each_below key (e ∷ rows) es a = (later_peers key e.0 es a, each_below key rows es a)
 
-rows_sorted : (es : List (KeyValue × Rows)) → IsStrictlySortedBy key_cmp (keys_of es) → AllByRecursion (λ peer. IsOrdered peer_place_cmp peer.1) es → IsStrictlySortedBy place_cmp (places (flat_map rows_of es))
+rows_sorted : (es : List (KeyValue × Rows)) → IsStrictlySortedBy key_cmp (keys_of es) → AllByRecursion (λ peer. IsOrdered peer_place_cmp peer.1) es → IsStrictlySortedBy row_key_cmp (places (flat_map rows_of es))
 unfolding IsStrictlySortedBy
 rows_sorted [] s a = tt
 rows_sorted (e ∷ es) s a = subst (IsStrictlySortedBy row_key_cmp) (sym (map-append (λ (row : RowValue). row.row_key) (rows_of e) (flat_map rows_of es)))
