@@ -1,11 +1,9 @@
 -- What one more entry makes of tables that stand for a lane's entries.
-use Rattle.std.proofs.Common.{◌≡◌, ◌↔◌, ℕ, IsTrue, Bool, true, false, List, [], ◌∷◌, ◌++◌, Option, None, Some, unwrap_or, refl, sym, ap, ◌∙◌, subst}
-use Rattle.std.specs.Prelude.{flat_map}
-use Rattle.std.specs.Option.{option_and_then}
+use Rattle.std.proofs.Common.{◌≡◌, ◌↔◌, ℕ, IsTrue, Bool, true, false, List, [], ◌∷◌, ◌++◌, sym, ◌∙◌, subst}
 use Rattle.bmp_specs.specs.declared.causes.Cause.{Cause}
-use Rattle.bmp_specs.specs.Session.{LaneStateValue, idle, live, shut, state_by, state_since, state_of, since_opening, last_cause, unless_closed, effects_in, session_messages, session_effects}
+use Rattle.bmp_specs.specs.Session.{LaneStateValue, idle, live, state_of, session_effects}
 use Rattle.bmp_specs.specs.Values.{EffectValue, EntryValue, opened, message, closed}
-use Rattle.bmp_specs.proofs.SessionLaws.{effects_after_opening, effects_after_closing, effects_after_message, messages_stay_none, state_after_opening, state_after_closing, state_stays_idle, state_after_message}
+use Rattle.bmp_specs.proofs.SessionLaws.{effects_after_opening, effects_after_closing, effects_after_message, effects_stay, not_live_after_closing, state_after_opening, state_after_message}
 use Rattle.station_top.specs.declared.tables.Tables.{Tables}
 use Rattle.station_top.specs.Tables.{Holds, StandsFor}
 use Rattle.station_top.proofs.RowSteps.{holds_nothing}
@@ -27,21 +25,10 @@ stands_opened t is_live empty entries = record {
   peers = subst (Holds t.peers) (sym (effects_after_opening entries)) (holds_nothing t.peers empty);
 }
 
-not_live : (entries : List EntryValue) (cause : Cause) → state_of (entries ++ closed cause ∷ []) ≡ live → ⊥
-not_live entries cause h = go (state_of entries) refl
-  where
-    after : (state_of entries ≡ idle → ⊥) → ⊥
-    after ever = let e : shut cause ≡ live = sym (state_after_closing entries cause ever) ∙ h in cc
-
-    go : (s : LaneStateValue) → state_of entries ≡ s → ⊥
-    go idle is = let e : idle ≡ live = sym (state_stays_idle entries cause is) ∙ h in cc
-    go live is = after (λ was. let e : live ≡ idle = sym is ∙ was in cc)
-    go (shut c) is = after (λ was. let e : shut c ≡ idle = sym is ∙ was in cc)
-
 -- a closing ends it
 pub stands_closed : (t : Tables) → t.is_live ≡ false → t.peers.entries ≡ [] → (entries : List EntryValue) (cause : Cause) → StandsFor t (entries ++ closed cause ∷ [])
 stands_closed t isnt_live empty entries cause = record {
-  session = subst (λ (b : Bool). IsTrue b ↔ (state_of (entries ++ closed cause ∷ []) ≡ live)) (sym isnt_live) (neither (state_of (entries ++ closed cause ∷ [])) (not_live entries cause));
+  session = subst (λ (b : Bool). IsTrue b ↔ (state_of (entries ++ closed cause ∷ []) ≡ live)) (sym isnt_live) (neither (state_of (entries ++ closed cause ∷ [])) (not_live_after_closing entries cause));
   peers = subst (Holds t.peers) (sym (effects_after_closing entries cause)) (holds_nothing t.peers empty);
 }
 
@@ -55,24 +42,12 @@ stands_message old new kind len effects was is step entries s =
       peers = subst (Holds new.peers) (sym (effects_after_message entries kind len effects is_live)) (step (session_effects entries) s.peers);
     }
 
--- without a session there is no message
-no_messages : (entries : List EntryValue) → (state_of entries ≡ live → ⊥) → session_messages entries ≡ []
-no_messages entries isnt_live = go (since_opening entries) isnt_live
-  where
-    at : (s : List EntryValue) (c : Option Cause) → (state_by c ≡ live → ⊥) → unwrap_or (unless_closed s c) [] ≡ []
-    at s None isnt = absurd (isnt refl)
-    at s (Some cause) isnt = refl
-
-    go : (o : Option (List EntryValue)) → (state_since o ≡ live → ⊥) → unwrap_or (option_and_then (λ s. unless_closed s (last_cause s)) o) [] ≡ []
-    go None isnt = refl
-    go (Some s) isnt = at s (last_cause s) isnt
-
--- and one more goes nowhere
+-- without a session a message goes nowhere
 pub stands_ignored : (t : Tables) (kind len : ℕ) (effects : List EffectValue) → t.is_live ≡ false → (entries : List EntryValue) → StandsFor t entries → StandsFor t (entries ++ message kind len effects ∷ [])
 stands_ignored t kind len effects was entries s =
     let isnt : (state_of entries ≡ live → ⊥) = (λ h. let e : false ≡ true = sym was ∙ s.session.1 h in cc) in
     let same = state_after_message entries kind len effects in
     record {
       session = (λ h. same ∙ s.session.0 h, λ h. s.session.1 (sym same ∙ h));
-      peers = subst (Holds t.peers) (ap (flat_map effects_in) (no_messages entries isnt ∙ sym (messages_stay_none entries kind len effects isnt))) s.peers;
+      peers = subst (Holds t.peers) (sym (effects_stay entries kind len effects isnt)) s.peers;
     }

@@ -1,5 +1,5 @@
 -- What a change of the ordered maps is to peers and their rows.
-use Rattle.std.proofs.Common.{◌≡◌, ◌⊎◌, inl, inr, true, false, if◌then◌else◌, List, [], Option, None, Some, refl, sym, ap, ◌∙◌, subst}
+use Rattle.std.proofs.Common.{◌≡◌, inl, inr, true, false, if◌then◌else◌, List, [], Option, None, Some, refl, sym, ap, ◌∙◌, subst}
 use Rattle.std.specs.Prelude.{is_some}
 use Rattle.std.specs.Arc.{arc_value}
 use Rattle.std.specs.declared.sync.Arc.{Arc}
@@ -12,7 +12,8 @@ use Rattle.std.specs.Map.{lookup}
 use Rattle.std.proofs.lemmas.Map.Lookups.{CmpEqualImpliesEq}
 use Rattle.bmp_specs.specs.Orders.{key_cmp}
 use Rattle.bmp_specs.specs.Values.{KeyValue, AttrsValue}
-use Rattle.bmp_specs.proofs.OrderLaws.{key_total, key_exact, same_or_other}
+use Rattle.bmp_specs.proofs.EffectCases.{same_key}
+use Rattle.bmp_specs.proofs.OrderLaws.{key_total, key_exact}
 use Rattle.bmp_specs.proofs.PairLookups.{at_other}
 use Rattle.station_top.specs.declared.place.Place.{Place}
 use Rattle.station_top.specs.Places.{peer_place_cmp, within_peer}
@@ -22,10 +23,6 @@ use Rattle.station_top.proofs.PlaceOrder.{peer_place_total, peer_place_exact}
 -- a map at other keys
 elsewhere : {K X : Type 0} (cmp : K → K → Ordering) → IsTotalOrder cmp → CmpEqualImpliesEq cmp → (m n : BTreeMap K X) (k : K) (w : Option X) → Updates cmp m n k w → (q : K) → ¬ (k ≡ q) → get cmp n q ≡ get cmp m q
 elsewhere cmp total exact m n k w u q other = u.2 q (at_other cmp total exact k q other)
-
--- two peers are one or not
-pub same_key : (key k : KeyValue) → (key ≡ k) ⊎ ¬ (key ≡ k)
-same_key key k = same_or_other key_cmp key_total key_exact key k
 
 -- a peer's rows changed at one place
 pub puts_in : (old new : Peers) (key : KeyValue) (place : Place) (rows after : Rows) (route : Option (Arc AttrsValue Global)) → get key_cmp old key ≡ Some rows → Updates key_cmp old new key (Some after) → Updates peer_place_cmp rows after place route

@@ -1,59 +1,31 @@
 -- What one more effect makes of the peers that are up and of their rows.
-use Rattle.std.proofs.Common.{◌≡◌, ◌↔◌, ◌⊎◌, inl, inr, IsTrue, Bool, true, false, if◌then◌else◌, List, [], ◌∷◌, ◌++◌, Option, None, Some, refl, sym, ap, ◌∙◌, subst, Result, Ok, Err, OnOk}
+use Rattle.std.proofs.Common.{◌≡◌, ◌↔◌, inl, inr, IsTrue, Bool, true, false, if◌then◌else◌, List, [], ◌∷◌, ◌++◌, Option, None, Some, refl, sym, ap, ◌∙◌, subst}
 use Rattle.std.specs.Prelude.{is_some}
 use Rattle.std.specs.declared.sync.Arc.{Arc}
 use Rattle.std.specs.declared.alloc.Global.{Global}
 use Rattle.std.specs.BTreeMap.{get, is_at}
 use Rattle.std.specs.Map.{lookup}
+use mathlib.Core.Logic.Iff.{trans as then_iff}
 use Rattle.bmp_specs.specs.Orders.{key_cmp}
 use Rattle.bmp_specs.specs.PeerUp.{Names, IsUp}
 use Rattle.bmp_specs.specs.Rows.{RowKeyValue, ReplacesRow, HasRow}
-use Rattle.bmp_specs.specs.TableRows.{row_key_cmp}
-use Rattle.bmp_specs.specs.Values.{NlriValue, KeyValue, PeerInfoValue, DownInfoValue, AttrsValue, EffectValue, up, down, announce, withdraw, mark, statistic, named, described, orphan, mirrored, passed, unread}
+use Rattle.bmp_specs.specs.Values.{NlriValue, KeyValue, PeerInfoValue, DownInfoValue, AttrsValue, EffectValue, up, down, announce, withdraw}
 use Rattle.bmp_specs.specs.declared.peers.View.{View}
-use Rattle.bmp_specs.proofs.LatestLaws.{no_middle}
-use Rattle.bmp_specs.proofs.OrderLaws.{row_key_total, row_key_exact, same_or_other}
-use Rattle.bmp_specs.proofs.RowLaws.{up_now, up_still, up_from, row_now, row_still, row_from, names_or_other}
+use Rattle.bmp_specs.proofs.EffectCases.{names_or_other, replaces_row_or_other}
+use Rattle.bmp_specs.proofs.PeerLaws.{none_up, is_up_kept}
+use Rattle.bmp_specs.proofs.RowLaws.{up_now, up_from, none_row, row_now, row_from, row_kept}
 use Rattle.rib_model.specs.declared.effect.Effect.{Effect}
 use Rattle.rib_model.specs.declared.effect.Effect.TheVariants.{Up, Down, Announce, Withdraw}
 use Rattle.rib_model.specs.Effects.{effect_value}
 use Rattle.station_top.specs.declared.place.Place.{Place}
 use Rattle.station_top.specs.Places.{place_of}
 use Rattle.station_top.specs.Tables.{Peers, has_peer, route_in, route_at, Holds, Puts, Clears}
-use Rattle.station_top.proofs.MapSteps.{same_key}
-
--- what a call leaves where it went well
-pub on_ok : {T E P Q : Type 0} (r : Result T E) → (P → Q) → OnOk r P → OnOk r Q
-on_ok (Ok t) f p = f p
-on_ok (Err e) f p = tt
 
 at_place : (key : KeyValue) (place : Place) (p : RowKeyValue) → (key ≡ p.key) × (place.view ≡ p.view) × (place.nlri ≡ p.nlri) → place_of key place ≡ p
 at_place key place p (k, v, n) = λ i. record { key = k i; view = v i; nlri = n i }
 
 of_place : (key : KeyValue) (place : Place) (p : RowKeyValue) → place_of key place ≡ p → (key ≡ p.key) × (place.view ≡ p.view) × (place.nlri ≡ p.nlri)
 of_place key place p same = (ap (λ (q : RowKeyValue). q.key) same, ap (λ (q : RowKeyValue). q.view) same, ap (λ (q : RowKeyValue). q.nlri) same)
-
-place_or_other : (key : KeyValue) (place : Place) (p : RowKeyValue)
-    → ((key ≡ p.key) × (place.view ≡ p.view) × (place.nlri ≡ p.nlri)) ⊎ ¬ ((key ≡ p.key) × (place.view ≡ p.view) × (place.nlri ≡ p.nlri))
-place_or_other key place p = elim (same_or_other row_key_cmp row_key_total row_key_exact (place_of key place) p) [
-  | inl same ↦ inl (of_place key place p same)
-  | inr other ↦ inr (λ t. other (at_place key place p t))
-]
-
--- an effect ends what stands at a place or not
-pub replaces_or_other : (p : RowKeyValue) (e : EffectValue) → ReplacesRow p e ⊎ ¬ (ReplacesRow p e)
-replaces_or_other p (up k info) = same_key k p.key
-replaces_or_other p (down k info) = same_key k p.key
-replaces_or_other p (announce k view nlri route) = place_or_other k (record { view = view; nlri = nlri }) p
-replaces_or_other p (withdraw k view nlri) = place_or_other k (record { view = view; nlri = nlri }) p
-replaces_or_other p (mark k view family) = inr (λ n. n)
-replaces_or_other p (statistic k stat) = inr (λ n. n)
-replaces_or_other p (named name) = inr (λ n. n)
-replaces_or_other p (described text) = inr (λ n. n)
-replaces_or_other p orphan = inr (λ n. n)
-replaces_or_other p mirrored = inr (λ n. n)
-replaces_or_other p passed = inr (λ n. n)
-replaces_or_other p (unread parts) = inr (λ n. n)
 
 -- what the new peers answer where the effect names the peer or ends what stands at the place, and as before elsewhere
 pub record Follows (old new : Peers) (e : EffectValue) : Type 0 where
@@ -69,20 +41,14 @@ holds_step old new e f es h = record {
       λ t. let u = (f.named key here).0 t in subst (λ (d : EffectValue). IsUp (es ++ d ∷ []) key) (sym u.1) (up_now es key u.0),
       λ u. elim (up_from es e key u) [ inl is ↦ (f.named key here).1 is | inr v ↦ absurd (v.1 here) ],
     )
-    | inr other ↦ (
-      λ t. up_still es e key other ((h.up key).0 (sym (f.others key other) ∙ t)),
-      λ u. elim (up_from es e key u) [ inl is ↦ absurd (other (subst (Names key) (sym is.1) refl)) | inr v ↦ f.others key other ∙ (h.up key).1 v.0 ],
-    )
+    | inr other ↦ subst (λ (b : Bool). IsTrue b ↔ IsUp (es ++ e ∷ []) key) (sym (f.others key other)) (then_iff (h.up key) (is_up_kept es e key other))
   ];
-  rows = λ row. elim (replaces_or_other row.row_key e) [
+  rows = λ row. elim (replaces_row_or_other row.row_key e) [
     | inl here ↦ (
       λ t. let u = (f.replaced row.row_key row.route here).0 t in subst (λ (d : EffectValue). HasRow (es ++ d ∷ []) row) (sym u.0) (row_now es row ((h.up row.row_key.key).0 u.1)),
       λ u. elim (row_from es e row u) [ inl is ↦ (f.replaced row.row_key row.route here).1 (is.0, (h.up row.row_key.key).1 is.1) | inr v ↦ absurd (v.1 here) ],
     )
-    | inr other ↦ (
-      λ t. row_still es e row other ((h.rows row).0 (sym (f.kept row.row_key other) ∙ t)),
-      λ u. elim (row_from es e row u) [ inl is ↦ absurd (other (subst (ReplacesRow row.row_key) (sym is.0) (refl, refl, refl))) | inr v ↦ f.kept row.row_key other ∙ (h.rows row).1 v.0 ],
-    )
+    | inr other ↦ subst (λ (o : Option AttrsValue). (o ≡ Some row.route) ↔ HasRow (es ++ e ∷ []) row) (sym (f.kept row.row_key other)) (then_iff (h.rows row) (row_kept es e row other))
   ];
 }
 
@@ -172,11 +138,11 @@ pub holds_nothing : (peers : Peers) → peers.entries ≡ [] → Holds peers []
 holds_nothing peers empty = record {
   up = λ key. (
     λ t. let e : false ≡ true = sym (ap is_some (none key)) ∙ t in absurd cc,
-    λ u. absurd (no_middle u.1.before u.1.after (up key u.0) u.1.split),
+    λ u. absurd (none_up key u.0 u.1),
   );
   rows = λ row. (
     λ t. absurd (none_some row.route (route_at peers row.row_key) (ap (λ o. route_in o (record { view = row.row_key.view; nlri = row.row_key.nlri })) (none row.row_key.key)) t),
-    λ u. absurd (no_middle u.announced.before u.announced.after (announce row.row_key.key row.row_key.view row.row_key.nlri row.route) u.announced.split),
+    λ u. absurd (none_row row u),
   );
 }
   where

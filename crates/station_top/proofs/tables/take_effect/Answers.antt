@@ -1,14 +1,15 @@
-use Rattle.station_top.proofs.RowSteps.{on_ok, holds_step, holds_other, follows_up, follows_down, follows_announce, follows_withdraw}
+use Rattle.std.proofs.lemmas.Result.{on_ok_weaker}
+use Rattle.station_top.proofs.RowSteps.{holds_step, holds_other, follows_up, follows_down, follows_announce, follows_withdraw}
 use Rattle.station_top.proofs.tables.take_effect.Goals as goal
 
 pub returns-in-Up : goal.returns-in-Up
-returns-in-Up c = rw c.in-Up.is (on_ok c.bring_up.result (λ h. holds_step _ _ _ (follows_up _ _ _ _ h)) c.bring_up.ensures)
+returns-in-Up c = rw c.in-Up.is (on_ok_weaker c.bring_up.result (λ h. holds_step _ _ _ (follows_up _ _ _ _ h)) c.bring_up.ensures)
 
 pub returns-in-Down : goal.returns-in-Down
 returns-in-Down c = rw c.in-Down.is (holds_step _ _ _ (follows_down _ _ _ _ c.take_down.ensures))
 
 pub returns-in-Announce : goal.returns-in-Announce
-returns-in-Announce c = rw c.in-Announce.is (on_ok c.announce.result (λ h. holds_step _ _ _ (follows_announce _ _ _ _ _ h)) c.announce.ensures)
+returns-in-Announce c = rw c.in-Announce.is (on_ok_weaker c.announce.result (λ h. holds_step _ _ _ (follows_announce _ _ _ _ _ h)) c.announce.ensures)
 
 pub returns-in-Withdraw : goal.returns-in-Withdraw
 returns-in-Withdraw c = rw c.in-Withdraw.is (holds_step _ _ _ (follows_withdraw _ _ _ _ c.withdraw.ensures))
