@@ -24,7 +24,9 @@ pub use bmp_specs::{Detail, Side};
 pub use cap::{Cap, CapList};
 pub use fault::OpenFault;
 pub use ids::path_ids;
-pub use message::{BgpFrame, bgp_frame};
+pub use message::{
+    BGP_HEADER, BgpFrame, NOTIFICATION_MESSAGE, OPEN_MESSAGE, UPDATE_MESSAGE, bgp_frame,
+};
 pub use open::Open;
 pub use peer::{DownInfo, PeerInfo};
 pub use read::read_open;

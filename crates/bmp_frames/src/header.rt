@@ -1,26 +1,12 @@
-ghost use Rattle.std.specs.Prelude.{◌≡◌};
-ghost use Rattle.bmp_specs.specs.PeerHeader.{HeaderValue, IsHeader, family_of, key_of, view_of, is_two_byte, place_of, is_set};
+ghost use Rattle.std.specs.Prelude.{◌≡◌, ◌==◌};
+ghost use Rattle.bmp_specs.specs.PeerHeader.{HeaderValue, IsHeader, family_of, key_of, view_of, is_two_byte, place_of, is_set, loc_rib};
 
 use crate::PeerKey;
+use crate::codes::{A_FLAG, L_FLAG, LOC_RIB, O_FLAG, V_FLAG};
 use bmp_specs::View;
 use byteorder::{BigEndian, ByteOrder};
 use ip_prefix::{Addr, Family};
 use std::marker::Model;
-
-/// The last peer type that is known: the Loc-RIB Instance Peer (RFC 9069, section 4.1).
-const LOC_RIB: u8 = 3;
-
-/// The V flag: the addresses are IPv6 (RFC 7854, section 4.2).
-const V_FLAG: u8 = 0x80;
-
-/// The L flag: the message reflects the RIB after the policy (RFC 7854, section 4.2).
-const L_FLAG: u8 = 0x40;
-
-/// The A flag: the AS_PATH is in the two-byte form (RFC 7854, section 4.2).
-const A_FLAG: u8 = 0x20;
-
-/// The O flag: the message reflects the Adj-RIB-Out (RFC 8671, section 4).
-const O_FLAG: u8 = 0x10;
 
 /// A Per-Peer Header (RFC 7854, section 4.2). Its flags mean other things for a Loc-RIB Instance
 /// Peer (RFC 9069, section 4.2); for a peer type that isn't known they are read as for the first
@@ -76,18 +62,25 @@ impl PeerHeader {
         }
     }
 
-    // Whether the flag stands among the flags.
-    fn has(&self, flag: u8) -> bool
+    /// Whether the flag stands among the flags.
+    pub fn has(&self, flag: u8) -> bool
         ensures { result ≡ is_set flag self.now.flags }
     {
         self.flags & flag == flag
+    }
+
+    /// Whether the peer is a Loc-RIB Instance Peer (RFC 9069, section 4.1).
+    pub fn is_loc_rib(&self) -> bool
+        ensures { result ≡ (self.now.kind == loc_rib) }
+    {
+        self.kind == LOC_RIB
     }
 
     // The family of the addresses: IPv4 for a Loc-RIB Instance Peer, else by the V flag.
     fn family(&self) -> Family
         ensures { result ≡ family_of self.now }
     {
-        if self.kind != LOC_RIB && self.has(V_FLAG) {
+        if !self.is_loc_rib() && self.has(V_FLAG) {
             Family::V6
         } else {
             Family::V4
@@ -114,7 +107,7 @@ impl PeerHeader {
     pub fn view(&self) -> View
         ensures { result ≡ view_of self.now }
     {
-        if self.kind == LOC_RIB {
+        if self.is_loc_rib() {
             return View::Loc;
         }
         match (self.has(O_FLAG), self.has(L_FLAG)) {
@@ -130,7 +123,7 @@ impl PeerHeader {
     pub fn two_byte(&self) -> bool
         ensures { result ≡ is_two_byte self.now }
     {
-        self.kind != LOC_RIB && self.has(A_FLAG)
+        !self.is_loc_rib() && self.has(A_FLAG)
     }
 
     /// The address that stands in these 16 bytes, as the peer's and the local address do: IPv6 by the V

@@ -13,7 +13,7 @@ use Rattle.bmp_specs.proofs.BgpMessageCode.{BeginsWithMessage-front, BeginsWithM
 use Rattle.bmp_specs.proofs.OpenOne.{open_message_code}
 use Rattle.bmp_specs.proofs.SequenceRead.{Then-given}
 use Rattle.peer_events.specs.Known.{is_known_in}
-use Rattle.peer_events.specs.declared.tlvs.Place.TheVariants.{PeerUp, LocRibPeerUp}
+use Rattle.peer_events.specs.declared.tlvs.Carrier.TheVariants.{PeerUp, LocRibPeerUp}
 
 -- the same error of another call
 pub same_error : {T U E : Type 0} (e f : E) → IsErrOf {T = T} {E = E} (Err e) f → IsErrOf {T = U} {E = E} (Err e) f

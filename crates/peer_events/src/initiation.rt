@@ -5,7 +5,7 @@ ghost use Rattle.bmp_specs.specs.Initiation.{IsInitiation};
 ghost use Rattle.bmp_specs.specs.Values.{InitiationValue};
 
 use crate::fault::EventFault;
-use crate::tlvs::{Place, SYS_DESCR, SYS_NAME, are_tlvs, count_unread, last_value};
+use crate::tlvs::{Carrier, SYS_DESCR, SYS_NAME, are_tlvs, count_unread, last_value};
 use std::alloc::Global;
 use std::marker::Model;
 use wire_io::{ByteList, NoMemory};
@@ -60,6 +60,6 @@ pub fn read_initiation(alloc: Global, body: &[u8]) -> Result<Initiation, EventFa
     Ok(Initiation {
         name,
         descr,
-        unread: count_unread(Place::Initiation, body),
+        unread: count_unread(Carrier::Initiation, body),
     })
 }

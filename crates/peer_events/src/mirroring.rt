@@ -2,7 +2,7 @@ ghost use Rattle.std.specs.Prelude.{◌≤◌, ℕ, IfSome, IfNone, length};
 ghost use Rattle.peer_events.specs.Body.{most_body};
 ghost use Rattle.bmp_specs.specs.Mirroring.{IsMirroring};
 
-use crate::tlvs::{Place, are_tlvs, count_unread};
+use crate::tlvs::{Carrier, are_tlvs, count_unread};
 
 /// How many TLVs of a Route Mirroring message are passed over (RFC 7854, section 4.7); `rest` follows
 /// the Per-Peer Header. `None` exactly where TLVs don't fill the bytes. Mirrored messages aren't read.
@@ -14,5 +14,5 @@ pub fn read_mirroring(rest: &[u8]) -> Option<u32>
     if !are_tlvs(rest) {
         return None;
     }
-    Some(count_unread(Place::Mirroring, rest))
+    Some(count_unread(Carrier::Mirroring, rest))
 }

@@ -3,7 +3,7 @@ ghost use Rattle.peer_events.specs.Body.{most_body};
 ghost use Rattle.bmp_specs.specs.PeerDownNotification.{IsDetail, IsNotification, IsPeerDown};
 ghost use Rattle.bmp_specs.specs.Values.{DownInfoValue};
 
-use bgp_open::{Detail, DownInfo, bgp_frame};
+use bgp_open::{BGP_HEADER, Detail, DownInfo, NOTIFICATION_MESSAGE, bgp_frame};
 use byteorder::{BigEndian, ByteOrder};
 
 /// "Reason 1": the router closed the session with a NOTIFICATION (RFC 7854, section 4.9).
@@ -15,9 +15,6 @@ const LOCAL_EVENT: u8 = 2;
 /// "Reason 3": the peer closed the session with a NOTIFICATION (RFC 7854, section 4.9).
 const REMOTE_NOTIFICATION: u8 = 3;
 
-/// The type of a NOTIFICATION (RFC 4271, section 4.1).
-const NOTIFICATION: u8 = 3;
-
 // The error code and the error subcode, where the bytes are exactly one NOTIFICATION that has them (RFC
 // 4271, section 4.5).
 fn notification(bytes: &[u8]) -> Option<(u8, u8)>
@@ -25,16 +22,16 @@ fn notification(bytes: &[u8]) -> Option<(u8, u8)>
     ensures none { IfNone result ((code sub : ℕ) → IsNotification bytes.now code sub → ⊥) }
 {
     let frame = bgp_frame(bytes)?;
-    if frame.kind != NOTIFICATION {
+    if frame.kind != NOTIFICATION_MESSAGE {
         return None;
     }
     if frame.length as usize != bytes.len() {
         return None;
     }
-    if bytes.len() < 21 {
+    if bytes.len() < BGP_HEADER + 2 {
         return None;
     }
-    Some((bytes[19], bytes[20]))
+    Some((bytes[BGP_HEADER], bytes[BGP_HEADER + 1]))
 }
 
 // What the data says for the reason.

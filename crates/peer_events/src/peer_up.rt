@@ -10,9 +10,9 @@ ghost use Rattle.bmp_specs.specs.Values.{OpenValue, PeerUpValue, TlvValue};
 
 use crate::fault::EventFault;
 use crate::initiation::copied;
-use crate::tlvs::{Place, TABLE_NAME, are_tlvs, count_unread, last_value};
-use bgp_open::{Open, OpenFault, PeerInfo, bgp_frame, read_open};
-use bmp_frames::PeerHeader;
+use crate::tlvs::{Carrier, TABLE_NAME, are_tlvs, count_unread, last_value};
+use bgp_open::{BGP_HEADER, OPEN_MESSAGE, Open, OpenFault, PeerInfo, bgp_frame, read_open};
+use bmp_frames::{F_FLAG, PeerHeader};
 use byteorder::{BigEndian, ByteOrder};
 use ip_prefix::Addr;
 use std::alloc::Global;
@@ -21,15 +21,6 @@ use wire_io::{ByteList, NoMemory};
 
 /// "Local Address", "Local Port" and "Remote Port" (RFC 7854, section 4.10).
 const HEADER_LENGTH: usize = 20;
-
-/// The Loc-RIB Instance Peer (RFC 9069, section 4.1).
-const LOC_RIB: u8 = 3;
-
-/// "F flag": the Loc-RIB is filtered (RFC 9069, section 4.2).
-const F_FLAG: u8 = 0x80;
-
-/// The type of an OPEN message (RFC 4271, section 4.1).
-const OPEN: u8 = 1;
 
 /// A Peer Up Notification (RFC 7854, section 4.10).
 #[derive(Drop)]
@@ -65,50 +56,43 @@ fn read_opening(alloc: Global, input: &[u8]) -> Result<Opening<'_>, EventFault>
     let Some(frame) = bgp_frame(input) else {
         return Err(EventFault::Broken);
     };
-    if frame.kind != OPEN {
+    if frame.kind != OPEN_MESSAGE {
         return Err(EventFault::Broken);
     }
     let (message, rest) = input.split_at(frame.length as usize);
-    match read_open(alloc, &message[19..]) {
+    match read_open(alloc, &message[BGP_HEADER..]) {
         Ok(open) => Ok(Opening { open, rest }),
         Err(OpenFault::Broken) => Err(EventFault::Broken),
         Err(OpenFault::NoMemory) => Err(EventFault::NoMemory),
     }
 }
 
-// Whether the header is of a Loc-RIB Instance Peer.
-fn is_loc_rib(head: &PeerHeader) -> bool
-    ensures { result ≡ loc_rib_in head.now }
-{
-    head.kind == LOC_RIB
-}
-
 // Whether a Loc-RIB Instance Peer tells of a filtered Loc-RIB.
 fn is_filtered(head: &PeerHeader) -> bool
     ensures { result ≡ (loc_rib_in head.now && is_set f_flag head.now.flags) }
 {
-    is_loc_rib(head) && head.flags & F_FLAG == F_FLAG
+    head.is_loc_rib() && head.has(F_FLAG)
 }
 
 // The last table name of a Loc-RIB Instance Peer.
 fn table(alloc: Global, head: &PeerHeader, information: &[u8]) -> Result<Option<ByteList>, NoMemory>
     ensures { (ts : List TlvValue) → AreTlvs information.now ts → IfOk result (λ table. table ≡ table_in head.now ts) }
 {
-    if is_loc_rib(head) {
+    if head.is_loc_rib() {
         copied(alloc, last_value(information, TABLE_NAME))
     } else {
         Ok(None)
     }
 }
 
-// Which TLVs a Peer Up of this header knows.
-fn place_of(head: &PeerHeader) -> Place
-    ensures { result ≡ (if loc_rib_in head.now then Place.LocRibPeerUp else Place.PeerUp) }
+// Which Peer Up carries the TLVs behind this header.
+fn carrier_of(head: &PeerHeader) -> Carrier
+    ensures { result ≡ (if loc_rib_in head.now then Carrier.LocRibPeerUp else Carrier.PeerUp) }
 {
-    if is_loc_rib(head) {
-        Place::LocRibPeerUp
+    if head.is_loc_rib() {
+        Carrier::LocRibPeerUp
     } else {
-        Place::PeerUp
+        Carrier::PeerUp
     }
 }
 
@@ -152,6 +136,6 @@ pub fn read_peer_up(alloc: Global, head: &PeerHeader, rest: &[u8]) -> Result<Pee
             filtered: is_filtered(head),
             table,
         },
-        unread: count_unread(place_of(head), information),
+        unread: count_unread(carrier_of(head), information),
     })
 }

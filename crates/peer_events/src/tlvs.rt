@@ -34,9 +34,9 @@ pub(crate) struct Tlv<'a> {
     pub(crate) rest: &'a [u8],
 }
 
-// Where TLVs stand: each message knows other types.
+// The message that carries TLVs: each knows other types.
 #[derive(Clone, Copy)]
-pub(crate) enum Place {
+pub(crate) enum Carrier {
     Initiation,
     PeerUp,
     LocRibPeerUp,
@@ -103,15 +103,15 @@ pub(crate) fn last_value(bytes: &[u8], kind: u16) -> Option<&[u8]>
     found
 }
 
-// Whether the type is known there.
-fn is_known(place: Place, tlv: Tlv<'_>) -> bool
-    ensures { result ≡ is_known_in place (record { kind = tlv.entry.kind; value = tlv.entry.value.now }) }
+// Whether the message knows the type.
+fn is_known(carrier: Carrier, tlv: Tlv<'_>) -> bool
+    ensures { result ≡ is_known_in carrier (record { kind = tlv.entry.kind; value = tlv.entry.value.now }) }
 {
-    match place {
-        Place::Initiation => tlv.kind <= SYS_NAME,
-        Place::PeerUp => tlv.kind == STRING,
-        Place::LocRibPeerUp => tlv.kind == STRING || tlv.kind == TABLE_NAME,
-        Place::Mirroring => {
+    match carrier {
+        Carrier::Initiation => tlv.kind <= SYS_NAME,
+        Carrier::PeerUp => tlv.kind == STRING,
+        Carrier::LocRibPeerUp => tlv.kind == STRING || tlv.kind == TABLE_NAME,
+        Carrier::Mirroring => {
             tlv.kind == MIRRORED_MESSAGE
                 || (tlv.kind == MIRRORING_INFORMATION && tlv.value.len() == 2)
         }
@@ -119,21 +119,21 @@ fn is_known(place: Place, tlv: Tlv<'_>) -> bool
 }
 
 // 1 for a TLV that is passed over, else 0.
-fn passed_over(place: Place, tlv: Tlv<'_>) -> u32
-    ensures { result ≡ (if not (is_known_in place (record { kind = tlv.entry.kind; value = tlv.entry.value.now })) then 1 else 0) }
+fn passed_over(carrier: Carrier, tlv: Tlv<'_>) -> u32
+    ensures { result ≡ (if not (is_known_in carrier (record { kind = tlv.entry.kind; value = tlv.entry.value.now })) then 1 else 0) }
 {
-    if is_known(place, tlv) { 0 } else { 1 }
+    if is_known(carrier, tlv) { 0 } else { 1 }
 }
 
 // How many TLVs are passed over.
-pub(crate) fn count_unread(place: Place, bytes: &[u8]) -> u32
+pub(crate) fn count_unread(carrier: Carrier, bytes: &[u8]) -> u32
     requires { length bytes.now ≤ most_body }
-    ensures { (ts : List TlvValue) → AreTlvs bytes.now ts → result ≡ count_by (λ t. not (is_known_in place t)) ts }
+    ensures { (ts : List TlvValue) → AreTlvs bytes.now ts → result ≡ count_by (λ t. not (is_known_in carrier t)) ts }
 {
     let mut rest = bytes;
     let mut unread = 0;
     while let Some(tlv) = read_tlv(rest) {
-        unread += passed_over(place, tlv);
+        unread += passed_over(carrier, tlv);
         rest = tlv.rest;
     }
     unread

@@ -16,7 +16,7 @@ returns-clause-found c =
       message = record { kind = c.in_ok-frame.frame.kind; body = drop 19 bytes };
       is = BeginsWithMessage-whole bytes c.in_ok-frame.frame.kind c.in_ok-frame.frame.length c.in_ok-frame.ensures.found all;
       is_notification = kind;
-      header = omega (arith, length-drop 19 bytes, c.if-bytes-lt21.false);
+      header = omega (arith, length-drop 19 bytes, c.if-bytes.false);
       code_is = get_or-drop 19 bytes 0 0;
       sub_is = get_or-drop 19 bytes 1 0;
     }

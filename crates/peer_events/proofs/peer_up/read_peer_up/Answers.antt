@@ -4,7 +4,7 @@ use Rattle.std.proofs.lemmas.List.{take_rest}
 use Rattle.std.proofs.lemmas.Result.{err_from_is_err_and}
 use Rattle.byteorder.specs.Endian.{big_number}
 use Rattle.bmp_specs.specs.PeerHeader.{HeaderValue}
-use Rattle.peer_events.specs.declared.tlvs.Place.{Place}
+use Rattle.peer_events.specs.declared.tlvs.Carrier.{Carrier}
 use Rattle.peer_events.specs.Known.{is_known_in}
 use Rattle.peer_events.proofs.PeerUpReading.{known_by, same_error, up_no_received, up_no_sent, up_no_tlvs, up_parts}
 use Rattle.peer_events.proofs.peer_up.read_peer_up.Goals as goal
@@ -28,7 +28,7 @@ pub returns-clause-ok : goal.returns-clause-ok
 returns-clause-ok c =
     let rest = c.args.rest.now in
     let found = c.are_tlvs.ensures.yes (search rules) in
-    let places = ap (λ (p : Place). count_by (λ t. not (is_known_in p t)) found.0) c.place_of.ensures in
+    let places = ap (λ (m : Carrier). count_by (λ t. not (is_known_in m t)) found.0) c.carrier_of.ensures in
     record {
       header = omega arith;
       local_is = c.local_address.ensures;

@@ -4,7 +4,7 @@ use Rattle.peer_events.specs.Known.{is_known_in}
 use Rattle.peer_events.proofs.tlvs.count_unread.Given as goal
 
 abbrev pub invariant-loop-tlv : goal.invariant-loop-tlv
-invariant-loop-tlv l = HasCount (λ t. not (is_known_in l.place t)) l.bytes l.rest l.unread
+invariant-loop-tlv l = HasCount (λ t. not (is_known_in l.carrier t)) l.bytes l.rest l.unread
 
 abbrev pub decreases-loop-tlv : goal.decreases-loop-tlv
 decreases-loop-tlv l = length l.rest
