@@ -76,7 +76,7 @@ pub record TakesBytes (meaning : Meaning) (old new : Aside) (calls : ℕ) (bytes
   pub open_faults : new.open_faults ≡ old.open_faults
   pub read_faults : CountsLast old.read_faults new.read_faults last
 
--- the present connection was taken to its end, and the ledger stands for its opening and its messages
+-- the present connection was taken to its end, and the account stands for its opening and its messages
 pub record Takes (meaning : Meaning) (Stands : List EntryValue → Type 0) (old new : Aside) (calls : ℕ) (taken : Taken) : Type 0 where
   pub bytes : List ℕ
   pub last : LastRead
