@@ -11,7 +11,7 @@ use Rattle.bmp_specs.specs.MessageBody.{no_peers}
 use Rattle.bmp_specs.specs.Meaning.{WalksBy}
 use Rattle.bmp_specs.specs.MessageEffects.{strict}
 use Rattle.bmp_specs.specs.Values.{EntryValue, opened}
-use Rattle.bmp_specs.specs.Walk.{Verdict, Walks}
+use Rattle.bmp_specs.specs.Walk.{Verdict}
 use Rattle.wire_io.specs.declared.sink.Failed.{Failed}
 use Rattle.wire_io.specs.Aside.{Aside, Given, Plan}
 use Rattle.wire_io.specs.Faults.{Rose}
