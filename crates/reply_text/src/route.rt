@@ -12,18 +12,18 @@ use crate::path::put_path;
 use crate::values::{metrics, put_aggregator, put_origin_word, put_u8};
 use bmp_frames::ViewText;
 use bmp_specs::View;
-use ip_prefix::{Prefix, ShortText};
+use ip_prefix::{Nlri, Prefix, ShortText};
 use itoa::Buffer;
-use origin_index::OriginRow;
 use path_attrs::Attrs;
+use rib_model::RowKey;
 use wire_io::{Failed, Sink, write_all, write_pieces};
 
-// Writes the fields of a place: its peer, its RIB and its prefix.
-fn put_place<O: Sink>(out: &mut O, row: &OriginRow) -> Result<(), Failed>
+// Writes the fields of where a row stands: its peer, its RIB and its prefix.
+fn put_row_key<O: Sink>(out: &mut O, row: &RowKey) -> Result<(), Failed>
     ensures { Writes O.faults O.told O.aside out.old (spaced (key_text row.now.key ∷ view_text row.now.view ∷ prefix_text row.now.nlri.prefix ∷ [])) result out.new }
 {
     let key = row.key.text();
-    let seen = view_and_prefix(row.view, &row.prefix);
+    let seen = view_and_prefix(row.view, &row.nlri.prefix);
     write_pieces(out, &[b" ", key.as_slice(), seen.as_slice()])
 }
 
@@ -87,22 +87,22 @@ fn put_attributes<O: Sink>(out: &mut O, attrs: &Attrs) -> Result<(), Failed>
 }
 
 // Writes the field of the path identifier, where there is one (RFC 7911, section 3), and the end of the line.
-fn put_id<O: Sink>(out: &mut O, id: Option<u32>) -> Result<(), Failed>
-    ensures { Writes O.faults O.told O.aside out.old (further (id_fields id)) result out.new }
+fn put_id<O: Sink>(out: &mut O, nlri: &Nlri) -> Result<(), Failed>
+    ensures { Writes O.faults O.told O.aside out.old (further (id_fields nlri.now.id)) result out.new }
 {
-    match id {
+    match nlri.id {
         None => write_all(out, b"\n"),
         Some(id) => write_pieces(out, &[b" id=", Buffer::new().format(id).as_bytes(), b"\n"]),
     }
 }
 
 // Writes the fields of a route from its peer on, and the end of the line.
-fn put_fields<O: Sink>(out: &mut O, row: &OriginRow, attrs: &Attrs) -> Result<(), Failed>
+fn put_fields<O: Sink>(out: &mut O, row: &RowKey, attrs: &Attrs) -> Result<(), Failed>
     ensures { Writes O.faults O.told O.aside out.old (further (route_fields (record { row_key = row.now; route = attrs.now }))) result out.new }
 {
-    put_place(out, row)?;
+    put_row_key(out, row)?;
     put_attributes(out, attrs)?;
-    put_id(out, row.id)
+    put_id(out, &row.nlri)
 }
 
 /// Writes the line of a route of this lane: its peer, the RIB that it was seen in, its prefix, its path
@@ -111,7 +111,7 @@ fn put_fields<O: Sink>(out: &mut O, row: &OriginRow, attrs: &Attrs) -> Result<()
 pub fn put_route<O: Sink>(
     out: &mut O,
     lane: u32,
-    row: &OriginRow,
+    row: &RowKey,
     attrs: &Attrs,
 ) -> Result<(), Failed>
     ensures { Writes O.faults O.told O.aside out.old (route_line lane (record { row_key = row.now; route = attrs.now })) result out.new }

@@ -1,8 +1,8 @@
 use crate::{Cause, Failed, Why, put_at, put_end, put_route, put_stop};
 use bmp_frames::{parse_key, parse_view};
-use ip_prefix::parse_prefix;
-use origin_index::OriginRow;
+use ip_prefix::{Nlri, parse_prefix};
 use path_attrs::{Attrs, Width, read_attrs};
+use rib_model::RowKey;
 use std::alloc::Global;
 use std::test::Fail;
 use wire_io::{ByteList, MemSink, NoMemory};
@@ -126,12 +126,14 @@ const ROUTES: [Route; 8] = [
 ];
 
 // The row of a route.
-fn row(route: &Route) -> Option<OriginRow> {
-    Some(OriginRow {
+fn row(route: &Route) -> Option<RowKey> {
+    Some(RowKey {
         key: parse_key(route.key)?,
         view: parse_view(route.view)?,
-        prefix: parse_prefix(route.prefix)?,
-        id: route.id,
+        nlri: Nlri {
+            prefix: parse_prefix(route.prefix)?,
+            id: route.id,
+        },
     })
 }
 

@@ -1,8 +1,8 @@
 //! Entries: what the messages of a router do to its tables, in the order of its stream.
 //!
 //! `bmp_message` makes them of the messages of a stream, the tables are made of them, and a lane's
-//! history is a list of them. This crate has the plain types: an effect, an entry, the paths of a
-//! prefix, and a step of a lane. The attributes of a route and what a Peer Up told of a peer stand
+//! history is a list of them. This crate has the plain types: an effect, an entry, where a row
+//! stands, the paths of a prefix, and a step of a lane. The attributes of a route and what a Peer Up told of a peer stand
 //! behind `Arc`s, one for all prefixes of an UPDATE.
 //!
 //! Proved: an effect list keeps the order in which it was filled; the paths of a prefix are a map from
@@ -14,6 +14,7 @@ mod effect;
 mod entry;
 mod list;
 mod paths;
+mod row;
 mod step;
 
 pub use bmp_specs::{Cause, Why};
@@ -21,6 +22,7 @@ pub use effect::{Effect, Route};
 pub use entry::Entry;
 pub use list::EffectList;
 pub use paths::{PathOf, Paths};
+pub use row::RowKey;
 pub use step::Step;
 
 #[cfg(test)]

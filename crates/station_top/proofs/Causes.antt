@@ -9,11 +9,11 @@ use Rattle.bmp_specs.specs.Life.{LastRead, gave, gave_none, failed, most_taken, 
 use Rattle.bmp_specs.specs.Meaning.{Meaning, WalksBy}
 use Rattle.bmp_specs.specs.MessageEffects.{strict}
 use Rattle.bmp_specs.specs.Values.{EntryValue}
-use Rattle.bmp_specs.specs.Walk.{Verdict, whole, more, terminated, broken, Walks}
+use Rattle.bmp_specs.specs.Walk.{Verdict, whole, more, terminated, broken}
 use Rattle.bmp_specs.proofs.LifeOne.{cause_of_termination, cause_of_break, cause_of_fullness, cause_of_end, cause_of_cut, cause_of_fault}
 use Rattle.bmp_message.specs.StreamWalk.{verdict_with}
 use Rattle.station_top.specs.Input.{HasCome}
-use Rattle.station_top.specs.Ledger.{EndsBy}
+use Rattle.station_top.specs.Account.{EndsBy}
 use Rattle.station_top.specs.Take.{cause_at_end, IsEarly}
 
 below_most : (n : ℕ) → n < most_taken → n ≢ most_taken

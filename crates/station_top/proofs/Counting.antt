@@ -10,9 +10,9 @@ use Rattle.std.proofs.lemmas.List.Elements.{filter-append}
 use Rattle.bmp_specs.specs.Reply.{told_count}
 use Rattle.bmp_specs.specs.Selection.{SelectValue}
 use Rattle.bmp_specs.specs.Values.{KeyValue, AttrsValue}
-use Rattle.station_top.specs.declared.place.Place.{Place}
+use Rattle.station_top.specs.declared.route_key.RouteKey.{RouteKey}
 use Rattle.station_top.specs.Tables.{Rows}
-use Rattle.station_top.specs.TableText.{keeps_place, keeps_row, rows_of}
+use Rattle.station_top.specs.TableText.{keeps_route, keeps_row, rows_of}
 
 module _ (select : SelectValue) where
   -- the rows of the first peer and of the others
@@ -29,20 +29,20 @@ module _ (select : SelectValue) where
   pub count_all : (count total : ℕ) (es : List (KeyValue × Rows)) → es ≡ [] → told_count count ≡ count → told_count (count + length (filter (keeps_row select) (flat_map rows_of es))) ≡ total → count ≡ total
   count_all count total es none fits so_far = let l : length (filter (keeps_row select) (flat_map rows_of es)) ≡ 0 = ap (λ (l : List (KeyValue × Rows)). length (filter (keeps_row select) (flat_map rows_of l))) none in omega (arith, l, fits, so_far)
 
-  -- the same of the places of a peer
-  pub place_kept : (count next total : ℕ) (es rest : List (Place × Arc AttrsValue Global)) (e : Place × Arc AttrsValue Global) → es ≡ e ∷ rest → keeps_place select e.0 ≡ true → next ≡ told_count (count + 1) → told_count (count + length (filter (keeps_place select) (keys_of es))) ≡ total
-      → told_count (next + length (filter (keeps_place select) (keys_of rest))) ≡ total
-  place_kept count next total es rest e first kept more so_far =
-      let l : length (filter (keeps_place select) (keys_of es)) ≡ length (e.0 ∷ filter (keeps_place select) (keys_of rest)) =
-      ap (λ (l : List (Place × Arc AttrsValue Global)). length (filter (keeps_place select) (keys_of l))) first ∙ ap length (cond-true (keeps_place select e.0) _ _ kept) in
+  -- the same of the routes of a peer
+  pub route_kept : (count next total : ℕ) (es rest : List (RouteKey × Arc AttrsValue Global)) (e : RouteKey × Arc AttrsValue Global) → es ≡ e ∷ rest → keeps_route select e.0 ≡ true → next ≡ told_count (count + 1) → told_count (count + length (filter (keeps_route select) (keys_of es))) ≡ total
+      → told_count (next + length (filter (keeps_route select) (keys_of rest))) ≡ total
+  route_kept count next total es rest e first kept more so_far =
+      let l : length (filter (keeps_route select) (keys_of es)) ≡ length (e.0 ∷ filter (keeps_route select) (keys_of rest)) =
+      ap (λ (l : List (RouteKey × Arc AttrsValue Global)). length (filter (keeps_route select) (keys_of l))) first ∙ ap length (cond-true (keeps_route select e.0) _ _ kept) in
       omega (arith, l, more, so_far)
 
-  pub place_passed : (count total : ℕ) (es rest : List (Place × Arc AttrsValue Global)) (e : Place × Arc AttrsValue Global) → es ≡ e ∷ rest → keeps_place select e.0 ≡ false → told_count (count + length (filter (keeps_place select) (keys_of es))) ≡ total
-      → told_count (count + length (filter (keeps_place select) (keys_of rest))) ≡ total
-  place_passed count total es rest e first passed so_far =
-      let l : length (filter (keeps_place select) (keys_of es)) ≡ length (filter (keeps_place select) (keys_of rest)) =
-      ap (λ (l : List (Place × Arc AttrsValue Global)). length (filter (keeps_place select) (keys_of l))) first ∙ ap length (cond-false (keeps_place select e.0) _ _ passed) in
+  pub route_passed : (count total : ℕ) (es rest : List (RouteKey × Arc AttrsValue Global)) (e : RouteKey × Arc AttrsValue Global) → es ≡ e ∷ rest → keeps_route select e.0 ≡ false → told_count (count + length (filter (keeps_route select) (keys_of es))) ≡ total
+      → told_count (count + length (filter (keeps_route select) (keys_of rest))) ≡ total
+  route_passed count total es rest e first passed so_far =
+      let l : length (filter (keeps_route select) (keys_of es)) ≡ length (filter (keeps_route select) (keys_of rest)) =
+      ap (λ (l : List (RouteKey × Arc AttrsValue Global)). length (filter (keeps_route select) (keys_of l))) first ∙ ap length (cond-false (keeps_route select e.0) _ _ passed) in
       omega (arith, l, so_far)
 
-  pub places_all : (count total : ℕ) (es : List (Place × Arc AttrsValue Global)) → es ≡ [] → told_count count ≡ count → told_count (count + length (filter (keeps_place select) (keys_of es))) ≡ total → count ≡ total
-  places_all count total es none fits so_far = let l : length (filter (keeps_place select) (keys_of es)) ≡ 0 = ap (λ (l : List (Place × Arc AttrsValue Global)). length (filter (keeps_place select) (keys_of l))) none in omega (arith, l, fits, so_far)
+  pub routes_all : (count total : ℕ) (es : List (RouteKey × Arc AttrsValue Global)) → es ≡ [] → told_count count ≡ count → told_count (count + length (filter (keeps_route select) (keys_of es))) ≡ total → count ≡ total
+  routes_all count total es none fits so_far = let l : length (filter (keeps_route select) (keys_of es)) ≡ 0 = ap (λ (l : List (RouteKey × Arc AttrsValue Global)). length (filter (keeps_route select) (keys_of l))) none in omega (arith, l, fits, so_far)

@@ -1,11 +1,11 @@
--- The entries of a walk, handed to a ledger one after another.
+-- The entries of a walk, handed to a account one after another.
 use Rattle.std.proofs.Common.{◌≡◌, ℕ, ◌+◌, ◌-◌, ◌^◌, min, List, [], ◌∷◌, ◌++◌, sym, subst, arith, length-append}
 use Rattle.bmp_specs.specs.declared.causes.Why.{Why}
 use Rattle.bmp_specs.specs.declared.causes.Cause.TheVariants.{Terminated, Broken}
 use Rattle.bmp_specs.specs.Values.{EntryValue, opened}
 use Rattle.bmp_specs.specs.Walk.{broken}
 use Rattle.bmp_message.specs.StreamWalk.{WalkValue, HasReached, EndsAt, GoesOn}
-use Rattle.station_top.specs.Ledger.{HasNoted, HasDrawn, IsDrained, IsEnded}
+use Rattle.station_top.specs.Account.{HasNoted, HasDrawn, IsDrained, IsEnded}
 use Rattle.bmp_message.specs.declared.walk.Progress.TheVariants as progress
 
 -- one more entry was noted

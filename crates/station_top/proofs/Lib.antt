@@ -6,7 +6,7 @@ pub mod Taking
 pub mod Coming
 pub mod CheckCounts
 pub mod Concluding
-pub mod PlaceOrder
+pub mod RouteKeyOrder
 pub mod MapSteps
 pub mod RowSteps
 pub mod EntrySteps

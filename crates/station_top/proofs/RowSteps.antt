@@ -17,17 +17,17 @@ use Rattle.bmp_specs.proofs.RowLaws.{up_now, up_from, none_row, row_now, row_fro
 use Rattle.rib_model.specs.declared.effect.Effect.{Effect}
 use Rattle.rib_model.specs.declared.effect.Effect.TheVariants.{Up, Down, Announce, Withdraw}
 use Rattle.rib_model.specs.Effects.{effect_value}
-use Rattle.station_top.specs.declared.place.Place.{Place}
-use Rattle.station_top.specs.Places.{place_of}
+use Rattle.station_top.specs.declared.route_key.RouteKey.{RouteKey}
+use Rattle.station_top.specs.RouteKeys.{row_key_of}
 use Rattle.station_top.specs.Tables.{Peers, has_peer, route_in, route_at, Holds, Puts, Clears}
 
-at_place : (key : KeyValue) (place : Place) (p : RowKeyValue) → (key ≡ p.key) × (place.view ≡ p.view) × (place.nlri ≡ p.nlri) → place_of key place ≡ p
-at_place key place p (k, v, n) = λ i. record { key = k i; view = v i; nlri = n i }
+at_route_key : (key : KeyValue) (route_key : RouteKey) (p : RowKeyValue) → (key ≡ p.key) × (route_key.view ≡ p.view) × (route_key.nlri ≡ p.nlri) → row_key_of key route_key ≡ p
+at_route_key key route_key p (k, v, n) = λ i. record { key = k i; view = v i; nlri = n i }
 
-of_place : (key : KeyValue) (place : Place) (p : RowKeyValue) → place_of key place ≡ p → (key ≡ p.key) × (place.view ≡ p.view) × (place.nlri ≡ p.nlri)
-of_place key place p same = (ap (λ (q : RowKeyValue). q.key) same, ap (λ (q : RowKeyValue). q.view) same, ap (λ (q : RowKeyValue). q.nlri) same)
+of_route_key : (key : KeyValue) (route_key : RouteKey) (p : RowKeyValue) → row_key_of key route_key ≡ p → (key ≡ p.key) × (route_key.view ≡ p.view) × (route_key.nlri ≡ p.nlri)
+of_route_key key route_key p same = (ap (λ (q : RowKeyValue). q.key) same, ap (λ (q : RowKeyValue). q.view) same, ap (λ (q : RowKeyValue). q.nlri) same)
 
--- what the new peers answer where the effect names the peer or ends what stands at the place, and as before elsewhere
+-- what the new peers answer where the effect names the peer or ends what stands at the row, and as before elsewhere
 pub record Follows (old new : Peers) (e : EffectValue) : Type 0 where
   pub named : (key : KeyValue) → Names key e → IsTrue (has_peer new key) ↔ ((info : PeerInfoValue) × (e ≡ up key info))
   pub others : (key : KeyValue) → ¬ (Names key e) → has_peer new key ≡ has_peer old key
@@ -76,34 +76,34 @@ follows_down old new k info c = record {
   kept = λ p other. c.others p other;
 }
 
--- a route is at its place where its peer is up
-put_here : (b : Bool) (k : KeyValue) (place : Place) (new route : AttrsValue) (o : Option AttrsValue) → o ≡ (if b then Some new else None)
-    → (o ≡ Some route) ↔ ((announce k place.view place.nlri new ≡ announce k place.view place.nlri route) × IsTrue b)
-put_here true k place new route o is = (λ t. let e : Some new ≡ Some route = sym is ∙ t in let s : new ≡ route = cc in (ap (announce k place.view place.nlri) s, refl), λ t. let e = t.0 in let s : new ≡ route = cc in is ∙ ap Some s)
-put_here false k place new route o is = (λ t. absurd (none_some route o is t), λ t. let e : false ≡ true = t.1 in absurd cc)
+-- a route is at its row where its peer is up
+put_here : (b : Bool) (k : KeyValue) (route_key : RouteKey) (new route : AttrsValue) (o : Option AttrsValue) → o ≡ (if b then Some new else None)
+    → (o ≡ Some route) ↔ ((announce k route_key.view route_key.nlri new ≡ announce k route_key.view route_key.nlri route) × IsTrue b)
+put_here true k route_key new route o is = (λ t. let e : Some new ≡ Some route = sym is ∙ t in let s : new ≡ route = cc in (ap (announce k route_key.view route_key.nlri) s, refl), λ t. let e = t.0 in let s : new ≡ route = cc in is ∙ ap Some s)
+put_here false k route_key new route o is = (λ t. absurd (none_some route o is t), λ t. let e : false ≡ true = t.1 in absurd cc)
 
-pub follows_announce : (old new : Peers) (k : KeyValue) (place : Place) (route : AttrsValue) → Puts old new k place (Some route) → Follows old new (announce k place.view place.nlri route)
-follows_announce old new k place route c = record {
+pub follows_announce : (old new : Peers) (k : KeyValue) (route_key : RouteKey) (route : AttrsValue) → Puts old new k route_key (Some route) → Follows old new (announce k route_key.view route_key.nlri route)
+follows_announce old new k route_key route c = record {
   named = λ key n. absurd n;
   others = λ key other. c.peers key;
-  replaced = λ p other same. subst (λ (q : RowKeyValue). (route_at new q ≡ Some other) ↔ ((announce k place.view place.nlri route ≡ announce q.key q.view q.nlri other) × IsTrue (has_peer old q.key)))
-      (at_place k place p same) (put_here (has_peer old k) k place route other (route_at new (place_of k place)) c.here);
-  kept = λ p other. c.others p (λ same. other (of_place k place p same));
+  replaced = λ p other same. subst (λ (q : RowKeyValue). (route_at new q ≡ Some other) ↔ ((announce k route_key.view route_key.nlri route ≡ announce q.key q.view q.nlri other) × IsTrue (has_peer old q.key)))
+      (at_route_key k route_key p same) (put_here (has_peer old k) k route_key route other (route_at new (row_key_of k route_key)) c.here);
+  kept = λ p other. c.others p (λ same. other (of_route_key k route_key p same));
 }
 
 either_none : (b : Bool) → (if b then None else None) ≡ (let n : Option AttrsValue = None in n)
 either_none true = refl
 either_none false = refl
 
-pub follows_withdraw : (old new : Peers) (k : KeyValue) (place : Place) → Puts old new k place None → Follows old new (withdraw k place.view place.nlri)
-follows_withdraw old new k place c = record {
+pub follows_withdraw : (old new : Peers) (k : KeyValue) (route_key : RouteKey) → Puts old new k route_key None → Follows old new (withdraw k route_key.view route_key.nlri)
+follows_withdraw old new k route_key c = record {
   named = λ key n. absurd n;
   others = λ key other. c.peers key;
   replaced = λ p route same. (
-    λ t. absurd (none_some route (route_at new p) (subst (λ (q : RowKeyValue). route_at new q ≡ None) (at_place k place p same) (c.here ∙ either_none (has_peer old k))) t),
-    λ t. let e : withdraw k place.view place.nlri ≡ announce p.key p.view p.nlri route = t.0 in absurd cc,
+    λ t. absurd (none_some route (route_at new p) (subst (λ (q : RowKeyValue). route_at new q ≡ None) (at_route_key k route_key p same) (c.here ∙ either_none (has_peer old k))) t),
+    λ t. let e : withdraw k route_key.view route_key.nlri ≡ announce p.key p.view p.nlri route = t.0 in absurd cc,
   );
-  kept = λ p other. c.others p (λ same. other (of_place k place p same));
+  kept = λ p other. c.others p (λ same. other (of_route_key k route_key p same));
 }
 
 -- an effect that names no peer and ends no row

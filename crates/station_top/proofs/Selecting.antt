@@ -21,8 +21,8 @@ use Rattle.bmp_specs.specs.TableRows.{row_key_cmp, AreRows}
 use Rattle.bmp_specs.specs.Values.{KeyValue, AttrsValue, EffectValue}
 use Rattle.bmp_specs.proofs.OrderLaws.{family_total, family_exact, view_total, view_exact, key_total, key_exact}
 use Rattle.bmp_specs.proofs.ListedOne.{contains_cases, contains_first, contains_later}
-use Rattle.station_top.specs.declared.place.Place.{Place}
-use Rattle.station_top.specs.TableText.{is_named, keeps_peer, keeps_place, keeps_row, row_of}
+use Rattle.station_top.specs.declared.route_key.RouteKey.{RouteKey}
+use Rattle.station_top.specs.TableText.{is_named, keeps_peer, keeps_route, keeps_row, row_of}
 
 -- a test by an order says whether the value is the one that is named
 module _ {A : Type 0} (cmp : A → A → Ordering) (total : IsTotalOrder cmp) (exact : CmpEqualImpliesEq cmp) where
@@ -32,9 +32,9 @@ module _ {A : Type 0} (cmp : A → A → Ordering) (total : IsTotalOrder cmp) (e
 
 pub keeps_decides : (select : SelectValue) (row : RowValue) → Decides (keeps_row select row) (IsRowSelected select 0 row)
 keeps_decides select row =
-    let place = row.row_key in
-    let peer = Decides-and _ _ (named_decides nat_cmp nat_cmp_total exact_unsigned select.router 0) (named_decides key_cmp key_total key_exact select.peer place.key) in
-    let within = Decides-and _ _ (named_decides view_cmp view_total view_exact select.view place.view) (named_decides family_cmp family_total family_exact select.family place.nlri.prefix.address.family) in
+    let route_key = row.row_key in
+    let peer = Decides-and _ _ (named_decides nat_cmp nat_cmp_total exact_unsigned select.router 0) (named_decides key_cmp key_total key_exact select.peer route_key.key) in
+    let within = Decides-and _ _ (named_decides view_cmp view_total view_exact select.view route_key.view) (named_decides family_cmp family_total family_exact select.family route_key.nlri.prefix.address.family) in
     Decides-like (keeps_row select row) (λ h. record { of_peer = record { router_is = h.0.0; peer_is = h.0.1 }; view_is = h.1.0; family_is = h.1.1 }) (λ s. ((s.of_peer.router_is, s.of_peer.peer_is), (s.view_is, s.family_is))) (Decides-and _ _ peer within)
 
 -- what a filter keeps, and in which order
@@ -89,28 +89,28 @@ not_named (Some value) e = absurd (false≢true (sym e))
 
 -- the rows of a peer, by whether the peer is selected, and then by view and family
 module _ (select : SelectValue) (key : KeyValue) where
-  pub kept_row : (row : Place × Arc AttrsValue Global) → keeps_peer select key ≡ true → keeps_row select (row_of key row) ≡ keeps_place select row.0
-  kept_row row kept = ap (λ (b : Bool). b && keeps_place select row.0) kept
+  pub kept_row : (row : RouteKey × Arc AttrsValue Global) → keeps_peer select key ≡ true → keeps_row select (row_of key row) ≡ keeps_route select row.0
+  kept_row row kept = ap (λ (b : Bool). b && keeps_route select row.0) kept
 
-  pub passed_peer : (es : List (Place × Arc AttrsValue Global)) → keeps_peer select key ≡ false → filter (keeps_row select) (map (row_of key) es) ≡ []
+  pub passed_peer : (es : List (RouteKey × Arc AttrsValue Global)) → keeps_peer select key ≡ false → filter (keeps_row select) (map (row_of key) es) ≡ []
   passed_peer [] passed = refl
-  passed_peer (e ∷ es) passed = cond-false (keeps_row select (row_of key e)) _ _ (and_left (keeps_peer select key) (keeps_place select e.0) passed) ∙ passed_peer es passed
+  passed_peer (e ∷ es) passed = cond-false (keeps_row select (row_of key e)) _ _ (and_left (keeps_peer select key) (keeps_route select e.0) passed) ∙ passed_peer es passed
 
   -- no view and no family is named
-  pub kept_peer : (es : List (Place × Arc AttrsValue Global)) → keeps_peer select key ≡ true → select.view ≡ None → select.family ≡ None → filter (keeps_row select) (map (row_of key) es) ≡ map (row_of key) es
+  pub kept_peer : (es : List (RouteKey × Arc AttrsValue Global)) → keeps_peer select key ≡ true → select.view ≡ None → select.family ≡ None → filter (keeps_row select) (map (row_of key) es) ≡ map (row_of key) es
   kept_peer [] kept view family = refl
   kept_peer (e ∷ es) kept view family =
-      let place : keeps_place select e.0 ≡ true = λ i. is_named view_cmp (view i) e.0.view && is_named family_cmp (family i) e.0.nlri.prefix.address.family in
-      cond-true (keeps_row select (row_of key e)) _ _ (kept_row e kept ∙ place) ∙ ap (λ (rows : List RowValue). row_of key e ∷ rows) (kept_peer es kept view family)
+      let route_key : keeps_route select e.0 ≡ true = λ i. is_named view_cmp (view i) e.0.view && is_named family_cmp (family i) e.0.nlri.prefix.address.family in
+      cond-true (keeps_row select (row_of key e)) _ _ (kept_row e kept ∙ route_key) ∙ ap (λ (rows : List RowValue). row_of key e ∷ rows) (kept_peer es kept view family)
 
   one_more : {Y : Type 0} (b : Bool) (x : RowValue) (y : Y) (xs : List RowValue) (ys : List Y) → length xs ≡ length ys → length (cond b (x ∷ xs) xs) ≡ length (cond b (y ∷ ys) ys)
   one_more true x y xs ys e = omega (arith, e)
   one_more false x y xs ys e = e
 
-  -- as many rows as places
-  pub kept_places : (es : List (Place × Arc AttrsValue Global)) → keeps_peer select key ≡ true → length (filter (keeps_row select) (map (row_of key) es)) ≡ length (filter (keeps_place select) (keys_of es))
-  kept_places [] kept = refl
-  kept_places (e ∷ es) kept =
+  -- as many rows as routes
+  pub kept_routes : (es : List (RouteKey × Arc AttrsValue Global)) → keeps_peer select key ≡ true → length (filter (keeps_row select) (map (row_of key) es)) ≡ length (filter (keeps_route select) (keys_of es))
+  kept_routes [] kept = refl
+  kept_routes (e ∷ es) kept =
       let rows = filter (keeps_row select) (map (row_of key) es) in
       ap (λ (b : Bool). length (cond b (row_of key e ∷ rows) rows)) (kept_row e kept)
-      ∙ one_more (keeps_place select e.0) (row_of key e) e.0 rows (filter (keeps_place select) (keys_of es)) (kept_places es kept)
+      ∙ one_more (keeps_route select e.0) (row_of key e) e.0 rows (filter (keeps_route select) (keys_of es)) (kept_routes es kept)

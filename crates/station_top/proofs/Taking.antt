@@ -11,13 +11,13 @@ use Rattle.bmp_specs.specs.MessageBody.{no_peers}
 use Rattle.bmp_specs.specs.Meaning.{WalksBy}
 use Rattle.bmp_specs.specs.MessageEffects.{strict}
 use Rattle.bmp_specs.specs.Values.{EntryValue, opened}
-use Rattle.bmp_specs.specs.Walk.{Verdict, Walks}
+use Rattle.bmp_specs.specs.Walk.{Verdict}
 use Rattle.wire_io.specs.declared.sink.Failed.{Failed}
 use Rattle.wire_io.specs.Aside.{Aside, Given, Plan}
 use Rattle.wire_io.specs.Faults.{Rose}
 use Rattle.station_doors.specs.Doors.{Reads, AsPlanned, GivesBytes, given_more, read_of}
 use Rattle.bmp_message.specs.StreamWalk.{WalkValue, HasReached, rest_of, verdict_with}
-use Rattle.station_top.specs.Ledger.{HasNoted, HasDrawn, IsDrained, IsEnded}
+use Rattle.station_top.specs.Account.{HasNoted, HasDrawn, IsDrained, IsEnded}
 use Rattle.station_top.specs.Take.{GivesMore, IsNew, Takes, TakesBytes, Gives, ReadsAsPlanned, cause_at_end}
 use Rattle.station_top.specs.declared.take.Taken.{Taken}
 use Rattle.station_top.proofs.Causes.{come_end, come_fault, come_full, come_early, come_early_here, not_early, undecided}

@@ -18,8 +18,8 @@ use Rattle.wire_io.specs.declared.sink.Failed.{Failed}
 use Rattle.wire_io.specs.Aside.{Aside}
 use Rattle.wire_io.specs.Writes.{Writes}
 use Rattle.wire_io.proofs.Joins.{join, more, writes_none}
-use Rattle.station_top.specs.declared.place.Place.{Place}
-use Rattle.station_top.specs.Places.{place_of}
+use Rattle.station_top.specs.declared.route_key.RouteKey.{RouteKey}
+use Rattle.station_top.specs.RouteKeys.{row_key_of}
 use Rattle.station_top.specs.Tables.{Rows}
 use Rattle.station_top.specs.TableText.{keeps_row, row_of, rows_of, lines_of}
 
@@ -53,21 +53,21 @@ lines_append [] ys = refl
 lines_append (x ∷ xs) ys = ap (λ (l : List ℕ). route_line 0 x ++ l) (lines_append xs ys) ∙ sym (append_assoc (route_line 0 x) (lines_of xs) (lines_of ys))
 
 -- the line of a row that is kept, or none
-pub told_row : (select : SelectValue) (key : KeyValue) (e : Place × Arc AttrsValue Global) (place : RowKeyValue) (route : AttrsValue) → place ≡ place_of key e.0 → route ≡ arc_value e.1 → keeps_row select (row_of key e) ≡ true
-    → route_line 0 (record { row_key = place; route = route }) ≡ lines_of (filter (keeps_row select) (row_of key e ∷ []))
-told_row select key e place route p r kept =
+pub told_row : (select : SelectValue) (key : KeyValue) (e : RouteKey × Arc AttrsValue Global) (route_key : RowKeyValue) (route : AttrsValue) → route_key ≡ row_key_of key e.0 → route ≡ arc_value e.1 → keeps_row select (row_of key e) ≡ true
+    → route_line 0 (record { row_key = route_key; route = route }) ≡ lines_of (filter (keeps_row select) (row_of key e ∷ []))
+told_row select key e route_key route p r kept =
     ap (λ (row : RowValue). route_line 0 row) (λ i. record { row_key = p i; route = r i })
     ∙ sym (append-nil (route_line 0 (row_of key e)))
     ∙ sym (ap lines_of (cond-true (keeps_row select (row_of key e)) (row_of key e ∷ []) [] kept))
 
-pub passed_row : (select : SelectValue) (key : KeyValue) (e : Place × Arc AttrsValue Global) → keeps_row select (row_of key e) ≡ false → lines_of (filter (keeps_row select) (row_of key e ∷ [])) ≡ []
+pub passed_row : (select : SelectValue) (key : KeyValue) (e : RouteKey × Arc AttrsValue Global) → keeps_row select (row_of key e) ≡ false → lines_of (filter (keeps_row select) (row_of key e ∷ [])) ≡ []
 passed_row select key e passed = ap lines_of (cond-false (keeps_row select (row_of key e)) (row_of key e ∷ []) [] passed)
 
 -- the first line of what a peer has left, where its row is kept
-pub told_first : (select : SelectValue) (key : KeyValue) (es rest : List (Place × Arc AttrsValue Global)) (e : Place × Arc AttrsValue Global) → es ≡ e ∷ rest
+pub told_first : (select : SelectValue) (key : KeyValue) (es rest : List (RouteKey × Arc AttrsValue Global)) (e : RouteKey × Arc AttrsValue Global) → es ≡ e ∷ rest
     → lines_of (filter (keeps_row select) (map (row_of key) es)) ≡ lines_of (filter (keeps_row select) (row_of key e ∷ [])) ++ lines_of (filter (keeps_row select) (map (row_of key) rest))
 told_first select key es rest e first =
-    ap (λ (l : List (Place × Arc AttrsValue Global)). lines_of (filter (keeps_row select) (map (row_of key) l))) first
+    ap (λ (l : List (RouteKey × Arc AttrsValue Global)). lines_of (filter (keeps_row select) (map (row_of key) l))) first
     ∙ ap lines_of (filter-append (keeps_row select) (row_of key e ∷ []) (map (row_of key) rest))
     ∙ lines_append (filter (keeps_row select) (row_of key e ∷ [])) (filter (keeps_row select) (map (row_of key) rest))
 

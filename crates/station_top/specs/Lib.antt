@@ -1,10 +1,10 @@
 pub mod Input
-pub mod Ledger
+pub mod Account
 pub mod Take
 pub mod Check
 pub mod Status
 pub mod Words
 pub mod Station
-pub mod Places
+pub mod RouteKeys
 pub mod Tables
 pub mod TableText

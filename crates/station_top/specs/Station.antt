@@ -90,11 +90,11 @@ pub record Answers (meaning : Meaning) (words : List (List ℕ)) (old new : Opti
   pub written : IsWritten told0 told1 text meant status
 
 -- the status is this one exactly where the count rose
-pub record IsCause (before now : ℕ) (status fault : Status) : Type 0 where
+pub record AnswersFault (before now : ℕ) (status fault : Status) : Type 0 where
   pub rose : status ≡ fault → Rose before now
   pub calm : status ≢ fault → now ≡ before
 
--- What the yard and its port came to: how the input was taken, with what the ledger then stands for, or the status that says
+-- What the yard and its port came to: how the input was taken, with what the account then stands for, or the status that says
 -- why it was not.
 pub record IsTaken (meaning : Meaning) (Stands : List EntryValue → Type 0) (old new : Option YardValue) (number : ℕ) (taken : Taken) : Type 0 where
   pub input : Given

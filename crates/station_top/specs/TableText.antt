@@ -13,9 +13,9 @@ use Rattle.bmp_specs.specs.RouteLine.{route_line}
 use Rattle.bmp_specs.specs.Rows.{RowValue}
 use Rattle.bmp_specs.specs.Selection.{SelectValue}
 use Rattle.bmp_specs.specs.Values.{KeyValue, AttrsValue}
-use Rattle.station_top.specs.declared.place.Place.{Place}
+use Rattle.station_top.specs.declared.route_key.RouteKey.{RouteKey}
 use Rattle.station_top.specs.declared.tables.Tables.{Tables}
-use Rattle.station_top.specs.Places.{peer_place_cmp, place_of, within_peer}
+use Rattle.station_top.specs.RouteKeys.{route_key_cmp, row_key_of, route_key_of}
 use Rattle.station_top.specs.Tables.{Rows, Peers}
 
 -- whether the value is the one that is named, or none is named
@@ -28,15 +28,15 @@ abbrev pub keeps_peer : SelectValue → KeyValue → Bool
 keeps_peer select key = is_named nat_cmp select.router 0 && is_named key_cmp select.peer key
 
 -- whether rows of this view and family are asked for
-abbrev pub keeps_place : SelectValue → Place → Bool
-keeps_place select place = is_named view_cmp select.view place.view && is_named family_cmp select.family place.nlri.prefix.address.family
+abbrev pub keeps_route : SelectValue → RouteKey → Bool
+keeps_route select route_key = is_named view_cmp select.view route_key.view && is_named family_cmp select.family route_key.nlri.prefix.address.family
 
 abbrev pub keeps_row : SelectValue → RowValue → Bool
-keeps_row select row = keeps_peer select row.row_key.key && keeps_place select (within_peer row.row_key)
+keeps_row select row = keeps_peer select row.row_key.key && keeps_route select (route_key_of row.row_key)
 
 -- a row of a peer
-abbrev pub row_of : KeyValue → Place × Arc AttrsValue Global → RowValue
-row_of key row = record { row_key = place_of key row.0; route = arc_value row.1 }
+abbrev pub row_of : KeyValue → RouteKey × Arc AttrsValue Global → RowValue
+row_of key row = record { row_key = row_key_of key row.0; route = arc_value row.1 }
 
 -- the rows of a peer, and of all peers, in their order
 abbrev pub rows_of : KeyValue × Rows → List RowValue
@@ -53,10 +53,10 @@ selected_in select peers = filter (keeps_row select) (rows_in peers)
 abbrev pub lines_of : List RowValue → List ℕ
 lines_of rows = concat (map (route_line 0) rows)
 
--- the peers and the rows of each stand in their order
+-- the peers and the routes of each stand in their order
 pub record AreOrdered (peers : Peers) : Type 0 where
   pub keys : IsOrdered key_cmp peers
-  pub places : AllByRecursion (λ peer. IsOrdered peer_place_cmp peer.1) peers.entries
+  pub routes : AllByRecursion (λ peer. IsOrdered route_key_cmp peer.1) peers.entries
 
 -- the reply of a history of this revision, of the rows that are selected
 abbrev pub table_text : SelectValue → ℕ → Tables → List ℕ

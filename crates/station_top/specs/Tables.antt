@@ -10,13 +10,13 @@ use Rattle.bmp_specs.specs.PeerUp.{IsUp}
 use Rattle.bmp_specs.specs.Rows.{RowKeyValue, RowValue, HasRow}
 use Rattle.bmp_specs.specs.Session.{live, state_of, session_effects}
 use Rattle.bmp_specs.specs.Values.{KeyValue, AttrsValue, EffectValue, EntryValue}
-use Rattle.station_top.specs.declared.place.Place.{Place}
+use Rattle.station_top.specs.declared.route_key.RouteKey.{RouteKey}
 use Rattle.station_top.specs.declared.tables.Tables.{Tables}
-use Rattle.station_top.specs.Places.{peer_place_cmp, place_of, within_peer}
+use Rattle.station_top.specs.RouteKeys.{route_key_cmp, row_key_of, route_key_of}
 
 -- the rows of a peer, and the peers that are up with their rows
 abbrev pub Rows : Type 0
-Rows = BTreeMap Place (Arc AttrsValue Global)
+Rows = BTreeMap RouteKey (Arc AttrsValue Global)
 
 abbrev pub Peers : Type 0
 Peers = BTreeMap KeyValue Rows
@@ -25,13 +25,13 @@ Peers = BTreeMap KeyValue Rows
 abbrev pub has_peer : Peers → KeyValue → Bool
 has_peer peers key = is_some (get key_cmp peers key)
 
--- the route that stands at the place, where the peer is among them
-abbrev pub route_in : Option Rows → Place → Option AttrsValue
-route_in None place = None
-route_in (Some rows) place = option_map arc_value (get peer_place_cmp rows place)
+-- the route of this key, where the peer is among them
+abbrev pub route_in : Option Rows → RouteKey → Option AttrsValue
+route_in None route_key = None
+route_in (Some rows) route_key = option_map arc_value (get route_key_cmp rows route_key)
 
 abbrev pub route_at : Peers → RowKeyValue → Option AttrsValue
-route_at peers place = route_in (get key_cmp peers place.key) (within_peer place)
+route_at peers row_key = route_in (get key_cmp peers row_key.key) (route_key_of row_key)
 
 -- the peers are those that are up after the effects, and their rows those that the effects leave
 pub record Holds (peers : Peers) (effects : List EffectValue) : Type 0 where
@@ -43,11 +43,11 @@ pub record StandsFor (tables : Tables) (entries : List EntryValue) : Type 0 wher
   pub session : IsTrue tables.is_live ↔ (state_of entries ≡ live)
   pub peers : Holds tables.peers (session_effects entries)
 
--- this peer has the route at the place, or none there; all else is as before
-pub record Puts (old new : Peers) (key : KeyValue) (place : Place) (route : Option AttrsValue) : Type 0 where
+-- this peer has the route under this key, or none there; all else is as before
+pub record Puts (old new : Peers) (key : KeyValue) (route_key : RouteKey) (route : Option AttrsValue) : Type 0 where
   pub peers : (k : KeyValue) → has_peer new k ≡ has_peer old k
-  pub here : route_at new (place_of key place) ≡ (if has_peer old key then route else None)
-  pub others : (p : RowKeyValue) → ¬ (place_of key place ≡ p) → route_at new p ≡ route_at old p
+  pub here : route_at new (row_key_of key route_key) ≡ (if has_peer old key then route else None)
+  pub others : (p : RowKeyValue) → ¬ (row_key_of key route_key ≡ p) → route_at new p ≡ route_at old p
 
 -- this peer is there or not, without a row; all else is as before
 pub record Clears (old new : Peers) (key : KeyValue) (is_there : Bool) : Type 0 where

@@ -1,5 +1,5 @@
 -- What taking a connection does to a port.
-use Rattle.std.specs.Prelude.{◌≡◌, ◌↔◌, IsTrue, true, false, ℕ, ◌*◌, ◌<◌, ◌≤◌, ◌==◌, ◌++◌, ◌⊎◌, List, [], ◌∷◌, Option, Some, None, IfSome, Contains, length, take, drop, if◌then◌else◌}
+use Rattle.std.specs.Prelude.{◌≡◌, ◌↔◌, IsTrue, false, ℕ, ◌*◌, ◌<◌, ◌≤◌, ◌==◌, ◌++◌, ◌⊎◌, List, [], ◌∷◌, Option, Some, None, IfSome, Contains, length, take, drop, if◌then◌else◌}
 use Rattle.std.specs.Io.KnownBytes.{Consumes, IsAtEnd}
 use Rattle.bmp_specs.specs.declared.causes.Cause.{Cause}
 use Rattle.bmp_specs.specs.declared.causes.Cause.TheVariants.{Ended, Terminated, CutShort, Broken, ReadFault, Full}
@@ -76,7 +76,7 @@ pub record TakesBytes (meaning : Meaning) (old new : Aside) (calls : ℕ) (bytes
   pub open_faults : new.open_faults ≡ old.open_faults
   pub read_faults : CountsLast old.read_faults new.read_faults last
 
--- the present connection was taken to its end, and the ledger stands for its opening and its messages
+-- the present connection was taken to its end, and the account stands for its opening and its messages
 pub record Takes (meaning : Meaning) (Stands : List EntryValue → Type 0) (old new : Aside) (calls : ℕ) (taken : Taken) : Type 0 where
   pub bytes : List ℕ
   pub last : LastRead

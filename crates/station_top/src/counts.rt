@@ -4,7 +4,7 @@ ghost use Rattle.bmp_specs.specs.Values.{EntryValue};
 ghost use Rattle.wire_io.specs.Writes.{Writes};
 ghost use Rattle.station_top.specs.Check.{AreCounts, counted, counts_more, number_lines};
 
-use crate::ledger::Ledger;
+use crate::account::Account;
 use bmp_message::{Judged, Judgements};
 use itoa::Buffer;
 use rib_model::Entry;
@@ -62,7 +62,7 @@ impl Counts {
     }
 }
 
-impl Ledger for Counts {
+impl Account for Counts {
     ghost use Rattle.bmp_specs.specs.Check.{check_lines};
     ghost use Rattle.std.specs.Prelude.{◌≡◌};
     ghost use Rattle.station_top.specs.Check.{AreCounts, lines_of};

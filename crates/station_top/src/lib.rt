@@ -12,10 +12,10 @@
 //! Begin with `specs/Station.antt`, then `src/top.rt`.
 #![tactic(auto)]
 
+mod account;
 mod counts;
-mod ledger;
-mod place;
 mod put_table;
+mod route_key;
 mod selection;
 mod status;
 mod tables;

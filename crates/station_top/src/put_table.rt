@@ -6,13 +6,13 @@ ghost use Rattle.bmp_specs.specs.Reply.{told_count};
 ghost use Rattle.bmp_specs.specs.Query.{table};
 ghost use Rattle.bmp_specs.specs.QueryReply.{IsReply};
 ghost use Rattle.bmp_specs.specs.Values.{EntryValue};
-ghost use Rattle.station_top.specs.Places.{peer_place_cmp};
+ghost use Rattle.station_top.specs.RouteKeys.{route_key_cmp};
 ghost use Rattle.station_top.specs.Tables.{StandsFor};
-ghost use Rattle.station_top.specs.TableText.{keeps_peer, keeps_place, keeps_row, row_of, rows_of, selected_in, lines_of, AreOrdered, table_text};
+ghost use Rattle.station_top.specs.TableText.{keeps_peer, keeps_route, keeps_row, row_of, rows_of, selected_in, lines_of, AreOrdered, table_text};
 ghost use Rattle.wire_io.specs.Writes.{Writes};
 
-use crate::place::Place;
-use crate::selection::{is_peer_selected, is_place_selected};
+use crate::route_key::RouteKey;
+use crate::selection::{is_peer_selected, is_route_selected};
 use crate::tables::{Peers, Rows, Tables};
 use bmp_frames::PeerKey;
 use query_lang::Select;
@@ -21,12 +21,12 @@ use rib_model::Route;
 use wire_io::{Failed, Sink};
 
 // How many of these routes have a view and a family that are selected, at most 2^64 - 1.
-fn count_places(select: &Select, rows: &Rows) -> u64
-    ensures { result ≡ told_count (length (filter (keeps_place select.now) (keys_of rows.now.entries))) }
+fn count_routes(select: &Select, rows: &Rows) -> u64
+    ensures { result ≡ told_count (length (filter (keeps_route select.now) (keys_of rows.now.entries))) }
 {
     let mut count: u64 = 0;
-    for (place, _) in rows {
-        if is_place_selected(select, place) {
+    for (route_key, _) in rows {
+        if is_route_selected(select, route_key) {
             count = count.saturating_add(1);
         }
     }
@@ -36,7 +36,7 @@ fn count_places(select: &Select, rows: &Rows) -> u64
 // How many routes of a peer are selected, at most 2^64 - 1.
 fn count_peer(select: &Select, key: &PeerKey, rows: &Rows) -> u64
     ensures count { result ≡ told_count (length (filter (keeps_row select.now) (rows_of (key.now, rows.now)))) }
-    ensures ordered { IsOrdered peer_place_cmp rows.now }
+    ensures ordered { IsOrdered route_key_cmp rows.now }
 {
     let all = rows.len() as u64;
     if !is_peer_selected(select, key) {
@@ -46,7 +46,7 @@ fn count_peer(select: &Select, key: &PeerKey, rows: &Rows) -> u64
     if select.view.is_none() && select.family.is_none() {
         return all;
     }
-    count_places(select, rows)
+    count_routes(select, rows)
 }
 
 // How many routes are selected, at most 2^64 - 1.
@@ -66,16 +66,16 @@ fn put_row<O: Sink>(
     out: &mut O,
     select: &Select,
     key: &PeerKey,
-    place: &Place,
+    route_key: &RouteKey,
     route: &Route,
 ) -> Result<(), Failed>
     requires { keeps_peer select.now key.now ≡ true }
-    ensures { Writes O.faults O.told O.aside out.old (lines_of (filter (keeps_row select.now) (row_of key.now (place.now, route.now) ∷ []))) result out.new }
+    ensures { Writes O.faults O.told O.aside out.old (lines_of (filter (keeps_row select.now) (row_of key.now (route_key.now, route.now) ∷ []))) result out.new }
 {
-    if !is_place_selected(select, place) {
+    if !is_route_selected(select, route_key) {
         return Ok(());
     }
-    put_route(out, 0, &place.of_peer(key), route)
+    put_route(out, 0, &route_key.of_peer(key), route)
 }
 
 // Writes the lines of a peer's routes that are selected.
@@ -85,8 +85,8 @@ fn put_rows<O: Sink>(out: &mut O, select: &Select, key: &PeerKey, rows: &Rows) -
     if !is_peer_selected(select, key) {
         return Ok(());
     }
-    for (place, route) in rows {
-        put_row(out, select, key, place, route)?;
+    for (route_key, route) in rows {
+        put_row(out, select, key, route_key, route)?;
     }
     Ok(())
 }

@@ -1,9 +1,9 @@
 ghost use Rattle.std.specs.Prelude.{◌≡◌};
 ghost use Rattle.std.specs.Ordering.{nat_cmp};
 ghost use Rattle.bmp_specs.specs.Orders.{family_cmp, key_cmp, view_cmp};
-ghost use Rattle.station_top.specs.TableText.{is_named, keeps_peer, keeps_place};
+ghost use Rattle.station_top.specs.TableText.{is_named, keeps_peer, keeps_route};
 
-use crate::place::Place;
+use crate::route_key::RouteKey;
 use bmp_frames::PeerKey;
 use bmp_specs::{Family, View};
 use query_lang::Select;
@@ -55,10 +55,10 @@ pub(crate) fn is_peer_selected(select: &Select, key: &PeerKey) -> bool
     is_lane_named(select.router, 0) && is_peer_named(select.peer, key)
 }
 
-// Whether rows at this place, of a peer that is selected, are selected.
-pub(crate) fn is_place_selected(select: &Select, place: &Place) -> bool
-    ensures { result ≡ keeps_place select.now place.now }
+// Whether the route of this key, of a peer that is selected, is selected.
+pub(crate) fn is_route_selected(select: &Select, route_key: &RouteKey) -> bool
+    ensures { result ≡ keeps_route select.now route_key.now }
 {
-    is_view_named(select.view, place.view)
-        && is_family_named(select.family, place.nlri.prefix.addr().family())
+    is_view_named(select.view, route_key.view)
+        && is_family_named(select.family, route_key.nlri.prefix.addr().family())
 }

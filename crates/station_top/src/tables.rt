@@ -5,16 +5,20 @@ ghost use Rattle.rib_model.specs.Effects.{effect_value, effect_values};
 ghost use Rattle.rib_model.specs.Entries.{entry_value};
 ghost use Rattle.station_top.specs.Tables.{Holds, StandsFor, Puts, Clears};
 
-use crate::place::Place;
+use crate::account::Account;
+use crate::put_table::put_table;
+use crate::route_key::RouteKey;
 use bmp_frames::PeerKey;
+use bmp_message::Entries;
+use query_lang::Select;
 use rib_model::{Effect, Entry, Route};
 use std::alloc::Global;
 use std::collections::BTreeMap;
 use std::sync::Arc;
-use wire_io::NoMemory;
+use wire_io::{Failed, NoMemory, Sink};
 
 // The routes of a peer, in the order of a reply.
-pub(crate) type Rows = BTreeMap<Place, Route>;
+pub(crate) type Rows = BTreeMap<RouteKey, Route>;
 
 // The peers that are up, each with its routes.
 pub(crate) type Peers = BTreeMap<PeerKey, Rows>;
@@ -43,22 +47,27 @@ fn take_down(peers: &mut Peers, key: &PeerKey)
     peers.remove(key);
 }
 
-// Puts the route at its place, in place of the one before, where the peer is up.
-fn announce(peers: &mut Peers, key: &PeerKey, place: Place, route: &Route) -> Result<(), NoMemory>
-    ensures { OnOk result (Puts peers.old peers.new key.now place (Some (arc_value route.now))) }
+// Puts the route under its key, for the one before, where the peer is up.
+fn announce(
+    peers: &mut Peers,
+    key: &PeerKey,
+    route_key: RouteKey,
+    route: &Route,
+) -> Result<(), NoMemory>
+    ensures { OnOk result (Puts peers.old peers.new key.now route_key (Some (arc_value route.now))) }
 {
     if let Some(rows) = peers.get_mut(key) {
-        rows.insert(place, Arc::try_clone(route)?)?;
+        rows.insert(route_key, Arc::try_clone(route)?)?;
     }
     Ok(())
 }
 
-// Takes out the route of this place.
-fn withdraw(peers: &mut Peers, key: &PeerKey, place: Place)
-    ensures { Puts peers.old peers.new key.now place None }
+// Takes out the route of this key.
+fn withdraw(peers: &mut Peers, key: &PeerKey, route_key: RouteKey)
+    ensures { Puts peers.old peers.new key.now route_key None }
 {
     if let Some(rows) = peers.get_mut(key) {
-        rows.remove(&place);
+        rows.remove(&route_key);
     }
 }
 
@@ -78,18 +87,18 @@ fn take_effect(peers: &mut Peers, alloc: Global, effect: &Effect) -> Result<(), 
             nlri,
             route,
         } => {
-            let place = Place {
+            let route_key = RouteKey {
                 view: *view,
                 nlri: *nlri,
             };
-            announce(peers, key, place, route)
+            announce(peers, key, route_key, route)
         }
         Effect::Withdraw { key, view, nlri } => {
-            let place = Place {
+            let route_key = RouteKey {
                 view: *view,
                 nlri: *nlri,
             };
-            withdraw(peers, key, place);
+            withdraw(peers, key, route_key);
             Ok(())
         }
         _ => Ok(()),
@@ -147,5 +156,41 @@ impl Tables {
                 Ok(())
             }
         }
+    }
+}
+
+impl Account for Tables {
+    ghost use Rattle.bmp_specs.specs.Query.{table};
+    ghost use Rattle.bmp_specs.specs.QueryReply.{IsReply};
+    ghost use Rattle.std.specs.Prelude.{◌∷◌, []};
+    ghost use Rattle.station_top.specs.Tables.{StandsFor};
+    ghost use Rattle.station_top.specs.TableText.{table_text};
+
+    // the rows that are asked for
+    type Ask = Select;
+
+    type Wants = Entries;
+
+    ghost stands = { StandsFor };
+
+    ghost replies = { λ select entries. IsReply (table select) (entries ∷ []) };
+
+    ghost text = { table_text };
+
+    fn note(&mut self, entry: &Entry) -> Result<(), NoMemory> {
+        self.apply(entry)
+    }
+
+    fn take(&mut self, entry: Entry) -> Result<(), NoMemory> {
+        self.apply(&entry)
+    }
+
+    fn put_reply<O: Sink>(
+        &self,
+        out: &mut O,
+        select: &Select,
+        revision: u64,
+    ) -> Result<(), Failed> {
+        put_table(out, select, revision, self)
     }
 }

@@ -5,10 +5,10 @@ ghost use Rattle.bmp_specs.specs.Values.{opened};
 ghost use Rattle.wire_io.specs.Aside.{Plan};
 ghost use Rattle.station_doors.specs.Doors.{untouched};
 ghost use Rattle.bmp_message.specs.StreamWalk.{rest_of, fed_of};
-ghost use Rattle.station_top.specs.Ledger.{HasDrawn, Draws};
+ghost use Rattle.station_top.specs.Account.{HasDrawn, Draws};
 ghost use Rattle.station_top.specs.Take.{IsNew, Takes, TakesBytes, TakesInput, BreaksOff, cause_at_end};
 
-use crate::ledger::Ledger;
+use crate::account::Account;
 use bmp_message::{Progress, StreamWalk};
 use bmp_specs::Cause;
 use rib_model::Entry;
@@ -29,22 +29,22 @@ pub struct Taken {
     pub revision: u64,
 }
 
-// Takes the one input connection of a port, and closes it. Where there is none it is an empty one. The ledger takes its
+// Takes the one input connection of a port, and closes it. Where there is none it is an empty one. The account takes its
 // opening and its messages. After want of memory the port shows what it gave until then: a front of its first connection,
 // or nothing.
-pub fn take_input<P: Port, L: Ledger>(
+pub fn take_input<P: Port, A: Account>(
     alloc: Global,
     port: &mut P,
-    ledger: &mut L,
+    account: &mut A,
 ) -> Result<Taken, NoMemory>
-    requires { L.stands ledger.old [] }
-    ensures takes { IfOk result (TakesInput strict (L.stands ledger.new) (P.aside port.old) (P.aside port.new) (P.calls port.old)) }
+    requires { A.stands account.old [] }
+    ensures takes { IfOk result (TakesInput strict (A.stands account.new) (P.aside port.old) (P.aside port.new) (P.calls port.old)) }
     ensures breaks { OnErr result ((plan : Plan) → P.aside port.old ≡ untouched plan → P.calls port.old ≡ 0 → BreaksOff strict plan (P.aside port.new)) }
 {
-    ledger.note(&Entry::Opened)?;
+    account.note(&Entry::Opened)?;
     match port.next_connection() {
         Ok(true) => {
-            let taken = take_bytes(alloc, port, ledger);
+            let taken = take_bytes(alloc, port, account);
             port.close();
             taken
         }
@@ -62,14 +62,14 @@ fn untaken(cause: Cause) -> Taken
 
 // Takes the present connection to its end, to the end of its walk, or to the limit of one connection. After want of memory
 // no read had failed or told the end.
-fn take_bytes<P: Port, L: Ledger>(
+fn take_bytes<P: Port, A: Account>(
     alloc: Global,
     port: &mut P,
-    ledger: &mut L,
+    account: &mut A,
 ) -> Result<Taken, NoMemory>
     requires new { IsNew (P.aside port.old) }
-    requires opened { L.stands ledger.old (opened ∷ []) }
-    ensures takes { IfOk result (Takes strict (L.stands ledger.new) (P.aside port.old) (P.aside port.new) (P.calls port.old)) }
+    requires opened { A.stands account.old (opened ∷ []) }
+    ensures takes { IfOk result (Takes strict (A.stands account.new) (P.aside port.old) (P.aside port.new) (P.calls port.old)) }
     ensures breaks { OnErr result ((bytes : List ℕ) × TakesBytes strict (P.aside port.old) (P.aside port.new) (P.calls port.old) bytes gave) }
     ensures is_open { IsTrue (P.aside port.new).is_open }
 {
@@ -87,7 +87,7 @@ fn take_bytes<P: Port, L: Ledger>(
             Ok(count) => {
                 walk.feed(&buf[..count])?;
                 taken += count as u64;
-                if let Some(cause) = drain(&mut walk, ledger, &mut revision)? {
+                if let Some(cause) = drain(&mut walk, account, &mut revision)? {
                     return Ok(Taken { cause, revision });
                 }
             }
@@ -116,19 +116,19 @@ fn at_end(walk: &StreamWalk) -> Cause
     }
 }
 
-// Lets the ledger take all whole messages and counts them, and tells the cause where the walk ends.
-fn drain<L: Ledger>(
+// Lets the account take all whole messages and counts them, and tells the cause where the walk ends.
+fn drain<A: Account>(
     walk: &mut StreamWalk,
-    ledger: &mut L,
+    account: &mut A,
     revision: &mut u64,
 ) -> Result<Option<Cause>, NoMemory>
-    ensures draws { IfOk result (λ end. (fed : List ℕ) → HasDrawn (L.stands ledger.old) fed walk.old revision.old → Draws (L.stands ledger.new) fed walk.new revision.new end) }
+    ensures draws { IfOk result (λ end. (fed : List ℕ) → HasDrawn (A.stands account.old) fed walk.old revision.old → Draws (A.stands account.new) fed walk.new revision.new end) }
     ensures fed { IfOk result (λ end. fed_of walk.new ≡ fed_of walk.old) }
 {
     loop {
-        match walk.next::<L::Wants>()? {
+        match walk.next::<A::Wants>()? {
             Progress::Message(item) => {
-                ledger.take(item)?;
+                account.take(item)?;
                 *revision = revision.saturating_add(1);
             }
             Progress::More => return Ok(None),

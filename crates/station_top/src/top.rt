@@ -7,13 +7,13 @@ ghost use Rattle.wire_io.specs.Aside.{laid_over};
 ghost use Rattle.wire_io.specs.Faults.{Rose};
 ghost use Rattle.wire_io.specs.Writes.{Writes};
 ghost use Rattle.station_doors.specs.Doors.{one_more};
-ghost use Rattle.station_top.specs.Ledger.{RepliesBy};
+ghost use Rattle.station_top.specs.Account.{RepliesBy};
 ghost use Rattle.station_top.specs.Status.{status_of};
-ghost use Rattle.station_top.specs.Station.{Answers, Concludes, FromYard, IsCause, IsReply};
+ghost use Rattle.station_top.specs.Station.{Answers, Concludes, FromYard, AnswersFault, IsReply};
 
 use crate::Status;
+use crate::account::Account;
 use crate::counts::Counts;
-use crate::ledger::Ledger;
 use crate::tables::Tables;
 use crate::take::{Taken, take_input};
 use crate::words::{Command, WordsFault, read_words};
@@ -30,13 +30,13 @@ const USAGE: &str =
 
 // Takes the one input connection of the yard's port 0, and gives the port back. YardFault where the yard refused the port,
 // NoMemory on want of memory.
-fn take_from<Y: Yard, L: Ledger>(
+fn take_from<Y: Yard, A: Account>(
     alloc: Global,
     yard: &mut Y,
-    ledger: &mut L,
+    account: &mut A,
 ) -> Result<Taken, Status>
-    requires { L.stands ledger.old [] }
-    ensures from { FromYard strict (L.stands ledger.new) (Y.told yard.old) (Y.told yard.new) (Y.calls yard.old) result }
+    requires { A.stands account.old [] }
+    ensures from { FromYard strict (A.stands account.new) (Y.told yard.old) (Y.told yard.new) (Y.calls yard.old) result }
     ensures rose { result ≡ Err Status.YardFault → Rose (Y.faults yard.old) (Y.faults yard.new) }
     ensures calm { (result ≡ Err Status.YardFault → ⊥) → Y.faults yard.new ≡ Y.faults yard.old }
     ensures calls { Y.calls yard.new ≡ one_more (Y.calls yard.old) }
@@ -44,7 +44,7 @@ fn take_from<Y: Yard, L: Ledger>(
     let Ok(mut port) = yard.port(0) else {
         return Err(Status::YardFault);
     };
-    let taken = take_input(alloc, &mut port, ledger);
+    let taken = take_input(alloc, &mut port, account);
     yard.take_port(0, port);
     match taken {
         Ok(taken) => Ok(taken),
@@ -52,60 +52,47 @@ fn take_from<Y: Yard, L: Ledger>(
     }
 }
 
-// Writes the reply and then the stop line.
-fn put_all<L: Ledger, O: Sink>(
-    out: &mut O,
-    ledger: &L,
-    ask: &L::Ask,
-    taken: Taken,
-) -> Result<(), Failed>
-    ensures writes { Writes O.faults O.told O.aside out.old (L.text ask.now taken.revision ledger.now ++ stop_line taken.cause) result out.new }
-    ensures reply { RepliesBy (L.stands ledger.now) (L.replies ask.now) taken.revision (L.text ask.now taken.revision ledger.now) }
-{
-    ledger.put_reply(out, ask, taken.revision)?;
-    put_stop(out, &taken.cause)
-}
-
-// Writes them through a buffer, and hands on all that is held.
-fn put_and_flush<L: Ledger, O: Sink>(
+// Writes the reply and then the stop line through a buffer, and hands on all that is held.
+fn put_all<A: Account, O: Sink>(
     buffer: &mut BufferedSink<O>,
-    ledger: &L,
-    ask: &L::Ask,
+    account: &A,
+    ask: &A::Ask,
     taken: Taken,
 ) -> Result<(), Failed>
     ensures empty { OnOk result (buffer.new.held ≡ []) }
-    ensures writes { Writes (λ p. O.faults p.below) (λ p. append_known (O.told p.below) p.held) (λ p. laid_over (O.told p.first) (O.aside p.below)) buffer.old (L.text ask.now taken.revision ledger.now ++ stop_line taken.cause) result buffer.new }
-    ensures reply { RepliesBy (L.stands ledger.now) (L.replies ask.now) taken.revision (L.text ask.now taken.revision ledger.now) }
+    ensures writes { Writes (λ p. O.faults p.below) (λ p. append_known (O.told p.below) p.held) (λ p. laid_over (O.told p.first) (O.aside p.below)) buffer.old (A.text ask.now taken.revision account.now ++ stop_line taken.cause) result buffer.new }
+    ensures reply { RepliesBy (A.stands account.now) (A.replies ask.now) taken.revision (A.text ask.now taken.revision account.now) }
 {
-    put_all(buffer, ledger, ask, taken)?;
+    account.put_reply(buffer, ask, taken.revision)?;
+    put_stop(buffer, &taken.cause)?;
     buffer.flush()
 }
 
-fn write_to<L: Ledger, O: Sink>(
+fn write_to<A: Account, O: Sink>(
     out: O,
-    ledger: &L,
-    ask: &L::Ask,
+    account: &A,
+    ask: &A::Ask,
     taken: Taken,
 ) -> (O, Result<(), Failed>)
-    ensures writes { Writes O.faults O.told O.aside out (L.text ask.now taken.revision ledger.now ++ stop_line taken.cause) result.1 result.0 }
-    ensures reply { RepliesBy (L.stands ledger.now) (L.replies ask.now) taken.revision (L.text ask.now taken.revision ledger.now) }
+    ensures writes { Writes O.faults O.told O.aside out (A.text ask.now taken.revision account.now ++ stop_line taken.cause) result.1 result.0 }
+    ensures reply { RepliesBy (A.stands account.now) (A.replies ask.now) taken.revision (A.text ask.now taken.revision account.now) }
 {
     let mut buffer = BufferedSink::new(out);
-    let result = put_and_flush(&mut buffer, ledger, ask, taken);
+    let result = put_all(&mut buffer, account, ask, taken);
     (buffer.into_inner(), result)
 }
 
-fn write_reply<L: Ledger, O: Sink>(
+fn write_reply<A: Account, O: Sink>(
     out: &mut O,
-    ledger: &L,
-    ask: &L::Ask,
+    account: &A,
+    ask: &A::Ask,
     taken: Taken,
 ) -> Result<(), Failed>
-    ensures writes { Writes O.faults O.told O.aside out.old (L.text ask.now taken.revision ledger.now ++ stop_line taken.cause) result out.new }
-    ensures reply { RepliesBy (L.stands ledger.now) (L.replies ask.now) taken.revision (L.text ask.now taken.revision ledger.now) }
+    ensures writes { Writes O.faults O.told O.aside out.old (A.text ask.now taken.revision account.now ++ stop_line taken.cause) result out.new }
+    ensures reply { RepliesBy (A.stands account.now) (A.replies ask.now) taken.revision (A.text ask.now taken.revision account.now) }
 {
-    replace_with(out, (ledger, ask, taken), |out, (ledger, ask, taken)| {
-        write_to(out, ledger, ask, taken)
+    replace_with(out, (account, ask, taken), |out, (account, ask, taken)| {
+        write_to(out, account, ask, taken)
     })
 }
 
@@ -131,24 +118,24 @@ fn unless_failed(write: Result<(), Failed>, status: Status) -> Status
     }
 }
 
-// Takes the input into the ledger, and writes the reply that is asked for and the stop line.
-fn run<L: Ledger + Drop, Y: Yard, O: Sink>(
+// Takes the input into the account, and writes the reply that is asked for and the stop line.
+fn run<A: Account + Drop, Y: Yard, O: Sink>(
     alloc: Global,
-    mut ledger: L,
-    ask: &L::Ask,
+    mut account: A,
+    ask: &A::Ask,
     yard: &mut Y,
     out: &mut O,
 ) -> Status
-    requires { L.stands ledger [] }
-    ensures concludes { Concludes strict (L.replies ask.now) (Y.told yard.old) (Y.told yard.new) (Y.calls yard.old) (O.told out.old) (O.told out.new) result }
+    requires { A.stands account [] }
+    ensures concludes { Concludes strict (A.replies ask.now) (Y.told yard.old) (Y.told yard.new) (Y.calls yard.old) (O.told out.old) (O.told out.new) result }
     ensures calls { Y.calls yard.new ≡ one_more (Y.calls yard.old) }
-    ensures out { IsCause (O.faults out.old) (O.faults out.new) result Status.WriteFault }
-    ensures yard { IsCause (Y.faults yard.old) (Y.faults yard.new) result Status.YardFault }
+    ensures out { AnswersFault (O.faults out.old) (O.faults out.new) result Status.WriteFault }
+    ensures yard { AnswersFault (Y.faults yard.old) (Y.faults yard.new) result Status.YardFault }
     ensures aside { O.aside out.new ≡ O.aside out.old }
 {
-    match take_from(alloc, yard, &mut ledger) {
+    match take_from(alloc, yard, &mut account) {
         Ok(taken) => unless_failed(
-            write_reply(out, &ledger, ask, taken),
+            write_reply(out, &account, ask, taken),
             status_after(taken.cause),
         ),
         Err(status) => status,
@@ -164,8 +151,8 @@ fn run_command<Y: Yard, O: Sink>(
 ) -> Status
     ensures concludes { Concludes strict (IsReply command) (Y.told yard.old) (Y.told yard.new) (Y.calls yard.old) (O.told out.old) (O.told out.new) result }
     ensures calls { Y.calls yard.new ≡ one_more (Y.calls yard.old) }
-    ensures out { IsCause (O.faults out.old) (O.faults out.new) result Status.WriteFault }
-    ensures yard { IsCause (Y.faults yard.old) (Y.faults yard.new) result Status.YardFault }
+    ensures out { AnswersFault (O.faults out.old) (O.faults out.new) result Status.WriteFault }
+    ensures yard { AnswersFault (Y.faults yard.old) (Y.faults yard.new) result Status.YardFault }
     ensures aside { O.aside out.new ≡ O.aside out.old }
 {
     match command {
@@ -191,8 +178,8 @@ pub fn station<Y: Yard, O: Sink>(
     ensures answers { Answers strict (map string_bytes words.now) (Y.told yard.old) (Y.told yard.new) (Y.calls yard.old) (Y.calls yard.new) (O.told out.old) (O.told out.new) result }
 
     // A write fault is answered exactly where a write failed, and a yard's fault exactly where the yard failed.
-    ensures out { IsCause (O.faults out.old) (O.faults out.new) result Status.WriteFault }
-    ensures yard { IsCause (Y.faults yard.old) (Y.faults yard.new) result Status.YardFault }
+    ensures out { AnswersFault (O.faults out.old) (O.faults out.new) result Status.WriteFault }
+    ensures yard { AnswersFault (Y.faults yard.old) (Y.faults yard.new) result Status.YardFault }
 
     ensures aside { O.aside out.new ≡ O.aside out.old }
 {

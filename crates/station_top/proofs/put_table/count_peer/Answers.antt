@@ -6,8 +6,8 @@ use Rattle.bmp_specs.specs.Reply.{told_count}
 use Rattle.bmp_specs.specs.Rows.{RowValue}
 use Rattle.bmp_specs.specs.Selection.{SelectValue}
 use Rattle.station_top.specs.TableText.{keeps_peer, keeps_row, row_of, rows_of}
-use Rattle.station_top.proofs.PlaceOrder.{derived_is}
-use Rattle.station_top.proofs.Selecting.{not_named, passed_peer, kept_peer, kept_places}
+use Rattle.station_top.proofs.RouteKeyOrder.{derived_is}
+use Rattle.station_top.proofs.Selecting.{not_named, passed_peer, kept_peer, kept_routes}
 use Rattle.station_top.proofs.put_table.count_peer.Goals as goal
 
 pub returns-then-not-is_peer_selected-clause-count : goal.returns-then-not-is_peer_selected-clause-count
@@ -33,4 +33,4 @@ returns-then-is_none-2-clause-count c =
 pub returns-clause-count : goal.returns-clause-count
 returns-clause-count c =
     let kept : keeps_peer c.args.select.now c.args.key.now ≡ true = sym c.is_peer_selected.ensures ∙ c.if-not-is_peer_selected.false in
-    c.count_places.ensures ∙ ap told_count (sym (kept_places c.args.select.now c.args.key.now c.args.rows.now.entries kept))
+    c.count_routes.ensures ∙ ap told_count (sym (kept_routes c.args.select.now c.args.key.now c.args.rows.now.entries kept))

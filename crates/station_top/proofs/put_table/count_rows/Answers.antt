@@ -2,7 +2,7 @@ use Rattle.std.proofs.Common.{sym, subst, arith}
 use Rattle.std.specs.BTreeMap.{IsOrdered}
 use Rattle.std.specs.List.{AllByRecursion}
 use Rattle.bmp_specs.specs.Values.{KeyValue}
-use Rattle.station_top.specs.Places.{peer_place_cmp}
+use Rattle.station_top.specs.RouteKeys.{route_key_cmp}
 use Rattle.station_top.specs.Tables.{Rows}
 use Rattle.station_top.proofs.Counting.{count_more, count_all}
 use Rattle.station_top.proofs.put_table.count_rows.Goals as goal
@@ -15,7 +15,7 @@ loop-key-preserved c =
     let next = c.saturating_add-count.result in
     record {
       counted = count_more c.args.select.now count next here _ _ _ _ first c.count_peer.ensures.count c.saturating_add-count.ensures c.loop-key.invariant.counted;
-      ordered = λ all. c.loop-key.invariant.ordered (subst (AllByRecursion (λ (peer : KeyValue × Rows). IsOrdered peer_place_cmp peer.1)) (sym first) (c.count_peer.ensures.ordered, all));
+      ordered = λ all. c.loop-key.invariant.ordered (subst (AllByRecursion (λ (peer : KeyValue × Rows). IsOrdered route_key_cmp peer.1)) (sym first) (c.count_peer.ensures.ordered, all));
       within = omega (arith, c.saturating_add-count.ensures);
     }
 

@@ -8,21 +8,21 @@ loop-item-preserved g c =
     let moved = rw c.in-Message.is at c.in_ok-item.ensures.advances in
     record {
       fed = moved.0 ∙ c.loop-item.invariant.fed;
-      drawn = λ fed first. draws_entry (g.L.Ledger.stands c.loop-item.ledger) fed c.loop-item.walk c.loop-item.revision (c.loop-item.invariant.drawn fed first) c.next.new.self g.L.Wants.Reads.is_of (g.L.Ledger.stands c.take.new.self) c.in-Message.item c.saturating_add.result
+      drawn = λ fed first. draws_entry (g.A.Account.stands c.loop-item.account) fed c.loop-item.walk c.loop-item.revision (c.loop-item.invariant.drawn fed first) c.next.new.self g.A.Wants.Reads.is_of (g.A.Account.stands c.take.new.self) c.in-Message.item c.saturating_add.result
           (run fed) c.in_ok-take-in-Message.ensures c.saturating_add.ensures;
     }
 
 pub returns-in-More-clause-draws : goal.returns-in-More-clause-draws
 returns-in-More-clause-draws g c fed first =
     let run = rw c.in-More.is at c.in_ok-item.ensures.run in
-    draws_more (g.L.Ledger.stands c.loop-item.ledger) fed c.loop-item.walk c.loop-item.revision (c.loop-item.invariant.drawn fed first) c.next.new.self g.L.Wants.Reads.is_of (run fed)
+    draws_more (g.A.Account.stands c.loop-item.account) fed c.loop-item.walk c.loop-item.revision (c.loop-item.invariant.drawn fed first) c.next.new.self g.A.Wants.Reads.is_of (run fed)
 
 pub returns-in-Terminated-clause-draws : goal.returns-in-Terminated-clause-draws
 returns-in-Terminated-clause-draws g c fed first =
     let run = rw c.in-Terminated.is at c.in_ok-item.ensures.run in
-    draws_terminated (g.L.Ledger.stands c.loop-item.ledger) fed c.loop-item.walk c.loop-item.revision (c.loop-item.invariant.drawn fed first) c.next.new.self g.L.Wants.Reads.is_of (run fed)
+    draws_terminated (g.A.Account.stands c.loop-item.account) fed c.loop-item.walk c.loop-item.revision (c.loop-item.invariant.drawn fed first) c.next.new.self g.A.Wants.Reads.is_of (run fed)
 
 pub returns-in-Broken-clause-draws : goal.returns-in-Broken-clause-draws
 returns-in-Broken-clause-draws g c fed first =
     let run = rw c.in-Broken.is at c.in_ok-item.ensures.run in
-    draws_broken (g.L.Ledger.stands c.loop-item.ledger) fed c.loop-item.walk c.loop-item.revision (c.loop-item.invariant.drawn fed first) c.next.new.self g.L.Wants.Reads.is_of c.offset.result c.in-Broken.why c.offset.ensures (run fed)
+    draws_broken (g.A.Account.stands c.loop-item.account) fed c.loop-item.walk c.loop-item.revision (c.loop-item.invariant.drawn fed first) c.next.new.self g.A.Wants.Reads.is_of c.offset.result c.in-Broken.why c.offset.ensures (run fed)

@@ -1,12 +1,12 @@
 use Rattle.std.proofs.Common.{◌≡◌, ℕ, List}
 use Rattle.bmp_message.specs.StreamWalk.{fed_of, rest_of}
-use Rattle.station_top.specs.Ledger.{HasDrawn}
+use Rattle.station_top.specs.Account.{HasDrawn}
 use Rattle.station_top.proofs.take.drain.Given as goal
 
 abbrev pub invariant-loop-item : goal.invariant-loop-item
 invariant-loop-item g l = record {
   fed : fed_of l.walk ≡ fed_of l.initial.walk;
-  drawn : (fed : List ℕ) → HasDrawn (g.L.Ledger.stands l.initial.ledger) fed l.initial.walk l.initial.revision → HasDrawn (g.L.Ledger.stands l.ledger) fed l.walk l.revision;
+  drawn : (fed : List ℕ) → HasDrawn (g.A.Account.stands l.initial.account) fed l.initial.walk l.initial.revision → HasDrawn (g.A.Account.stands l.account) fed l.walk l.revision;
 }
 
 abbrev pub decreases-loop-item : goal.decreases-loop-item

@@ -10,15 +10,15 @@ pub take_bytes-taken-requires-clause-opened : goal.take_bytes-taken-requires-cla
 take_bytes-taken-requires-clause-opened g c = c.in_ok-note.ensures [] c.requires
 
 pub returns-in-Ok-true-clause-takes : goal.returns-in-Ok-true-clause-takes
-returns-in-Ok-true-clause-takes g c = takes_opened_ok strict (g.L.Ledger.stands c.take_bytes-taken.new.ledger) (g.P.Port.aside c.args.port.now) (g.P.Port.aside c.next_connection.new.self) (g.P.Port.aside c.take_bytes-taken.new.port) (g.P.Port.aside c.close.new.self) (g.P.Port.calls c.args.port.now) _
+returns-in-Ok-true-clause-takes g c = takes_opened_ok strict (g.A.Account.stands c.take_bytes-taken.new.account) (g.P.Port.aside c.args.port.now) (g.P.Port.aside c.next_connection.new.self) (g.P.Port.aside c.take_bytes-taken.new.port) (g.P.Port.aside c.close.new.self) (g.P.Port.calls c.args.port.now) _
     c.take_bytes-taken.result c.take_bytes-taken.ensures.takes (rw c.in-Ok-true.field-0-test at c.in-Ok-true.ensures.opens) c.close.ensures.closes c.in-Ok-true.ensures.calls
 
 pub returns-in-Ok-false-clause-takes : goal.returns-in-Ok-false-clause-takes
-returns-in-Ok-false-clause-takes g c = takes_none strict (g.L.Ledger.stands c.note.new.self) (g.P.Port.aside c.args.port.now) (g.P.Port.aside c.next_connection.new.self) (g.P.Port.calls c.args.port.now) c.untaken.result (c.in_ok-note.ensures [] c.requires)
+returns-in-Ok-false-clause-takes g c = takes_none strict (g.A.Account.stands c.note.new.self) (g.P.Port.aside c.args.port.now) (g.P.Port.aside c.next_connection.new.self) (g.P.Port.calls c.args.port.now) c.untaken.result (c.in_ok-note.ensures [] c.requires)
     (rw c.in-Ok-false.field-0-test at c.in-Ok-false.ensures.opens) c.untaken.ensures
 
 pub returns-in-Err-clause-takes : goal.returns-in-Err-clause-takes
-returns-in-Err-clause-takes g c = takes_unopened strict (g.L.Ledger.stands c.note.new.self) (g.P.Port.aside c.args.port.now) (g.P.Port.aside c.next_connection.new.self) (g.P.Port.calls c.args.port.now) c.in-Err.field-0 c.untaken-in-Err.result (c.in_ok-note.ensures [] c.requires)
+returns-in-Err-clause-takes g c = takes_unopened strict (g.A.Account.stands c.note.new.self) (g.P.Port.aside c.args.port.now) (g.P.Port.aside c.next_connection.new.self) (g.P.Port.calls c.args.port.now) c.in-Err.field-0 c.untaken-in-Err.result (c.in_ok-note.ensures [] c.requires)
     c.in-Err.ensures.opens c.in-Err.ensures.planned c.untaken-in-Err.ensures
 
 pub returns-in-Ok-true-clause-breaks : goal.returns-in-Ok-true-clause-breaks

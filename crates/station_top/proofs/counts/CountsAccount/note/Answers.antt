@@ -1,6 +1,6 @@
 use Rattle.rib_model.specs.Effects.{effect_values}
 use Rattle.station_top.proofs.CheckCounts.{counts_message, counts_other}
-use Rattle.station_top.proofs.counts.CountsLedger.note.Goals as goal
+use Rattle.station_top.proofs.counts.CountsAccount.note.Goals as goal
 
 pub returns-in-Message : goal.returns-in-Message
 returns-in-Message c entries are = rw (c.count.ensures, c.in-Message.is) (counts_message c.args.self.now c.in-Message.kind c.in-Message.length (effect_values c.in-Message.effects) entries are)

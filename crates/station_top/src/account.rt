@@ -2,17 +2,15 @@ ghost use Rattle.std.specs.Prelude.{◌≡◌, ℕ, ◌∷◌, [], ◌++◌, Lis
 ghost use Rattle.bmp_specs.specs.Values.{EntryValue};
 ghost use Rattle.rib_model.specs.Entries.{entry_value};
 ghost use Rattle.wire_io.specs.Writes.{Writes};
-ghost use Rattle.station_top.specs.Ledger.{RepliesBy};
+ghost use Rattle.station_top.specs.Account.{RepliesBy};
 
-use crate::put_table::put_table;
-use crate::tables::Tables;
-use bmp_message::{Entries, Reads};
-use query_lang::Select;
+use bmp_message::Reads;
 use rib_model::Entry;
 use wire_io::{Failed, NoMemory, Sink};
 
-/// Takes the entries of the input, one after another, and gives a command's reply on them.
-pub trait Ledger {
+/// An account of the entries of the input, which takes them one after another and gives a command's reply on
+/// them.
+pub trait Account {
     /// What a reply is asked for with.
     type Ask;
 
@@ -40,40 +38,4 @@ pub trait Ledger {
     fn put_reply<O: Sink>(&self, out: &mut O, ask: &Self::Ask, revision: u64) -> Result<(), Failed>
         ensures writes { Writes O.faults O.told O.aside out.old (text ask.now revision self.now) result out.new }
         ensures reply { RepliesBy (stands self.now) (replies ask.now) revision (text ask.now revision self.now) };
-}
-
-impl Ledger for Tables {
-    ghost use Rattle.bmp_specs.specs.Query.{table};
-    ghost use Rattle.bmp_specs.specs.QueryReply.{IsReply};
-    ghost use Rattle.std.specs.Prelude.{◌∷◌, []};
-    ghost use Rattle.station_top.specs.Tables.{StandsFor};
-    ghost use Rattle.station_top.specs.TableText.{table_text};
-
-    // the rows that are asked for
-    type Ask = Select;
-
-    type Wants = Entries;
-
-    ghost stands = { StandsFor };
-
-    ghost replies = { λ select entries. IsReply (table select) (entries ∷ []) };
-
-    ghost text = { table_text };
-
-    fn note(&mut self, entry: &Entry) -> Result<(), NoMemory> {
-        self.apply(entry)
-    }
-
-    fn take(&mut self, entry: Entry) -> Result<(), NoMemory> {
-        self.apply(&entry)
-    }
-
-    fn put_reply<O: Sink>(
-        &self,
-        out: &mut O,
-        select: &Select,
-        revision: u64,
-    ) -> Result<(), Failed> {
-        put_table(out, select, revision, self)
-    }
 }

@@ -1,6 +1,6 @@
 use Rattle.std.proofs.Common.{◌<◌, ◌^◌, length, arith}
 use Rattle.station_top.proofs.CheckCounts.{lines_are}
-use Rattle.station_top.proofs.counts.CountsLedger.put_reply.Goals as goal
+use Rattle.station_top.proofs.counts.CountsAccount.put_reply.Goals as goal
 
 pub returns-clause-reply : goal.returns-clause-reply
 returns-clause-reply g c entries are revision short =
