@@ -13,6 +13,9 @@ use Rattle.bmp_specs.specs.Termination.{IsTermination}
 use Rattle.bmp_specs.specs.Values.{EffectValue, InitiationValue, KeyValue, MessageValue, OpensValue, StatisticsValue, UpdateValue, initiation, termination, routes, statistics, mirrored_routes, of_unknown_peer, of_unknown_type, orphan, passed}
 use Rattle.bmp_specs.proofs.PeerHeaderCode.{header_code}
 use Rattle.bmp_message.specs.Effects.{HasEffects, MeansNothing}
+use Rattle.bmp_message.specs.Types.{message_type_of}
+use Rattle.bmp_message.specs.declared.types.PeerMessage.{PeerMessage}
+use Rattle.bmp_message.specs.declared.types.PeerMessage.TheVariants.{RouteMonitoring, StatisticsReport, PeerDown, PeerUp, RouteMirroring}
 
 -- Route Monitoring
 
@@ -178,3 +181,11 @@ unassigned_above kind above =
 -- a type that isn't known
 pub of_no_type : (state : ReadingState) (body : List ℕ) (effects : List EffectValue) → effects ≡ passed ∷ [] → HasEffects (OfType unassigned state body) effects state
 of_no_type state body effects e = record { value = of_unknown_type; means = (refl, refl); effects_are = e }
+
+-- a message with a Per-Peer Header is of one of these types
+pub of_peer_type : (kind : PeerMessage) (state : ReadingState) (body : List ℕ) → HasPeer (message_type_of kind) state body ≡ OfType (message_type_of kind) state body
+of_peer_type RouteMonitoring state body = refl
+of_peer_type StatisticsReport state body = refl
+of_peer_type PeerDown state body = refl
+of_peer_type PeerUp state body = refl
+of_peer_type RouteMirroring state body = refl

@@ -22,6 +22,7 @@ mod events;
 mod fault;
 mod reading;
 mod routes;
+mod types;
 mod walk;
 
 pub use fault::EntryFault;

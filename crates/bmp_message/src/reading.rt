@@ -1,11 +1,12 @@
 ghost use Rattle.std.specs.Prelude.{◌≡◌, ◌≤◌, length, is_some, IfOk, OnErr, IsErrOf};
 ghost use Rattle.std.specs.List.{All};
-ghost use Rattle.bmp_specs.specs.MessageBody.{HasPeer, IsMessage, OfPeer, no_peers, peer_down_notification, peer_up_notification, route_monitoring, statistics_report};
+ghost use Rattle.bmp_specs.specs.MessageBody.{HasPeer, OfPeer, OfType, no_peers, peer_down_notification, peer_up_notification, route_monitoring, statistics_report};
 ghost use Rattle.bmp_specs.specs.MessageEffects.{HasViewOfKey, IsMessageEntry};
 ghost use Rattle.bmp_specs.specs.PeerHeader.{HeaderValue};
 ghost use Rattle.bmp_specs.specs.Session.{effects_in};
 ghost use Rattle.bmp_message.specs.State.{reading_state};
-ghost use Rattle.bmp_message.specs.Effects.{HasEffects, MeansNoEntry, MeansNothing, message_type_of};
+ghost use Rattle.bmp_message.specs.Effects.{HasEffects, MeansNoEntry, MeansNothing};
+ghost use Rattle.bmp_message.specs.Types.{message_type_of, type_in};
 ghost use Rattle.peer_events.specs.Body.{most_body};
 ghost use Rattle.rib_model.specs.Entries.{entry_value};
 ghost use Rattle.rib_model.specs.Effects.{effect_values};
@@ -14,43 +15,16 @@ mod judge;
 
 use crate::effects::only;
 use crate::fault::EntryFault;
+use crate::types::{MessageType, PeerMessage};
 use crate::{events, routes};
 use bgp_open::PeerInfo;
-use bmp_frames::{PeerHeader, PeerKey};
+use bmp_frames::{COMMON_HEADER, PeerHeader, PeerKey};
 use peer_events::read_peer_up;
 use rib_model::{Effect, EffectList, Entry};
 use std::alloc::Global;
 use std::collections::BTreeMap;
 use std::marker::Model;
 use std::sync::Arc;
-
-/// The bytes of the common header (RFC 7854, section 4.1).
-pub(crate) const COMMON_HEADER: u32 = 6;
-
-/// The types of messages (RFC 7854, section 4.1).
-const ROUTE_MONITORING: u8 = 0;
-
-const STATISTICS_REPORT: u8 = 1;
-
-const PEER_DOWN: u8 = 2;
-
-const PEER_UP: u8 = 3;
-
-const INITIATION: u8 = 4;
-
-const TERMINATION: u8 = 5;
-
-const ROUTE_MIRRORING: u8 = 6;
-
-// The messages that have a Per-Peer Header (RFC 7854, section 4.2).
-#[derive(Clone, Copy)]
-pub(crate) enum PeerMessage {
-    RouteMonitoring,
-    StatisticsReport,
-    PeerDown,
-    PeerUp,
-    RouteMirroring,
-}
 
 /// What has been read of a stream so far: which peers are up, and what their Peer Ups told.
 ///
@@ -189,21 +163,17 @@ impl Reading {
     }
 
     // What a message of this type does.
-    fn effects(&mut self, kind: u8, body: &[u8]) -> Result<EffectList, EntryFault>
+    fn effects(&mut self, kind: MessageType, body: &[u8]) -> Result<EffectList, EntryFault>
         requires { length body.now ≤ most_body }
-        ensures ok { IfOk result (λ effects. HasEffects (IsMessage (reading_state self.old) kind body.now) (effect_values effects) (reading_state self.new)) }
-        ensures broken { IsErrOf result EntryFault.Broken → MeansNothing (IsMessage (reading_state self.old) kind body.now) }
+        ensures ok { IfOk result (λ effects. HasEffects (OfType (type_in kind) (reading_state self.old) body.now) (effect_values effects) (reading_state self.new)) }
+        ensures broken { IsErrOf result EntryFault.Broken → MeansNothing (OfType (type_in kind) (reading_state self.old) body.now) }
         ensures unchanged { OnErr result (self.new ≡ self.old) }
     {
         match kind {
-            ROUTE_MONITORING => self.with_header(PeerMessage::RouteMonitoring, body),
-            STATISTICS_REPORT => self.with_header(PeerMessage::StatisticsReport, body),
-            PEER_DOWN => self.with_header(PeerMessage::PeerDown, body),
-            PEER_UP => self.with_header(PeerMessage::PeerUp, body),
-            INITIATION => events::initiation(self.alloc, body),
-            TERMINATION => events::termination(self.alloc, body),
-            ROUTE_MIRRORING => self.with_header(PeerMessage::RouteMirroring, body),
-            _ => Ok(only(self.alloc, Effect::Passed)?),
+            MessageType::OfPeer(kind) => self.with_header(kind, body),
+            MessageType::Initiation => events::initiation(self.alloc, body),
+            MessageType::Termination => events::termination(self.alloc, body),
+            MessageType::Unknown => Ok(only(self.alloc, Effect::Passed)?),
         }
     }
 
@@ -222,7 +192,7 @@ impl Reading {
         ensures unchanged { OnErr result (self.new ≡ self.old) }
         ensures views { IfOk result (λ entry. All HasViewOfKey (effects_in (entry_value entry))) }
     {
-        let effects = self.effects(kind, body)?;
+        let effects = self.effects(MessageType::of(kind), body)?;
         Ok(Entry::Message {
             kind,
             length: COMMON_HEADER + body.len() as u32,

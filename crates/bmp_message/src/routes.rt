@@ -9,30 +9,21 @@ ghost use Rattle.rib_model.specs.Effects.{effect_values};
 
 use crate::effects::{add_announcements, add_mark, add_unread, add_withdrawals, one_if};
 use crate::fault::EntryFault;
-use bgp_open::{PeerInfo, Side, bgp_frame, path_ids};
+use bgp_open::{BGP_HEADER, PeerInfo, Side, UPDATE_MESSAGE, bgp_frame, path_ids};
 use bgp_update::{IdUse, Update, judge_update, read_update};
-use bmp_frames::{PeerHeader, PeerKey};
+use bmp_frames::{O_FLAG, PeerHeader, PeerKey};
 use bmp_specs::{Family, View, Width};
 use rib_model::EffectList;
 use std::alloc::Global;
 use wire_io::NoMemory;
 
-/// The Loc-RIB Instance Peer (RFC 9069, section 4.1).
-const LOC_RIB: u8 = 3;
-
-/// "O flag": the message reflects the Adj-RIB-Out (RFC 8671, section 4).
-const O_FLAG: u8 = 0x10;
-
-/// The type of an UPDATE message (RFC 4271, section 4.1).
-const UPDATE: u8 = 2;
-
 // The side of the peer that the header speaks of.
 fn side_of(head: &PeerHeader) -> Side
     ensures { result ≡ side_in head.now }
 {
-    if head.kind == LOC_RIB {
+    if head.is_loc_rib() {
         Side::Local
-    } else if head.flags & O_FLAG == O_FLAG {
+    } else if head.has(O_FLAG) {
         Side::Outward
     } else {
         Side::Inward
@@ -67,13 +58,13 @@ fn update_body(bytes: &[u8]) -> Option<&[u8]>
     ensures none { IfNone result ((body : List ℕ) → IsBgpMessage bytes.now (record { kind = update_type; body = body }) → ⊥) }
 {
     let frame = bgp_frame(bytes)?;
-    if frame.kind != UPDATE {
+    if frame.kind != UPDATE_MESSAGE {
         return None;
     }
     if frame.length as usize != bytes.len() {
         return None;
     }
-    Some(&bytes[19..])
+    Some(&bytes[BGP_HEADER..])
 }
 
 // Reads the UPDATE of a Route Monitoring message (RFC 7854, section 4.6) of a peer that is up.

@@ -6,15 +6,12 @@ ghost use Rattle.bmp_message.specs.StreamWalk.{HasReached, GoesOn, Advances, Rep
 mod reads;
 
 use crate::{EntryFault, Reading};
-use bmp_frames::{Cutter, Next};
+use bmp_frames::{Cutter, Next, TERMINATION};
 use bmp_specs::Why;
 pub use reads::{Entries, Judged, Judgements, Reads};
 use std::alloc::Global;
 use std::marker::Model;
 use wire_io::NoMemory;
-
-/// The type of a Termination Message (RFC 7854, section 4.1).
-const TERMINATION: u8 = 5;
 
 /// What a walk gives next.
 #[derive(Drop)]

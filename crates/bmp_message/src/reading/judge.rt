@@ -7,8 +7,9 @@ ghost use Rattle.bmp_message.specs.Effects.{MeansNoEntry, TellsMeaning};
 ghost use Rattle.peer_events.specs.Body.{most_body};
 
 use crate::fault::EntryFault;
-use crate::reading::{ROUTE_MONITORING, Reading};
+use crate::reading::Reading;
 use crate::routes;
+use crate::types::{MessageType, PeerMessage};
 use bmp_frames::PeerHeader;
 
 impl Reading {
@@ -44,13 +45,19 @@ impl Reading {
         ensures unchanged { OnErr result (self.new ≡ self.old) }
         ensures routes { kind ≡ 0 → IsErrOf result EntryFault.NoMemory → ⊥ }
     {
-        if kind == ROUTE_MONITORING {
-            if self.has_routes(body) {
-                return Ok(());
+        let message = MessageType::of(kind);
+        match message {
+            MessageType::OfPeer(PeerMessage::RouteMonitoring) => {
+                if self.has_routes(body) {
+                    Ok(())
+                } else {
+                    Err(EntryFault::Broken)
+                }
             }
-            return Err(EntryFault::Broken);
+            _ => match self.effects(message, body) {
+                Ok(_) => Ok(()),
+                Err(fault) => Err(fault),
+            },
         }
-        self.entry(kind, body)?;
-        Ok(())
     }
 }

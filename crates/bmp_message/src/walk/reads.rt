@@ -7,8 +7,8 @@ ghost use Rattle.rib_model.specs.Entries.{entry_value};
 ghost use Rattle.bmp_message.specs.Effects.{MeansNoEntry};
 ghost use Rattle.bmp_message.specs.State.{reading_state};
 
-use crate::reading::COMMON_HEADER;
 use crate::{EntryFault, Reading};
+use bmp_frames::COMMON_HEADER;
 use rib_model::Entry;
 
 /// What is wanted of a message that was cut.

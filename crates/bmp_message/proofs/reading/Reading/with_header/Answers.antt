@@ -1,6 +1,6 @@
 use Rattle.std.proofs.lemmas.Result.{IfOk-weaker}
 use Rattle.rib_model.specs.Effects.{effect_values}
-use Rattle.bmp_message.specs.Effects.{message_type_of}
+use Rattle.bmp_message.specs.Types.{message_type_of}
 use Rattle.bmp_message.specs.State.{reading_state}
 use Rattle.bmp_message.proofs.Meanings.{no_header, no_meaning, of_unknown, with_key}
 use Rattle.bmp_message.proofs.reading.Reading.with_header.Goals as goal
