@@ -1,6 +1,7 @@
-use crate::{AsPath, Numbers, PathFault, Segment, SegmentKind, Width};
+use crate::{AsPath, Numbers, Segment, SegmentKind, Width};
 use std::alloc::{AllocError, Global};
 use std::test::Fail;
+use wire_io::BodyFault;
 
 // The path as its segments' types, counts and AS numbers, in the order of the wire.
 fn flat(alloc: Global, path: &AsPath) -> Result<Vec<u32>, AllocError> {
@@ -61,7 +62,7 @@ fn four_byte_path_is_merged(rt: HostRuntime) -> Result<(), Fail> {
 }
 
 // What reading the bytes ends with: the count and the origin of the path, or the fault.
-fn read_back(alloc: Global, bytes: &[u8], width: Width) -> Result<Option<u32>, PathFault> {
+fn read_back(alloc: Global, bytes: &[u8], width: Width) -> Result<Option<u32>, BodyFault> {
     Ok(AsPath::read(alloc, bytes, width)?.origin())
 }
 
@@ -107,7 +108,7 @@ fn what_is_judged_a_path_is_read(rt: HostRuntime) {
         (b"\x02\x01\x00\x00\xfb", Width::Four, false),
     ] {
         assert_eq!(rt; AsPath::is_path(bytes, width), is_path);
-        let broken = matches!(read_back(alloc, bytes, width), Err(PathFault::Broken));
+        let broken = matches!(read_back(alloc, bytes, width), Err(BodyFault::Broken));
         assert_eq!(rt; !broken, is_path);
     }
 }

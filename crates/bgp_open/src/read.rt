@@ -8,11 +8,10 @@ ghost use Rattle.bgp_open.specs.Telling.{TellsRest};
 
 use crate::cap::{Cap, CapList};
 use crate::coded::read_coded;
-use crate::fault::OpenFault;
 use crate::open::Open;
 use byteorder::{BigEndian, ByteOrder};
 use std::alloc::Global;
-use wire_io::NoMemory;
+use wire_io::{BodyFault, NoMemory};
 
 /// The bytes of an OPEN's body before its parameters (RFC 4271, section 4.2).
 const HEADER_LENGTH: usize = 10;
@@ -116,14 +115,14 @@ impl Announced {
     }
 
     // Takes in the capabilities that fill these bytes.
-    fn add_all(&mut self, value: &[u8]) -> Result<(), OpenFault>
+    fn add_all(&mut self, value: &[u8]) -> Result<(), BodyFault>
         ensures ok { OnOk result ((ds : List CodedValue) × AreParts IsCoded value.now ds × Adds ds self.old self.new) }
-        ensures broken { IsErrOf result OpenFault.Broken → (ds : List CodedValue) → AreParts IsCoded value.now ds → ⊥ }
+        ensures broken { IsErrOf result BodyFault.Broken → (ds : List CodedValue) → AreParts IsCoded value.now ds → ⊥ }
     {
         let mut rest = value;
         while !rest.is_empty() {
             let Some(capability) = read_coded(rest) else {
-                return Err(OpenFault::Broken);
+                return Err(BodyFault::Broken);
             };
             self.add(capability.code, capability.value)?;
             rest = capability.rest;
@@ -132,9 +131,9 @@ impl Announced {
     }
 
     // Takes in one optional parameter: the capabilities in it, where it has any.
-    fn add_parameter(&mut self, code: u8, value: &[u8]) -> Result<(), OpenFault>
+    fn add_parameter(&mut self, code: u8, value: &[u8]) -> Result<(), BodyFault>
         ensures ok { OnOk result ((ds : List CodedValue) × HasCapabilities code value.now ds × Adds ds self.old self.new) }
-        ensures broken { IsErrOf result OpenFault.Broken → (ds : List CodedValue) → HasCapabilities code value.now ds → ⊥ }
+        ensures broken { IsErrOf result BodyFault.Broken → (ds : List CodedValue) → HasCapabilities code value.now ds → ⊥ }
     {
         if code == CAPABILITIES {
             self.add_all(value)
@@ -144,14 +143,14 @@ impl Announced {
     }
 
     // Takes in the optional parameters that fill these bytes.
-    fn add_parameters(&mut self, parameters: &[u8]) -> Result<(), OpenFault>
+    fn add_parameters(&mut self, parameters: &[u8]) -> Result<(), BodyFault>
         ensures ok { OnOk result (AddsParameters parameters.now self.old self.new) }
-        ensures broken { IsErrOf result OpenFault.Broken → (lists : List (List CodedValue)) → AreParts IsParameter parameters.now lists → ⊥ }
+        ensures broken { IsErrOf result BodyFault.Broken → (lists : List (List CodedValue)) → AreParts IsParameter parameters.now lists → ⊥ }
     {
         let mut rest = parameters;
         while !rest.is_empty() {
             let Some(parameter) = read_coded(rest) else {
-                return Err(OpenFault::Broken);
+                return Err(BodyFault::Broken);
             };
             self.add_parameter(parameter.code, parameter.value)?;
             rest = parameter.rest;
@@ -168,30 +167,30 @@ fn is_extended(stated: u8, rest: &[u8]) -> bool
 }
 
 // Reads what the parameters announce, the whole rest of the body behind their stated length.
-fn read_parameters(alloc: Global, stated: u8, rest: &[u8]) -> Result<Announced, OpenFault>
+fn read_parameters(alloc: Global, stated: u8, rest: &[u8]) -> Result<Announced, BodyFault>
     ensures ok { IfOk result (λ a. TellsRest stated rest.now a) }
-    ensures broken { IsErrOf result OpenFault.Broken → (o : OpenValue) → AreParameters stated rest.now o → ⊥ }
+    ensures broken { IsErrOf result BodyFault.Broken → (o : OpenValue) → AreParameters stated rest.now o → ⊥ }
 {
     let mut announced = Announced::new(alloc);
     if is_extended(stated, rest) {
         return Ok(announced);
     }
     if rest.len() != stated as usize {
-        return Err(OpenFault::Broken);
+        return Err(BodyFault::Broken);
     }
     announced.add_parameters(rest)?;
     Ok(announced)
 }
 
-/// Reads the body of an OPEN message (RFC 4271, section 4.2), all of the bytes. `OpenFault::Broken`
+/// Reads the body of an OPEN message (RFC 4271, section 4.2), all of the bytes. `BodyFault::Broken`
 /// exactly where they are none. Capabilities of other codes, or of another length than theirs, are
 /// passed over (RFC 5492, section 3). Time and memory are linear in the bytes.
-pub fn read_open(alloc: Global, body: &[u8]) -> Result<Open, OpenFault>
+pub fn read_open(alloc: Global, body: &[u8]) -> Result<Open, BodyFault>
     ensures ok { IfOk result (λ o. IsOpen body.now o) }
-    ensures broken { IsErrOf result OpenFault.Broken → (o : OpenValue) → IsOpen body.now o → ⊥ }
+    ensures broken { IsErrOf result BodyFault.Broken → (o : OpenValue) → IsOpen body.now o → ⊥ }
 {
     if body.len() < HEADER_LENGTH {
-        return Err(OpenFault::Broken);
+        return Err(BodyFault::Broken);
     }
     let stated = body[9];
     let rest = &body[HEADER_LENGTH..];

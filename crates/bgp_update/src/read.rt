@@ -2,7 +2,6 @@ ghost use Rattle.std.specs.Prelude.{IfOk, IsErrOf};
 ghost use Rattle.bmp_specs.specs.Update.{IsUpdate};
 ghost use Rattle.bmp_specs.specs.Values.{UpdateValue};
 
-use crate::fault::UpdateFault;
 use crate::judge::find_update;
 use crate::multi::{end_of_rib, make_multi, make_plain, make_withdrawn, passed_over};
 use crate::shared::share;
@@ -10,9 +9,10 @@ use crate::update::Update;
 use bmp_specs::{IdUse, Width};
 use path_attrs::make_attrs;
 use std::alloc::Global;
+use wire_io::BodyFault;
 
 /// Reads the body of an UPDATE message (RFC 4271, section 4.3), all of the bytes, with AS numbers of the
-/// width and path identifiers where `ids` says so (RFC 7911, section 3). `UpdateFault::Broken` exactly
+/// width and path identifiers where `ids` says so (RFC 7911, section 3). `BodyFault::Broken` exactly
 /// where the bytes are no such body: where a field ends past its bytes, the attributes are none, or a
 /// field of prefixes isn't prefixes of its family.
 ///
@@ -24,12 +24,12 @@ pub fn read_update(
     body: &[u8],
     width: Width,
     ids: IdUse,
-) -> Result<Update, UpdateFault>
+) -> Result<Update, BodyFault>
     ensures ok { IfOk result (IsUpdate width ids body.now) }
-    ensures broken { IsErrOf result UpdateFault.Broken → (u : UpdateValue) → IsUpdate width ids body.now u → ⊥ }
+    ensures broken { IsErrOf result BodyFault.Broken → (u : UpdateValue) → IsUpdate width ids body.now u → ⊥ }
 {
     let Some(found) = find_update(body, width, ids) else {
-        return Err(UpdateFault::Broken);
+        return Err(BodyFault::Broken);
     };
     let fields = found.fields;
     let read = make_attrs(alloc, fields.attributes, width, &found.judged)?;

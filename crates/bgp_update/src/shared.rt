@@ -2,10 +2,10 @@ ghost use Rattle.std.specs.Prelude.{◌≡◌, Some, IfOk, IfErr, OnOk};
 ghost use Rattle.std.specs.Arc.{arc_value};
 ghost use Rattle.bmp_specs.specs.Update.{with_hop_of};
 
-use crate::fault::UpdateFault;
 use path_attrs::{Attrs, MpPart};
 use std::alloc::Global;
 use std::sync::Arc;
+use wire_io::BodyFault;
 
 // The attributes of the routes of an UPDATE.
 #[derive(Drop)]
@@ -18,10 +18,10 @@ pub(crate) struct SharedAttrs {
 }
 
 // Equal attributes but for the hop, which is that of MP_REACH_NLRI. Their own hop isn't copied.
-fn with_hop(attrs: &mut Attrs, part: MpPart) -> Result<Attrs, UpdateFault>
+fn with_hop(attrs: &mut Attrs, part: MpPart) -> Result<Attrs, BodyFault>
     ensures ok { IfOk result (λ multi. multi ≡ with_hop_of (Some part) attrs.old) }
     ensures same { OnOk result (attrs.new ≡ attrs.old) }
-    ensures fault { IfErr result (λ fault. fault ≡ UpdateFault.NoMemory) }
+    ensures fault { IfErr result (λ fault. fault ≡ BodyFault.NoMemory) }
 {
     let own = attrs.hop.take();
     let mut multi = attrs.copy()?;
@@ -35,10 +35,10 @@ pub(crate) fn share(
     alloc: Global,
     attrs: Attrs,
     reach: Option<MpPart>,
-) -> Result<SharedAttrs, UpdateFault>
+) -> Result<SharedAttrs, BodyFault>
     ensures plain { IfOk result (λ shared. arc_value shared.plain ≡ attrs) }
     ensures multi { IfOk result (λ shared. arc_value shared.multi ≡ with_hop_of reach attrs) }
-    ensures fault { IfErr result (λ fault. fault ≡ UpdateFault.NoMemory) }
+    ensures fault { IfErr result (λ fault. fault ≡ BodyFault.NoMemory) }
 {
     let mut attrs = attrs;
     match reach {

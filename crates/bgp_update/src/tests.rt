@@ -1,13 +1,14 @@
 //! Bodies of UPDATE messages, and what is read of them: prefixes with `-` are withdrawn, those with `+`
 //! stand in the NLRI and those with `*` in MP_REACH_NLRI; `#` comes before a path identifier.
 
-use crate::{IdUse, NlriList, UpdateFault, judge_update, read_update};
+use crate::{IdUse, NlriList, judge_update, read_update};
 use bmp_specs::Width;
 use ip_prefix::{Family, Nlri, parse_prefix};
 use path_attrs::Attrs;
 use std::alloc::Global;
 use std::sync::Arc;
 use std::test::Fail;
+use wire_io::BodyFault;
 
 const NONE: IdUse = IdUse {
     v4: false,
@@ -32,9 +33,9 @@ fn read(alloc: Global, body: &[u8], width: Width, ids: IdUse) -> Result<Vec<u8>,
     let is_update = judge_update(body, width, ids);
     let update = match read_update(alloc, body, width, ids) {
         Ok(update) => update,
-        Err(UpdateFault::Broken) if is_update => return Ok(Vec::from_slice(alloc, b"judged")?),
-        Err(UpdateFault::Broken) => return Ok(Vec::from_slice(alloc, b"broken")?),
-        Err(UpdateFault::NoMemory) => return Ok(Vec::from_slice(alloc, b"no memory")?),
+        Err(BodyFault::Broken) if is_update => return Ok(Vec::from_slice(alloc, b"judged")?),
+        Err(BodyFault::Broken) => return Ok(Vec::from_slice(alloc, b"broken")?),
+        Err(BodyFault::NoMemory) => return Ok(Vec::from_slice(alloc, b"no memory")?),
     };
     let mut text = Vec::new(alloc);
     if !is_update {

@@ -1,5 +1,4 @@
 pub mod Peers
-pub mod Faults
 pub mod UpdateOf
 pub mod Meanings
 pub mod Reaching

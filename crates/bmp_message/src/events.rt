@@ -11,7 +11,6 @@ ghost use Rattle.peer_events.specs.Body.{most_body};
 ghost use Rattle.rib_model.specs.Effects.{effect_values};
 
 use crate::effects::{add_statistics, add_unread, one_if, only};
-use crate::fault::EntryFault;
 use bgp_open::PeerInfo;
 use bmp_frames::PeerKey;
 use peer_events::{
@@ -20,7 +19,7 @@ use peer_events::{
 use rib_model::{Effect, EffectList};
 use std::alloc::Global;
 use std::sync::Arc;
-use wire_io::{ByteList, NoMemory};
+use wire_io::{BodyFault, ByteList, NoMemory};
 
 // Appends the sysName, where there is one.
 fn add_name(effects: &mut EffectList, name: Option<ByteList>) -> Result<(), NoMemory>
@@ -43,10 +42,10 @@ fn add_description(effects: &mut EffectList, descr: Option<ByteList>) -> Result<
 }
 
 // The effects of an Initiation Message (RFC 7854, section 4.3).
-pub(crate) fn initiation(alloc: Global, body: &[u8]) -> Result<EffectList, EntryFault>
+pub(crate) fn initiation(alloc: Global, body: &[u8]) -> Result<EffectList, BodyFault>
     requires { length body.now ≤ most_body }
     ensures ok { IfOk result (λ effects. (i : InitiationValue) × IsInitiation body.now i × (effect_values effects ≡ effects_of (told i))) }
-    ensures broken { IsErrOf result EntryFault.Broken → (i : InitiationValue) → IsInitiation body.now i → ⊥ }
+    ensures broken { IsErrOf result BodyFault.Broken → (i : InitiationValue) → IsInitiation body.now i → ⊥ }
 {
     let Initiation {
         name,
@@ -62,25 +61,25 @@ pub(crate) fn initiation(alloc: Global, body: &[u8]) -> Result<EffectList, Entry
 }
 
 // The effects of a Termination Message (RFC 7854, section 4.5).
-pub(crate) fn termination(alloc: Global, body: &[u8]) -> Result<EffectList, EntryFault>
+pub(crate) fn termination(alloc: Global, body: &[u8]) -> Result<EffectList, BodyFault>
     requires { length body.now ≤ most_body }
     ensures ok { IfOk result (λ effects. IsTermination body.now × (effect_values effects ≡ effects_of ended)) }
-    ensures broken { IsErrOf result EntryFault.Broken → IsTermination body.now → ⊥ }
+    ensures broken { IsErrOf result BodyFault.Broken → IsTermination body.now → ⊥ }
 {
     if !read_termination(body) {
-        return Err(EntryFault::Broken);
+        return Err(BodyFault::Broken);
     }
     Ok(EffectList::new(alloc))
 }
 
 // The effects of a Peer Down Notification (RFC 7854, section 4.9).
-pub(crate) fn peer_down(alloc: Global, key: &PeerKey, rest: &[u8]) -> Result<EffectList, EntryFault>
+pub(crate) fn peer_down(alloc: Global, key: &PeerKey, rest: &[u8]) -> Result<EffectList, BodyFault>
     requires { length rest.now ≤ most_body }
     ensures ok { IfOk result (λ effects. (d : DownInfoValue) × IsPeerDown rest.now d × (effect_values effects ≡ effects_of (went_down key.now d))) }
-    ensures broken { IsErrOf result EntryFault.Broken → (d : DownInfoValue) → IsPeerDown rest.now d → ⊥ }
+    ensures broken { IsErrOf result BodyFault.Broken → (d : DownInfoValue) → IsPeerDown rest.now d → ⊥ }
 {
     let Some(info) = read_peer_down(rest) else {
-        return Err(EntryFault::Broken);
+        return Err(BodyFault::Broken);
     };
     let effects = only(alloc, Effect::Down { key: *key, info })?;
     Ok(effects)
@@ -107,10 +106,10 @@ pub(crate) fn statistics(
     alloc: Global,
     key: &PeerKey,
     rest: &[u8],
-) -> Result<EffectList, EntryFault>
+) -> Result<EffectList, BodyFault>
     requires { length rest.now ≤ most_body }
     ensures ok { IfOk result (λ effects. (s : StatisticsValue) × IsStatistics rest.now s × (effect_values effects ≡ effects_of (counted key.now s))) }
-    ensures broken { IsErrOf result EntryFault.Broken → (s : StatisticsValue) → IsStatistics rest.now s → ⊥ }
+    ensures broken { IsErrOf result BodyFault.Broken → (s : StatisticsValue) → IsStatistics rest.now s → ⊥ }
 {
     let report = read_statistics(alloc, rest)?;
     let stats = report.stats.as_slice();
@@ -122,13 +121,13 @@ pub(crate) fn statistics(
 }
 
 // The effects of a Route Mirroring message (RFC 7854, section 4.7).
-pub(crate) fn mirroring(alloc: Global, rest: &[u8]) -> Result<EffectList, EntryFault>
+pub(crate) fn mirroring(alloc: Global, rest: &[u8]) -> Result<EffectList, BodyFault>
     requires { length rest.now ≤ most_body }
     ensures ok { IfOk result (λ effects. (n : ℕ) × IsMirroring rest.now n × (effect_values effects ≡ effects_of (mirrored_routes n))) }
-    ensures broken { IsErrOf result EntryFault.Broken → (n : ℕ) → IsMirroring rest.now n → ⊥ }
+    ensures broken { IsErrOf result BodyFault.Broken → (n : ℕ) → IsMirroring rest.now n → ⊥ }
 {
     let Some(unread) = read_mirroring(rest) else {
-        return Err(EntryFault::Broken);
+        return Err(BodyFault::Broken);
     };
     let mut effects = EffectList::with_capacity(alloc, 1 + one_if(unread > 0))?;
     effects.push(Effect::Mirrored)?;

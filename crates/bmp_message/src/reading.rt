@@ -14,7 +14,6 @@ ghost use Rattle.rib_model.specs.Effects.{effect_values};
 mod judge;
 
 use crate::effects::only;
-use crate::fault::EntryFault;
 use crate::types::{MessageType, PeerMessage};
 use crate::{events, routes};
 use bgp_open::PeerInfo;
@@ -25,6 +24,7 @@ use std::alloc::Global;
 use std::collections::BTreeMap;
 use std::marker::Model;
 use std::sync::Arc;
+use wire_io::BodyFault;
 
 /// What has been read of a stream so far: which peers are up, and what their Peer Ups told.
 ///
@@ -68,10 +68,10 @@ impl Reading {
         head: &PeerHeader,
         key: &PeerKey,
         rest: &[u8],
-    ) -> Result<EffectList, EntryFault>
+    ) -> Result<EffectList, BodyFault>
         requires { length rest.now ≤ most_body }
         ensures ok { IfOk result (λ effects. HasEffects (OfPeer route_monitoring (reading_state self.now) head.now key.now rest.now) (effect_values effects) (reading_state self.now)) }
-        ensures broken { IsErrOf result EntryFault.Broken → MeansNothing (OfPeer route_monitoring (reading_state self.now) head.now key.now rest.now) }
+        ensures broken { IsErrOf result BodyFault.Broken → MeansNothing (OfPeer route_monitoring (reading_state self.now) head.now key.now rest.now) }
     {
         match self.peers.get(key) {
             Some(peer) => routes::route_monitoring(self.alloc, peer, head, key, rest),
@@ -80,10 +80,10 @@ impl Reading {
     }
 
     // A Statistics Report (RFC 7854, section 4.8). Where the peer isn't up nothing of it is read.
-    fn statistics(&self, key: &PeerKey, rest: &[u8]) -> Result<EffectList, EntryFault>
+    fn statistics(&self, key: &PeerKey, rest: &[u8]) -> Result<EffectList, BodyFault>
         requires { length rest.now ≤ most_body }
         ensures ok { (h : HeaderValue) → IfOk result (λ effects. HasEffects (OfPeer statistics_report (reading_state self.now) h key.now rest.now) (effect_values effects) (reading_state self.now)) }
-        ensures broken { (h : HeaderValue) → IsErrOf result EntryFault.Broken → MeansNothing (OfPeer statistics_report (reading_state self.now) h key.now rest.now) }
+        ensures broken { (h : HeaderValue) → IsErrOf result BodyFault.Broken → MeansNothing (OfPeer statistics_report (reading_state self.now) h key.now rest.now) }
     {
         if !self.is_up(key) {
             return Ok(only(self.alloc, Effect::Orphan)?);
@@ -92,10 +92,10 @@ impl Reading {
     }
 
     // A Peer Down Notification (RFC 7854, section 4.9), after which the peer isn't up.
-    fn peer_down(&mut self, key: &PeerKey, rest: &[u8]) -> Result<EffectList, EntryFault>
+    fn peer_down(&mut self, key: &PeerKey, rest: &[u8]) -> Result<EffectList, BodyFault>
         requires { length rest.now ≤ most_body }
         ensures ok { (h : HeaderValue) → IfOk result (λ effects. HasEffects (OfPeer peer_down_notification (reading_state self.old) h key.now rest.now) (effect_values effects) (reading_state self.new)) }
-        ensures broken { (h : HeaderValue) → IsErrOf result EntryFault.Broken → MeansNothing (OfPeer peer_down_notification (reading_state self.old) h key.now rest.now) }
+        ensures broken { (h : HeaderValue) → IsErrOf result BodyFault.Broken → MeansNothing (OfPeer peer_down_notification (reading_state self.old) h key.now rest.now) }
         ensures unchanged { OnErr result (self.new ≡ self.old) }
     {
         let effects = events::peer_down(self.alloc, key, rest)?;
@@ -109,10 +109,10 @@ impl Reading {
         head: &PeerHeader,
         key: &PeerKey,
         rest: &[u8],
-    ) -> Result<EffectList, EntryFault>
+    ) -> Result<EffectList, BodyFault>
         requires { length rest.now ≤ most_body }
         ensures ok { IfOk result (λ effects. HasEffects (OfPeer peer_up_notification (reading_state self.old) head.now key.now rest.now) (effect_values effects) (reading_state self.new)) }
-        ensures broken { IsErrOf result EntryFault.Broken → MeansNothing (OfPeer peer_up_notification (reading_state self.old) head.now key.now rest.now) }
+        ensures broken { IsErrOf result BodyFault.Broken → MeansNothing (OfPeer peer_up_notification (reading_state self.old) head.now key.now rest.now) }
         ensures unchanged { OnErr result (self.new ≡ self.old) }
     {
         let up = read_peer_up(self.alloc, head, rest)?;
@@ -129,10 +129,10 @@ impl Reading {
         head: &PeerHeader,
         key: &PeerKey,
         rest: &[u8],
-    ) -> Result<EffectList, EntryFault>
+    ) -> Result<EffectList, BodyFault>
         requires { length rest.now ≤ most_body }
         ensures ok { IfOk result (λ effects. HasEffects (OfPeer (message_type_of kind) (reading_state self.old) head.now key.now rest.now) (effect_values effects) (reading_state self.new)) }
-        ensures broken { IsErrOf result EntryFault.Broken → MeansNothing (OfPeer (message_type_of kind) (reading_state self.old) head.now key.now rest.now) }
+        ensures broken { IsErrOf result BodyFault.Broken → MeansNothing (OfPeer (message_type_of kind) (reading_state self.old) head.now key.now rest.now) }
         ensures unchanged { OnErr result (self.new ≡ self.old) }
     {
         match kind {
@@ -146,14 +146,14 @@ impl Reading {
 
     // A message with a Per-Peer Header (RFC 7854, section 4.2). Of a peer type that isn't known nothing
     // else is read.
-    fn with_header(&mut self, kind: PeerMessage, body: &[u8]) -> Result<EffectList, EntryFault>
+    fn with_header(&mut self, kind: PeerMessage, body: &[u8]) -> Result<EffectList, BodyFault>
         requires { length body.now ≤ most_body }
         ensures ok { IfOk result (λ effects. HasEffects (HasPeer (message_type_of kind) (reading_state self.old) body.now) (effect_values effects) (reading_state self.new)) }
-        ensures broken { IsErrOf result EntryFault.Broken → MeansNothing (HasPeer (message_type_of kind) (reading_state self.old) body.now) }
+        ensures broken { IsErrOf result BodyFault.Broken → MeansNothing (HasPeer (message_type_of kind) (reading_state self.old) body.now) }
         ensures unchanged { OnErr result (self.new ≡ self.old) }
     {
         let Some((front, rest)) = body.split_first_chunk() else {
-            return Err(EntryFault::Broken);
+            return Err(BodyFault::Broken);
         };
         let head = PeerHeader::read(front);
         match head.key() {
@@ -163,10 +163,10 @@ impl Reading {
     }
 
     // What a message of this type does.
-    fn effects(&mut self, kind: MessageType, body: &[u8]) -> Result<EffectList, EntryFault>
+    fn effects(&mut self, kind: MessageType, body: &[u8]) -> Result<EffectList, BodyFault>
         requires { length body.now ≤ most_body }
         ensures ok { IfOk result (λ effects. HasEffects (OfType (type_in kind) (reading_state self.old) body.now) (effect_values effects) (reading_state self.new)) }
-        ensures broken { IsErrOf result EntryFault.Broken → MeansNothing (OfType (type_in kind) (reading_state self.old) body.now) }
+        ensures broken { IsErrOf result BodyFault.Broken → MeansNothing (OfType (type_in kind) (reading_state self.old) body.now) }
         ensures unchanged { OnErr result (self.new ≡ self.old) }
     {
         match kind {
@@ -181,14 +181,14 @@ impl Reading {
     /// (RFC 7854, section 4.1): its type, its whole length and its effects in order, each on a RIB that
     /// its peer has (RFC 8671; RFC 9069).
     ///
-    /// `EntryFault::Broken` only where the body is none of its type while these peers are up. After a
+    /// `BodyFault::Broken` only where the body is none of its type while these peers are up. After a
     /// refusal the same peers are up. Time and memory are linear in the body and the effects. Nothing
     /// after the Per-Peer Header is read of a peer type that isn't known, nor of routes and statistics of
     /// a peer that isn't up; of a type that isn't known nothing is read.
-    pub fn entry(&mut self, kind: u8, body: &[u8]) -> Result<Entry, EntryFault>
+    pub fn entry(&mut self, kind: u8, body: &[u8]) -> Result<Entry, BodyFault>
         requires { length body.now ≤ most_body }
         ensures ok { IfOk result (λ entry. IsMessageEntry (reading_state self.old) kind body.now (entry_value entry) (reading_state self.new)) }
-        ensures broken { IsErrOf result EntryFault.Broken → MeansNoEntry (IsMessageEntry (reading_state self.old) kind body.now) }
+        ensures broken { IsErrOf result BodyFault.Broken → MeansNoEntry (IsMessageEntry (reading_state self.old) kind body.now) }
         ensures unchanged { OnErr result (self.new ≡ self.old) }
         ensures views { IfOk result (λ entry. All HasViewOfKey (effects_in (entry_value entry))) }
     {

@@ -8,14 +8,13 @@ ghost use Rattle.bmp_message.specs.State.{opens_of};
 ghost use Rattle.rib_model.specs.Effects.{effect_values};
 
 use crate::effects::{add_announcements, add_mark, add_unread, add_withdrawals, one_if};
-use crate::fault::EntryFault;
 use bgp_open::{BGP_HEADER, PeerInfo, Side, UPDATE_MESSAGE, bgp_frame, path_ids};
 use bgp_update::{IdUse, Update, judge_update, read_update};
 use bmp_frames::{O_FLAG, PeerHeader, PeerKey};
 use bmp_specs::{Family, View, Width};
 use rib_model::EffectList;
 use std::alloc::Global;
-use wire_io::NoMemory;
+use wire_io::{BodyFault, NoMemory};
 
 // The side of the peer that the header speaks of.
 fn side_of(head: &PeerHeader) -> Side
@@ -73,12 +72,12 @@ fn read_routes(
     peer: &PeerInfo,
     head: &PeerHeader,
     rest: &[u8],
-) -> Result<Update, EntryFault>
+) -> Result<Update, BodyFault>
     ensures ok { IfOk result (λ u. IsRouteMonitoring (opens_of peer.now) head.now rest.now u) }
-    ensures broken { IsErrOf result EntryFault.Broken → (u : UpdateValue) → IsRouteMonitoring (opens_of peer.now) head.now rest.now u → ⊥ }
+    ensures broken { IsErrOf result BodyFault.Broken → (u : UpdateValue) → IsRouteMonitoring (opens_of peer.now) head.now rest.now u → ⊥ }
 {
     let Some(body) = update_body(rest) else {
-        return Err(EntryFault::Broken);
+        return Err(BodyFault::Broken);
     };
     let update = read_update(alloc, body, width_of(head), id_use(peer, head))?;
     Ok(update)
@@ -144,9 +143,9 @@ pub(crate) fn route_monitoring(
     head: &PeerHeader,
     key: &PeerKey,
     rest: &[u8],
-) -> Result<EffectList, EntryFault>
+) -> Result<EffectList, BodyFault>
     ensures ok { IfOk result (λ effects. (u : UpdateValue) × IsRouteMonitoring (opens_of peer.now) head.now rest.now u × (effect_values effects ≡ effects_of (routes key.now (view_of head.now) u))) }
-    ensures broken { IsErrOf result EntryFault.Broken → (u : UpdateValue) → IsRouteMonitoring (opens_of peer.now) head.now rest.now u → ⊥ }
+    ensures broken { IsErrOf result BodyFault.Broken → (u : UpdateValue) → IsRouteMonitoring (opens_of peer.now) head.now rest.now u → ⊥ }
 {
     let update = read_routes(alloc, peer, head, rest)?;
     let effects = effects_of_update(alloc, key, head.view(), &update)?;

@@ -1,6 +1,6 @@
 //! The messages of a usual router and of a Loc-RIB: what each does to the tables, after those before it.
 
-use crate::{EntryFault, Reading};
+use crate::Reading;
 use bgp_open::PeerInfo;
 use bmp_frames::{PeerKey, View, ViewText};
 use ip_prefix::{Family, Nlri, parse_addr};
@@ -9,6 +9,7 @@ use std::alloc::Global;
 use std::process::Abort;
 use std::test::Fail;
 use wire_tables::Stat;
+use wire_io::BodyFault;
 
 // The Per-Peer Headers of a Global, an RD and a Loc-RIB Instance Peer, and of a peer type that isn't known.
 const GLOBAL: &str =
@@ -450,11 +451,11 @@ fn read<R: Abort>(
             }
         }
         Ok(_) => said.extend_from_slice(b"no message")?,
-        Err(EntryFault::Broken) => {
-            assert_eq!(rt; judged, Err(EntryFault::Broken));
+        Err(BodyFault::Broken) => {
+            assert_eq!(rt; judged, Err(BodyFault::Broken));
             said.extend_from_slice(b"broken")?;
         }
-        Err(EntryFault::NoMemory) => return Err("no memory".into()),
+        Err(BodyFault::NoMemory) => return Err("no memory".into()),
     }
     Ok(said)
 }

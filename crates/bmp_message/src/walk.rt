@@ -5,13 +5,13 @@ ghost use Rattle.bmp_message.specs.StreamWalk.{HasReached, GoesOn, Advances, Rep
 
 mod reads;
 
-use crate::{EntryFault, Reading};
+use crate::Reading;
 use bmp_frames::{Cutter, Next, TERMINATION};
 use bmp_specs::Why;
 pub use reads::{Entries, Judged, Judgements, Reads};
 use std::alloc::Global;
 use std::marker::Model;
-use wire_io::NoMemory;
+use wire_io::{BodyFault, NoMemory};
 
 /// What a walk gives next.
 #[derive(Drop)]
@@ -146,11 +146,11 @@ impl StreamWalk {
                 self.stage = stage_after(kind);
                 Ok(Progress::Message(item))
             }
-            Err(EntryFault::Broken) => {
+            Err(BodyFault::Broken) => {
                 self.stage = Stage::Broken(Why::Body);
                 Ok(Progress::Broken(Why::Body))
             }
-            Err(EntryFault::NoMemory) => Err(NoMemory),
+            Err(BodyFault::NoMemory) => Err(NoMemory),
         }
     }
 

@@ -2,10 +2,10 @@ ghost use Rattle.std.specs.Prelude.{◌≡◌, IfOk, option_copied};
 ghost use Rattle.bmp_specs.specs.FourOctetAs.{IsMergedPath, ignores_as4, merged_aggregator};
 
 use crate::attrs::Aggregator;
-use as_path::{AsPath, PathFault, Width};
+use as_path::{AsPath, Width};
 use byteorder::{BigEndian, ByteOrder};
 use std::alloc::Global;
-use wire_io::NoMemory;
+use wire_io::{BodyFault, NoMemory};
 
 // "AS_TRANS" (RFC 6793, section 9).
 const AS_TRANS: u32 = 23456;
@@ -72,7 +72,7 @@ pub(crate) fn merge_path(
                 Err(_) => Err(NoMemory),
             }
         }
-        Err(PathFault::Broken) => Ok(Some(path)),
-        Err(PathFault::NoMemory) => Err(NoMemory),
+        Err(BodyFault::Broken) => Ok(Some(path)),
+        Err(BodyFault::NoMemory) => Err(NoMemory),
     }
 }

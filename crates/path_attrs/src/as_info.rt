@@ -8,10 +8,10 @@ ghost use Rattle.path_attrs.specs.Field.{value_at};
 use crate::as4::{ignores, merge_aggregator, merge_path};
 use crate::attrs::Aggregator;
 use crate::codes::{AGGREGATOR, AS_PATH, AS4_AGGREGATOR, AS4_PATH, PLACES};
-use as_path::{AsPath, PathFault, Width};
+use as_path::{AsPath, Width};
 use byteorder::{BigEndian, ByteOrder};
 use std::alloc::Global;
-use wire_io::NoMemory;
+use wire_io::{BodyFault, NoMemory};
 
 // How many bytes an AS number has.
 pub(crate) fn width_bytes(width: Width) -> usize
@@ -57,8 +57,8 @@ fn make_path(alloc: Global, value: Option<&[u8]>, width: Width) -> Result<Option
         None => Ok(None),
         Some(bytes) => match AsPath::read(alloc, bytes, width) {
             Ok(path) => Ok(Some(path)),
-            Err(PathFault::Broken) => unreachable!(),
-            Err(PathFault::NoMemory) => Err(NoMemory),
+            Err(BodyFault::Broken) => unreachable!(),
+            Err(BodyFault::NoMemory) => Err(NoMemory),
         },
     }
 }

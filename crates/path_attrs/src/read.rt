@@ -6,7 +6,6 @@ ghost use Rattle.path_attrs.specs.Judged.{IsJudged};
 use crate::as_info::make_as_info;
 use crate::attrs::Attrs;
 use crate::codes::{ATOMIC_AGGREGATE, COMMUNITIES, LOCAL_PREF, MULTI_EXIT_DISC, NEXT_HOP, ORIGIN};
-use crate::fault::AttrFault;
 use crate::judge::{Judged, judge_attrs};
 use crate::keep::make_others;
 use crate::mp::{MpPart, make_part};
@@ -14,7 +13,7 @@ use crate::values::{is_there, make_communities, make_hop, number, octet};
 use as_path::Width;
 use std::alloc::Global;
 use std::marker::Model;
-use wire_io::NoMemory;
+use wire_io::{BodyFault, NoMemory};
 
 /// The path attributes of an UPDATE, as one field of it has them.
 #[derive(Drop)]
@@ -78,13 +77,13 @@ pub fn make_attrs(
 }
 
 /// Reads the "Path Attributes" of an UPDATE message (RFC 4271, section 4.3), with AS numbers of the
-/// width: judges them, and then makes them. `AttrFault::Broken` exactly where `judge_attrs` answers `None`.
-pub fn read_attrs(alloc: Global, field: &[u8], width: Width) -> Result<AttrsRead, AttrFault>
+/// width: judges them, and then makes them. `BodyFault::Broken` exactly where `judge_attrs` answers `None`.
+pub fn read_attrs(alloc: Global, field: &[u8], width: Width) -> Result<AttrsRead, BodyFault>
     ensures ok { IfOk result (AreAttributes width field.now) }
-    ensures broken { IsErrOf result AttrFault.Broken → (read : AttrsReadValue) → AreAttributes width field.now read → ⊥ }
+    ensures broken { IsErrOf result BodyFault.Broken → (read : AttrsReadValue) → AreAttributes width field.now read → ⊥ }
 {
     let Some(judged) = judge_attrs(field, width) else {
-        return Err(AttrFault::Broken);
+        return Err(BodyFault::Broken);
     };
     Ok(make_attrs(alloc, field, width, &judged)?)
 }

@@ -1,6 +1,7 @@
-use crate::{AttrFault, AttrsRead, MpPart, MpSlice, Width, judge_attrs, read_attrs};
+use crate::{AttrsRead, MpPart, MpSlice, Width, judge_attrs, read_attrs};
 use std::alloc::Global;
 use std::test::Fail;
+use wire_io::BodyFault;
 
 // ORIGIN, AS_PATH 23456 64500, NEXT_HOP, AGGREGATOR 64500, AS4_PATH 4200000001 64500, AS4_AGGREGATOR
 const TWO_BYTE: &[u8] =
@@ -20,7 +21,7 @@ fn read_copy(
     alloc: Global,
     field: &[u8],
     width: Width,
-) -> Result<(u32, Option<(u32, u32)>), AttrFault> {
+) -> Result<(u32, Option<(u32, u32)>), BodyFault> {
     let read = read_attrs(alloc, field, width)?;
     let attrs = read.attrs.copy()?;
     let copy = AttrsRead {
@@ -145,7 +146,7 @@ fn judged(alloc: Global, field: &[u8], width: Width) -> Result<Option<(bool, boo
             }
             Ok(Some((lent.reach.is_some(), lent.unreach.is_some())))
         }
-        (None, Err(AttrFault::Broken)) => Ok(None),
+        (None, Err(BodyFault::Broken)) => Ok(None),
         _ => Err("judged and read differ".into()),
     }
 }

@@ -4,11 +4,10 @@ ghost use Rattle.peer_events.specs.Body.{most_body};
 ghost use Rattle.bmp_specs.specs.Initiation.{IsInitiation};
 ghost use Rattle.bmp_specs.specs.Values.{InitiationValue};
 
-use crate::fault::EventFault;
 use crate::tlvs::{Carrier, SYS_DESCR, SYS_NAME, are_tlvs, count_unread, last_value};
 use std::alloc::Global;
 use std::marker::Model;
-use wire_io::{ByteList, NoMemory};
+use wire_io::{BodyFault, ByteList, NoMemory};
 
 /// What an Initiation Message tells of a router (RFC 7854, section 4.3).
 #[derive(Drop)]
@@ -46,14 +45,14 @@ pub(crate) fn copied(alloc: Global, bytes: Option<&[u8]>) -> Result<Option<ByteL
 }
 
 /// Reads the body of an Initiation Message (RFC 7854, section 4.3), all of the bytes.
-/// `EventFault::Broken` exactly where TLVs don't fill them. Time and memory are linear in the bytes.
-pub fn read_initiation(alloc: Global, body: &[u8]) -> Result<Initiation, EventFault>
+/// `BodyFault::Broken` exactly where TLVs don't fill them. Time and memory are linear in the bytes.
+pub fn read_initiation(alloc: Global, body: &[u8]) -> Result<Initiation, BodyFault>
     requires { length body.now ≤ most_body }
     ensures ok { IfOk result (λ i. IsInitiation body.now i) }
-    ensures broken { IsErrOf result EventFault.Broken → (i : InitiationValue) → IsInitiation body.now i → ⊥ }
+    ensures broken { IsErrOf result BodyFault.Broken → (i : InitiationValue) → IsInitiation body.now i → ⊥ }
 {
     if !are_tlvs(body) {
-        return Err(EventFault::Broken);
+        return Err(BodyFault::Broken);
     }
     let name = copied(alloc, last_value(body, SYS_NAME))?;
     let descr = copied(alloc, last_value(body, SYS_DESCR))?;

@@ -8,16 +8,15 @@ ghost use Rattle.bmp_specs.specs.Sequence.{HasFront};
 ghost use Rattle.bmp_specs.specs.Tlv.{AreTlvs};
 ghost use Rattle.bmp_specs.specs.Values.{OpenValue, PeerUpValue, TlvValue};
 
-use crate::fault::EventFault;
 use crate::initiation::copied;
 use crate::tlvs::{Carrier, TABLE_NAME, are_tlvs, count_unread, last_value};
-use bgp_open::{BGP_HEADER, OPEN_MESSAGE, Open, OpenFault, PeerInfo, bgp_frame, read_open};
+use bgp_open::{BGP_HEADER, OPEN_MESSAGE, Open, PeerInfo, bgp_frame, read_open};
 use bmp_frames::{F_FLAG, PeerHeader};
 use byteorder::{BigEndian, ByteOrder};
 use ip_prefix::Addr;
 use std::alloc::Global;
 use std::marker::Model;
-use wire_io::{ByteList, NoMemory};
+use wire_io::{BodyFault, ByteList, NoMemory};
 
 /// "Local Address", "Local Port" and "Remote Port" (RFC 7854, section 4.10).
 const HEADER_LENGTH: usize = 20;
@@ -48,23 +47,20 @@ struct Opening<'a> {
 }
 
 // Reads an OPEN message from the front (RFC 4271, section 4.2).
-fn read_opening(alloc: Global, input: &[u8]) -> Result<Opening<'_>, EventFault>
+fn read_opening(alloc: Global, input: &[u8]) -> Result<Opening<'_>, BodyFault>
     ensures ok { IfOk result (λ o. HasFront IsOpenMessage input.now o.«open» o.rest.now) }
     ensures shorter { IfOk result (λ o. length o.rest.now ≤ length input.now) }
-    ensures broken { IsErrOf result EventFault.Broken → (o : OpenValue) (rest : List ℕ) → HasFront IsOpenMessage input.now o rest → ⊥ }
+    ensures broken { IsErrOf result BodyFault.Broken → (o : OpenValue) (rest : List ℕ) → HasFront IsOpenMessage input.now o rest → ⊥ }
 {
     let Some(frame) = bgp_frame(input) else {
-        return Err(EventFault::Broken);
+        return Err(BodyFault::Broken);
     };
     if frame.kind != OPEN_MESSAGE {
-        return Err(EventFault::Broken);
+        return Err(BodyFault::Broken);
     }
     let (message, rest) = input.split_at(frame.length as usize);
-    match read_open(alloc, &message[BGP_HEADER..]) {
-        Ok(open) => Ok(Opening { open, rest }),
-        Err(OpenFault::Broken) => Err(EventFault::Broken),
-        Err(OpenFault::NoMemory) => Err(EventFault::NoMemory),
-    }
+    let open = read_open(alloc, &message[BGP_HEADER..])?;
+    Ok(Opening { open, rest })
 }
 
 // Whether a Loc-RIB Instance Peer tells of a filtered Loc-RIB.
@@ -107,21 +103,21 @@ fn local_address(head: &PeerHeader, rest: &[u8]) -> Addr
 }
 
 /// Reads what follows the Per-Peer Header in a Peer Up Notification (RFC 7854, section 4.10; RFC 9069,
-/// sections 4.4 and 5.2), all of the bytes. `EventFault::Broken` exactly where they are none. Time and
+/// sections 4.4 and 5.2), all of the bytes. `BodyFault::Broken` exactly where they are none. Time and
 /// memory are linear in the bytes.
-pub fn read_peer_up(alloc: Global, head: &PeerHeader, rest: &[u8]) -> Result<PeerUp, EventFault>
+pub fn read_peer_up(alloc: Global, head: &PeerHeader, rest: &[u8]) -> Result<PeerUp, BodyFault>
     requires { length rest.now ≤ most_body }
     ensures ok { IfOk result (λ u. IsPeerUp head.now rest.now u) }
-    ensures broken { IsErrOf result EventFault.Broken → (u : PeerUpValue) → IsPeerUp head.now rest.now u → ⊥ }
+    ensures broken { IsErrOf result BodyFault.Broken → (u : PeerUpValue) → IsPeerUp head.now rest.now u → ⊥ }
 {
     if rest.len() < HEADER_LENGTH {
-        return Err(EventFault::Broken);
+        return Err(BodyFault::Broken);
     }
     let sent = read_opening(alloc, &rest[HEADER_LENGTH..])?;
     let received = read_opening(alloc, sent.rest)?;
     let information = received.rest;
     if !are_tlvs(information) {
-        return Err(EventFault::Broken);
+        return Err(BodyFault::Broken);
     }
     let table = table(alloc, head, information)?;
     Ok(PeerUp {

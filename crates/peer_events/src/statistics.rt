@@ -5,12 +5,11 @@ ghost use Rattle.bmp_specs.specs.Statistics.{IsStatistics, statistic_of, value_i
 ghost use Rattle.bmp_specs.specs.Tlv.{AreTlvs};
 ghost use Rattle.bmp_specs.specs.Values.{StatisticsValue, TlvValue};
 
-use crate::fault::EventFault;
 use crate::tlvs::{Tlv, are_tlvs, read_tlv};
 use byteorder::{BigEndian, ByteOrder};
 use std::alloc::Global;
 use std::marker::Model;
-use wire_io::{List, NoMemory};
+use wire_io::{BodyFault, List, NoMemory};
 use wire_tables::{Shape, Stat, statistic_table};
 
 /// A list of statistics, in the order of the wire.
@@ -123,23 +122,23 @@ fn add_stats(stats: &mut StatList, bytes: &[u8]) -> Result<u32, NoMemory>
 }
 
 /// Reads what follows the Per-Peer Header in a Statistics Report (RFC 7854, section 4.8), all of the
-/// bytes. `EventFault::Broken` exactly where they aren't a count and as many TLVs. A TLV whose type has
+/// bytes. `BodyFault::Broken` exactly where they aren't a count and as many TLVs. A TLV whose type has
 /// no row in `statistic_table`, or whose length isn't that of its row, is passed over. Time and memory
 /// are linear in the bytes.
-pub fn read_statistics(alloc: Global, rest: &[u8]) -> Result<Statistics, EventFault>
+pub fn read_statistics(alloc: Global, rest: &[u8]) -> Result<Statistics, BodyFault>
     requires { length rest.now ≤ most_body }
     ensures ok { IfOk result (λ s. IsStatistics rest.now s) }
-    ensures broken { IsErrOf result EventFault.Broken → (s : StatisticsValue) → IsStatistics rest.now s → ⊥ }
+    ensures broken { IsErrOf result BodyFault.Broken → (s : StatisticsValue) → IsStatistics rest.now s → ⊥ }
 {
     if rest.len() < 4 {
-        return Err(EventFault::Broken);
+        return Err(BodyFault::Broken);
     }
     let tlvs = &rest[4..];
     if !are_tlvs(tlvs) {
-        return Err(EventFault::Broken);
+        return Err(BodyFault::Broken);
     }
     if count_tlvs(tlvs) != BigEndian::read_u32(rest) {
-        return Err(EventFault::Broken);
+        return Err(BodyFault::Broken);
     }
     let mut stats = StatList::new(alloc);
     let unread = add_stats(&mut stats, tlvs)?;

@@ -3,14 +3,13 @@ ghost use Rattle.bmp_specs.specs.AsPath.{as_width, IsAsNumber, AreAsNumbers, Are
 ghost use Rattle.bmp_specs.specs.Values.{SegmentValue};
 ghost use Rattle.as_path.specs.Reading.{HasHeader};
 
-use crate::faults::PathFault;
 use crate::numbers::Numbers;
 use crate::path::AsPath;
 use crate::segment::Segment;
 use bmp_specs::{SegmentKind, Width};
 use byteorder::{BigEndian, ByteOrder};
 use std::alloc::Global;
-use wire_io::NoMemory;
+use wire_io::{BodyFault, NoMemory};
 
 // "path segment type" (RFC 4271, section 4.3; RFC 5065, section 3).
 const AS_SET: u8 = 1;
@@ -106,15 +105,15 @@ fn numbers(alloc: Global, width: Width, count: usize, bytes: &[u8]) -> Result<Nu
 
 impl AsPath {
     /// Reads the value of an AS_PATH attribute (RFC 4271, section 4.3), or of AS4_PATH in four bytes
-    /// (RFC 6793, section 3). `PathFault::Broken` exactly where the bytes aren't a list of segments.
+    /// (RFC 6793, section 3). `BodyFault::Broken` exactly where the bytes aren't a list of segments.
     /// The segments are judged and counted first, by what `is_path` does, and then made. Time and memory are
     /// linear in the bytes, and all memory is taken with its final size.
-    pub fn read(alloc: Global, value: &[u8], width: Width) -> Result<AsPath, PathFault>
+    pub fn read(alloc: Global, value: &[u8], width: Width) -> Result<AsPath, BodyFault>
         ensures ok { IfOk result (λ path. ArePath width value.now path) }
-        ensures broken { IsErrOf result PathFault.Broken → (path : List SegmentValue) → ArePath width value.now path → ⊥ }
+        ensures broken { IsErrOf result BodyFault.Broken → (path : List SegmentValue) → ArePath width value.now path → ⊥ }
     {
         let Some(found) = segment_count(width, value) else {
-            return Err(PathFault::Broken);
+            return Err(BodyFault::Broken);
         };
         let mut segments = Vec::with_capacity(alloc, found)?;
         let mut rest = value;

@@ -6,11 +6,11 @@ ghost use Rattle.bmp_message.specs.State.{reading_state};
 ghost use Rattle.bmp_message.specs.Effects.{MeansNoEntry, TellsMeaning};
 ghost use Rattle.peer_events.specs.Body.{most_body};
 
-use crate::fault::EntryFault;
 use crate::reading::Reading;
 use crate::routes;
 use crate::types::{MessageType, PeerMessage};
 use bmp_frames::PeerHeader;
+use wire_io::BodyFault;
 
 impl Reading {
     // Whether the body is that of a Route Monitoring message (RFC 7854, section 4.6). Of a peer type that isn't known nothing
@@ -35,15 +35,15 @@ impl Reading {
     /// section 4.1): `Ok` exactly where `entry` gives its entry, want of memory aside, and then the same peers
     /// are up as after that.
     ///
-    /// `EntryFault::Broken` only where the body is none of its type while these peers are up. After a refusal
+    /// `BodyFault::Broken` only where the body is none of its type while these peers are up. After a refusal
     /// the same peers are up. Of a Route Monitoring message nothing is made, and it takes no memory; a message
     /// of another type costs what its entry does.
-    pub fn judge(&mut self, kind: u8, body: &[u8]) -> Result<(), EntryFault>
+    pub fn judge(&mut self, kind: u8, body: &[u8]) -> Result<(), BodyFault>
         requires { length body.now ≤ most_body }
         ensures ok { OnOk result ((entry : EntryValue) × IsMessageEntry (reading_state self.old) kind body.now entry (reading_state self.new)) }
-        ensures broken { IsErrOf result EntryFault.Broken → MeansNoEntry (IsMessageEntry (reading_state self.old) kind body.now) }
+        ensures broken { IsErrOf result BodyFault.Broken → MeansNoEntry (IsMessageEntry (reading_state self.old) kind body.now) }
         ensures unchanged { OnErr result (self.new ≡ self.old) }
-        ensures routes { kind ≡ 0 → IsErrOf result EntryFault.NoMemory → ⊥ }
+        ensures routes { kind ≡ 0 → IsErrOf result BodyFault.NoMemory → ⊥ }
     {
         let message = MessageType::of(kind);
         match message {
@@ -51,7 +51,7 @@ impl Reading {
                 if self.has_routes(body) {
                     Ok(())
                 } else {
-                    Err(EntryFault::Broken)
+                    Err(BodyFault::Broken)
                 }
             }
             _ => match self.effects(message, body) {

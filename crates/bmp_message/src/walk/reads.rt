@@ -7,9 +7,10 @@ ghost use Rattle.rib_model.specs.Entries.{entry_value};
 ghost use Rattle.bmp_message.specs.Effects.{MeansNoEntry};
 ghost use Rattle.bmp_message.specs.State.{reading_state};
 
-use crate::{EntryFault, Reading};
+use crate::Reading;
 use bmp_frames::COMMON_HEADER;
 use rib_model::Entry;
+use wire_io::BodyFault;
 
 /// What is wanted of a message that was cut.
 pub trait Reads {
@@ -23,12 +24,12 @@ pub trait Reads {
     ghost wants: { ℕ → Type 0 };
 
     /// Makes it of the message of this type with this body. After a refusal the same peers are up.
-    fn read(reading: &mut Reading, kind: u8, body: &[u8]) -> Result<Self::Item, EntryFault>
+    fn read(reading: &mut Reading, kind: u8, body: &[u8]) -> Result<Self::Item, BodyFault>
         requires { length body.now ≤ most_body }
         ensures ok { IfOk result (λ item. (entry : EntryValue) × is_of item entry × IsMessageEntry (reading_state reading.old) kind body.now entry (reading_state reading.new)) }
-        ensures broken { IsErrOf result EntryFault.Broken → MeansNoEntry (IsMessageEntry (reading_state reading.old) kind body.now) }
+        ensures broken { IsErrOf result BodyFault.Broken → MeansNoEntry (IsMessageEntry (reading_state reading.old) kind body.now) }
         ensures unchanged { OnErr result (reading.new ≡ reading.old) }
-        ensures wants { IsErrOf result EntryFault.NoMemory → wants kind };
+        ensures wants { IsErrOf result BodyFault.NoMemory → wants kind };
 }
 
 /// Entries are wanted.
@@ -41,7 +42,7 @@ impl Reads for Entries {
 
     ghost wants = { λ _. ⊤ };
 
-    fn read(reading: &mut Reading, kind: u8, body: &[u8]) -> Result<Entry, EntryFault> {
+    fn read(reading: &mut Reading, kind: u8, body: &[u8]) -> Result<Entry, BodyFault> {
         reading.entry(kind, body)
     }
 }
@@ -72,7 +73,7 @@ impl Reads for Judgements {
 
     ghost wants = { λ kind. kind ≢ 0 };
 
-    fn read(reading: &mut Reading, kind: u8, body: &[u8]) -> Result<Judged, EntryFault> {
+    fn read(reading: &mut Reading, kind: u8, body: &[u8]) -> Result<Judged, BodyFault> {
         match reading.judge(kind, body) {
             Ok(()) => Ok(Judged {
                 kind,

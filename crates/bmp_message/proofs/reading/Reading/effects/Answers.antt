@@ -6,7 +6,7 @@ use Rattle.bmp_specs.specs.Values.{MessageValue}
 use Rattle.rib_model.specs.Effects.{effect_values}
 use Rattle.bmp_message.specs.Effects.{HasEffects, MeansNothing}
 use Rattle.bmp_message.specs.State.{reading_state}
-use Rattle.bmp_message.specs.declared.fault.EntryFault.TheVariants.{Broken}
+use Rattle.wire_io.specs.declared.fault.BodyFault.TheVariants.{Broken}
 use Rattle.bmp_message.proofs.Meanings.{initiation_of, no_initiation, of_no_type, of_peer_type, termination_of}
 use Rattle.bmp_message.proofs.reading.Reading.effects.Goals as goal
 

@@ -4,7 +4,7 @@ use Rattle.bmp_specs.specs.Values.{EffectValue}
 use Rattle.bmp_specs.proofs.MessageViews.{IsMessage-views}
 use Rattle.std.proofs.lemmas.Result.{err_from_is_err_and}
 use Rattle.bmp_message.specs.State.{reading_state}
-use Rattle.bmp_message.proofs.Faults.{entry_broken}
+use Rattle.wire_io.proofs.Faults.{broken_below}
 use Rattle.bmp_message.proofs.Judging.{has_entry, no_entry_of, of_type}
 use Rattle.bmp_message.proofs.reading.Reading.entry.Goals as goal
 
@@ -14,7 +14,7 @@ returns-clause-ok c = has_entry (reading_state c.args.self.now) (reading_state c
 pub returns-in_err-effects-clause-broken : goal.returns-in_err-effects-clause-broken
 returns-in_err-effects-clause-broken c =
     let p = err_from_is_err_and c.from_residual.result c.from_residual.ensures.1 in
-    rw (p.1, p.2) (λ broken. no_entry_of (reading_state c.args.self.now) c.args.kind c.args.body.now _ c.of.ensures (c.in_err-effects.ensures.broken (entry_broken _ broken)))
+    rw (p.1, p.2) (λ broken. no_entry_of (reading_state c.args.self.now) c.args.kind c.args.body.now _ c.of.ensures (c.in_err-effects.ensures.broken (broken_below _ broken)))
 
 pub returns-clause-views : goal.returns-clause-views
 returns-clause-views c =

@@ -5,14 +5,14 @@ use Rattle.bmp_specs.specs.MessageBody.{with_peer}
 use Rattle.bmp_specs.specs.MessageEffects.{unread_effect}
 use Rattle.bmp_specs.specs.Values.{PeerInfoValue, PeerUpValue, peer_up, up}
 use Rattle.bmp_message.specs.State.{UpPeers, opens_of, reading_state}
-use Rattle.bmp_message.proofs.Faults.{event_broken}
+use Rattle.wire_io.proofs.Faults.{broken_below}
 use Rattle.bmp_message.proofs.Peers.{state_after}
 use Rattle.bmp_message.proofs.reading.Reading.peer_up.Goals as goal
 
 pub returns-in_err-up-clause-broken : goal.returns-in_err-up-clause-broken
 returns-in_err-up-clause-broken c =
     let p = err_from_is_err_and c.from_residual.result c.from_residual.ensures.1 in
-    rw (p.1, p.2) (λ broken m next q. c.in_err-up.ensures.broken (event_broken _ broken) q.0 q.1)
+    rw (p.1, p.2) (λ broken m next q. c.in_err-up.ensures.broken (broken_below _ broken) q.0 q.1)
 
 pub returns-clause-ok : goal.returns-clause-ok
 returns-clause-ok c =

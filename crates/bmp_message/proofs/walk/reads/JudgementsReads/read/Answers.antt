@@ -1,5 +1,5 @@
-use Rattle.bmp_message.proofs.Faults.{entry_broken}
+use Rattle.wire_io.proofs.Faults.{broken_below}
 use Rattle.bmp_message.proofs.walk.reads.JudgementsReads.read.Goals as goal
 
 pub returns-in-Err-clause-broken : goal.returns-in-Err-clause-broken
-returns-in-Err-clause-broken c broken = c.in-Err.ensures.broken (entry_broken c.in-Err.fault broken)
+returns-in-Err-clause-broken c broken = c.in-Err.ensures.broken (broken_below c.in-Err.fault broken)
