@@ -101,8 +101,8 @@ pub record Reads (old new : Aside) (result : Result ℕ Failed) (buf : List ℕ)
   pub calm : new.open_faults ≡ old.open_faults
   pub laid : new.laid ≡ old.laid
 
--- what closing the present connection does: it is counted, what the connection has left is no more of interest, and all else
--- stays
+-- what closing the present connection does: it is counted, what the connection has left is no more of interest, and all
+-- else stays
 pub record Closes (old new : Aside) : Type 0 where
   pub same : new ≡ record old { rest = new.rest; closed = one_more old.closed; is_open = false }
 

@@ -28,8 +28,8 @@ abbrev pub IsReply : Command → List EntryValue → List ℕ → Type 0
 IsReply (ReplayTable select) entries bytes = query.IsReply (table select) (entries ∷ []) bytes
 IsReply Check entries bytes = bytes ≡ check_lines entries
 
--- The yard, whose plan doesn't fail the call of this number, handed out the first port that waits under the number 0, and
--- took it back: what it showed then stands in this relation to its plan.
+-- The yard, whose plan doesn't fail the call of this number, handed out the first port that waits under the number 0,
+-- and took it back: what it showed then stands in this relation to its plan.
 pub record Lends (Is : Plan → Aside → Type 0) (old : YardValue) (new : Option YardValue) (number : ℕ) : Type 0 where
   pub planned : Contains old.fails number → ⊥
   pub plan : Plan
@@ -94,8 +94,8 @@ pub record AnswersFault (before now : ℕ) (status fault : Status) : Type 0 wher
   pub rose : status ≡ fault → Rose before now
   pub calm : status ≢ fault → now ≡ before
 
--- What the yard and its port came to: how the input was taken, with what the account then stands for, or the status that says
--- why it was not.
+-- What the yard and its port came to: how the input was taken, with what the account then stands for, or the status that
+-- says why it was not.
 pub record IsTaken (meaning : Meaning) (Stands : List EntryValue → Type 0) (old new : Option YardValue) (number : ℕ) (taken : Taken) : Type 0 where
   pub input : Given
   pub messages : List EntryValue

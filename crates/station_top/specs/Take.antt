@@ -97,8 +97,8 @@ first_of (bytes ∷ more) = bytes
 -- that connection alone: they are those of its first 2^46 bytes, and then its end. So many reads gave these bytes; a
 -- failed read is the one after them, and the first that the plan fails. A fault of an opening is counted exactly where no
 -- connection was given, nor was it answered that there is none; a fault of a read, exactly where one of its reads failed.
--- The connection that was given was closed once, and after its last read, since a port is read only while its connection is
--- open. It was answered that there is none only where the plan has none.
+-- The connection that was given was closed once, and after its last read, since a port is read only while its
+-- connection is open. It was answered that there is none only where the plan has none.
 pub record Comes (meaning : Meaning) (plan : Plan) (shows : Aside) (input : Given) (messages : List EntryValue) (cause : Cause) : Type 0 where
   pub shown : shows.plan ≡ Some plan
   pub given : List Given
@@ -123,8 +123,8 @@ pub record Comes (meaning : Meaning) (plan : Plan) (shows : Aside) (input : Give
   pub reading : ((0 < length given) × (input.last ≡ failed)) ↔ 0 < shows.read_faults
 
 -- Of the plan's first connection this front was given, by so many reads, and it was read no further than its walk goes. No
--- call failed, and no read told the end. The connection was closed once, after its last read, and no further one was asked
--- for.
+-- call failed, and no read told the end. The connection was closed once, after its last read, and no further one was
+-- asked for.
 pub record HasBegun (meaning : Meaning) (plan : Plan) (shows : Aside) : Type 0 where
   pub shown : shows.plan ≡ Some plan
   pub bytes : List ℕ

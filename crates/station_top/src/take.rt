@@ -29,9 +29,9 @@ pub struct Taken {
     pub revision: u64,
 }
 
-// Takes the one input connection of a port, and closes it. Where there is none it is an empty one. The account takes its
-// opening and its messages. After want of memory the port shows what it gave until then: a front of its first connection,
-// or nothing.
+// Takes the one input connection of a port, and closes it. Where there is none it is an empty one. The account takes
+// its opening and its messages. After want of memory the port shows what it gave until then: a front of its first
+// connection, or nothing.
 pub fn take_input<P: Port, A: Account>(
     alloc: Global,
     port: &mut P,
