@@ -102,11 +102,7 @@ pub(crate) fn peer_up(
 }
 
 // The effects of a Statistics Report (RFC 7854, section 4.8) of a peer that is up.
-pub(crate) fn statistics(
-    alloc: Global,
-    key: &PeerKey,
-    rest: &[u8],
-) -> Result<EffectList, BodyFault>
+pub(crate) fn statistics(alloc: Global, key: &PeerKey, rest: &[u8]) -> Result<EffectList, BodyFault>
     requires { length rest.now ≤ most_body }
     ensures ok { IfOk result (λ effects. (s : StatisticsValue) × IsStatistics rest.now s × (effect_values effects ≡ effects_of (counted key.now s))) }
     ensures broken { IsErrOf result BodyFault.Broken → (s : StatisticsValue) → IsStatistics rest.now s → ⊥ }

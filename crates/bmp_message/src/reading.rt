@@ -63,12 +63,7 @@ impl Reading {
     }
 
     // Route Monitoring (RFC 7854, section 4.6). Where the peer isn't up nothing of it is read.
-    fn routes(
-        &self,
-        head: &PeerHeader,
-        key: &PeerKey,
-        rest: &[u8],
-    ) -> Result<EffectList, BodyFault>
+    fn routes(&self, head: &PeerHeader, key: &PeerKey, rest: &[u8]) -> Result<EffectList, BodyFault>
         requires { length rest.now ≤ most_body }
         ensures ok { IfOk result (λ effects. HasEffects (OfPeer route_monitoring (reading_state self.now) head.now key.now rest.now) (effect_values effects) (reading_state self.now)) }
         ensures broken { IsErrOf result BodyFault.Broken → MeansNothing (OfPeer route_monitoring (reading_state self.now) head.now key.now rest.now) }

@@ -8,8 +8,8 @@ use rib_model::{Effect, Entry, Route};
 use std::alloc::Global;
 use std::process::Abort;
 use std::test::Fail;
-use wire_tables::Stat;
 use wire_io::BodyFault;
+use wire_tables::Stat;
 
 // The Per-Peer Headers of a Global, an RD and a Loc-RIB Instance Peer, and of a peer type that isn't known.
 const GLOBAL: &str =

@@ -22,4 +22,4 @@ pub use bmp_specs::{Family, View, Why};
 pub use order::row_key_order;
 pub use stream::{End, Meaning, Walked, walk};
 pub use table::{row_at, rows};
-pub use values::{Address, Effect, Peer, RowKey, Route, Row};
+pub use values::{Address, Effect, Peer, Route, Row, RowKey};

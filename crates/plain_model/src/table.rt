@@ -8,7 +8,7 @@ ghost use Rattle.plain_model.specs.Rows.{IsRowAt, LeaveRow, KeepsUp, row_keys_of
 ghost use Rattle.plain_model.specs.Values.{key_value, row_key_value, row_value, effect_value};
 
 use crate::order::{is_same_peer, is_same_row_key, row_key_order};
-use crate::values::{Effect, Peer, RowKey, Row};
+use crate::values::{Effect, Peer, Row, RowKey};
 use std::alloc::{AllocError, Global};
 use std::cmp::Ordering;
 

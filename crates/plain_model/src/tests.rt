@@ -1,7 +1,7 @@
 ghost use Rattle.std.specs.Prelude.{◌≡◌, ◌≢◌, ◌==◌, length, if◌then◌else◌};
 
 use crate::{
-    Address, Effect, End, Family, Meaning, Peer, RowKey, Route, Row, View, Why, rows, walk,
+    Address, Effect, End, Family, Meaning, Peer, Route, Row, RowKey, View, Why, rows, walk,
 };
 use std::alloc::{AllocError, Global};
 use std::process::Abort;

@@ -2,13 +2,12 @@ ghost use Rattle.std.specs.Prelude.{◌≡◌, ◌+◌, ◌≤◌};
 ghost use Rattle.std.specs.Option.{option_map};
 ghost use Rattle.prefix_trie.specs.Cursor.{shown};
 ghost use Rattle.prefix_trie.specs.Longest.{IsLongest};
-ghost use Rattle.bmp_specs.specs.Prefix.{width_of};
 
 use crate::bits::shared_bits;
 use crate::looks::Looks;
 use crate::steps::Steps;
 use crate::trie::Trie;
-use ip_prefix::{Addr, Family, Prefix};
+use ip_prefix::{Addr, Prefix, width};
 use std::sync::ledger::Ledger;
 
 impl<T: Drop> Trie<T> {
@@ -50,15 +49,5 @@ fn longest_by_looks<'a, T: Drop, L: Ledger>(
             return Some(found);
         }
         bits = shared;
-    }
-}
-
-// How many bits an address of the family has.
-fn width(family: Family) -> u8
-    ensures { result ≡ width_of family }
-{
-    match family {
-        Family::V4 => 32,
-        Family::V6 => 128,
     }
 }

@@ -108,12 +108,7 @@ fn put_fields<O: Sink>(out: &mut O, row: &RowKey, attrs: &Attrs) -> Result<(), F
 /// Writes the line of a route of this lane: its peer, the RIB that it was seen in, its prefix, its path
 /// attributes (RFC 4271, section 5) and its path identifier where it has one (RFC 7911, section 3). Where
 /// a write fails, a front of the line was written.
-pub fn put_route<O: Sink>(
-    out: &mut O,
-    lane: u32,
-    row: &RowKey,
-    attrs: &Attrs,
-) -> Result<(), Failed>
+pub fn put_route<O: Sink>(out: &mut O, lane: u32, row: &RowKey, attrs: &Attrs) -> Result<(), Failed>
     ensures { Writes O.faults O.told O.aside out.old (route_line lane (record { row_key = row.now; route = attrs.now })) result out.new }
 {
     put_number(out, b"route ", lane)?;

@@ -1,14 +1,22 @@
-ghost use Rattle.std.specs.Prelude.{◌≡◌, ◌+◌, ◌-◌, ◌^◌, [], ◌++◌, List, ℕ, codes, OnOk};
+ghost use Rattle.std.specs.Prelude.{◌≡◌, ◌≤◌, ◌+◌, ◌-◌, ◌^◌, [], ◌++◌, List, ℕ, codes, OnOk, Some};
+ghost use Rattle.std.specs.Option.{option_map};
 ghost use Rattle.bmp_specs.specs.Lines.{number_line};
+ghost use Rattle.bmp_specs.specs.Registries.{first_row, message_types};
 ghost use Rattle.bmp_specs.specs.Values.{EntryValue};
 ghost use Rattle.wire_io.specs.Writes.{Writes};
+ghost use Rattle.wire_tables.specs.Table.{row_values};
 ghost use Rattle.station_top.specs.Check.{AreCounts, counted, counts_more, number_lines};
 
 use crate::account::Account;
+use bmp_frames::{
+    INITIATION, PEER_DOWN, PEER_UP, ROUTE_MIRRORING, ROUTE_MONITORING, STATISTICS_REPORT,
+    TERMINATION,
+};
 use bmp_message::{Judged, Judgements};
 use itoa::Buffer;
 use rib_model::Entry;
 use wire_io::{Failed, NoMemory, Sink, write_pieces};
+use wire_tables::{CodeTable, message_table};
 
 /// The counts of `check`: the messages, their bytes, and how many are of each type (RFC 7854, section
 /// 4.1). Each stops at the greatest number of 64 bits.
@@ -51,20 +59,21 @@ impl Counts {
     {
         self.messages = self.messages.saturating_add(1);
         self.bytes = self.bytes.saturating_add(length as u64);
-        self.route_monitoring = add_where(self.route_monitoring, kind == 0);
-        self.statistics_report = add_where(self.statistics_report, kind == 1);
-        self.peer_down = add_where(self.peer_down, kind == 2);
-        self.peer_up = add_where(self.peer_up, kind == 3);
-        self.initiation = add_where(self.initiation, kind == 4);
-        self.termination = add_where(self.termination, kind == 5);
-        self.route_mirroring = add_where(self.route_mirroring, kind == 6);
-        self.other = add_where(self.other, 6 < kind);
+        self.route_monitoring = add_where(self.route_monitoring, kind == ROUTE_MONITORING);
+        self.statistics_report = add_where(self.statistics_report, kind == STATISTICS_REPORT);
+        self.peer_down = add_where(self.peer_down, kind == PEER_DOWN);
+        self.peer_up = add_where(self.peer_up, kind == PEER_UP);
+        self.initiation = add_where(self.initiation, kind == INITIATION);
+        self.termination = add_where(self.termination, kind == TERMINATION);
+        self.route_mirroring = add_where(self.route_mirroring, kind == ROUTE_MIRRORING);
+        self.other = add_where(self.other, ROUTE_MIRRORING < kind);
     }
 }
 
 impl Account for Counts {
     ghost use Rattle.bmp_specs.specs.Check.{check_lines};
     ghost use Rattle.std.specs.Prelude.{◌≡◌};
+    ghost use Rattle.wire_tables.specs.Table.{row_values};
     ghost use Rattle.station_top.specs.Check.{AreCounts, lines_of};
 
     // all ten counts are told
@@ -93,21 +102,34 @@ impl Account for Counts {
 
     fn put_reply<O: Sink>(&self, out: &mut O, _ask: &(), revision: u64) -> Result<(), Failed> {
         let _ = revision;
+        let types = message_table();
         put_numbers(
             out,
             &[
                 (b"messages", self.messages),
                 (b"bytes", self.bytes),
-                (b"route-monitoring", self.route_monitoring),
-                (b"statistics-report", self.statistics_report),
-                (b"peer-down", self.peer_down),
-                (b"peer-up", self.peer_up),
-                (b"initiation", self.initiation),
-                (b"termination", self.termination),
-                (b"route-mirroring", self.route_mirroring),
+                (name_of(&types, ROUTE_MONITORING), self.route_monitoring),
+                (name_of(&types, STATISTICS_REPORT), self.statistics_report),
+                (name_of(&types, PEER_DOWN), self.peer_down),
+                (name_of(&types, PEER_UP), self.peer_up),
+                (name_of(&types, INITIATION), self.initiation),
+                (name_of(&types, TERMINATION), self.termination),
+                (name_of(&types, ROUTE_MIRRORING), self.route_mirroring),
                 (b"other", self.other),
             ],
         )
+    }
+}
+
+// The name of a message type that is known (RFC 7854, section 4.1).
+fn name_of(types: &CodeTable<7>, kind: u8) -> &[u8]
+    requires rows { row_values types.now.rows ≡ message_types }
+    requires known { kind ≤ 6 }
+    ensures { Some result.now ≡ option_map (λ row. row.name) (first_row kind message_types) }
+{
+    match types.name(kind as u16) {
+        Some(name) => name.as_bytes(),
+        None => unreachable!(),
     }
 }
 
