@@ -1,9 +1,10 @@
 //! The registries of BMP and BGP that the station knows.
 //!
 //! A table has a row for each code: the code, the shape of the value behind it, and the name that
-//! replies have for it. Readers take lengths from a table and replies take names, so no other page
-//! has a list of codes. The rows are those of RFC 7854, RFC 8671, RFC 9069, RFC 4271, RFC 4760,
-//! RFC 6793, RFC 7911 and RFC 1997, each cited above its table in `bmp_specs`, `specs/Registries.antt`.
+//! replies have for it. Replies take names from a table, and the reader of statistics the shapes of
+//! their values. The codes that a reader tells apart stand with the reader. The rows are those of
+//! RFC 7854, RFC 8671, RFC 9069, RFC 4271, RFC 4760, RFC 6793, RFC 7911 and RFC 1997, each cited above
+//! its table in `bmp_specs`, `specs/Registries.antt`.
 //!
 //! Proved: each table has exactly the rows of that file, and `CodeTable::find` and `CodeTable::name`
 //! answer from the first row with the code, for a table of any length, and `None` exactly where no
