@@ -1,7 +1,7 @@
 -- The first pair that passes a test and those behind it, in a list of pairs in the order of their keys.
 use Rattle.std.proofs.Common.{◌≡◌, ◌++◌, IsNone, option_to_list, rules, inl, inr, Bool, true, false, cond, not, List, [], ◌∷◌, Option, None, Some, refl, ap, sym, ◌∙◌, subst}
 use Rattle.std.specs.declared.cmp.Ordering.{Ordering}
-use Rattle.std.specs.declared.cmp.Ordering.TheVariants.{Less, Equal}
+use Rattle.std.specs.declared.cmp.Ordering.TheVariants.{Less}
 use Rattle.std.specs.Ordering.{is_lt, is_eq}
 use Rattle.std.specs.Cmp.{IsTotalOrder}
 use Rattle.std.specs.BTreeMap.{is_at}
@@ -13,7 +13,7 @@ use Rattle.route_runs.specs.Override.{value_at}
 use Rattle.route_runs.specs.Places.{is_after, is_from, IsFirst, IsFirstPair}
 use Rattle.route_runs.specs.Cursor.{Walking, moved}
 use Rattle.route_runs.specs.Walk.{left}
-use Rattle.route_runs.proofs.Merging.{Below, Rising, rising_head, rising_tail, none_below}
+use Rattle.route_runs.proofs.Merging.{Below, Rising, rising_head, rising_tail}
 use Rattle.route_runs.proofs.Searching.{bools, not_both, less_is, itself, turned_is, after_trans}
 
 some_one : {X : Type 0} (x y : X) → Some x ≡ Some y → x ≡ y

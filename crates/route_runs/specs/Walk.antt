@@ -1,5 +1,5 @@
 -- The pairs of a table from a place on.
-use Rattle.std.specs.Prelude.{Bool, List, Option, None, Some}
+use Rattle.std.specs.Prelude.{List, Option, None, Some}
 use Rattle.std.specs.declared.cmp.Ordering.{Ordering}
 use Rattle.std.specs.List.{filter}
 use Rattle.bmp_specs.specs.Orders.{nlri_cmp}

@@ -15,15 +15,15 @@ use std::cmp::Ordering;
 use std::sync::Arc;
 
 /// The set that a handle names.
-pub(crate) fn set_of<A>(packs: &[Arc<Pack<A>>], val: u32) -> Option<&Arc<A>>
-    requires { IsHandle (sets_of packs.now) val }
-    ensures { option_map shared result ≡ set_at (sets_of packs.now) val }
+pub(crate) fn set_of<A>(packs: &[Arc<Pack<A>>], handle: u32) -> Option<&Arc<A>>
+    requires { IsHandle (sets_of packs.now) handle }
+    ensures { option_map shared result ≡ set_at (sets_of packs.now) handle }
 {
-    if val == GONE {
+    if handle == GONE {
         return None;
     }
-    let pack = packs[(val / 4096) as usize].as_slice();
-    Some(&pack[(val % 4096) as usize])
+    let pack = packs[(handle / 4096) as usize].as_slice();
+    Some(&pack[(handle % 4096) as usize])
 }
 
 // Where the keys after a place begin.

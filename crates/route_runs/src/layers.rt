@@ -84,11 +84,11 @@ fn gather_all<K: RunKey, A: Drop>(
 ) -> Result<Run<K, A>, NoMemory>
     ensures { IfOk result (λ own. IsGathered K.cmp runs.now run own 0) }
 {
-    let mut own = run;
+    let mut all = run;
     let mut kept = runs.len();
     while kept > 0 {
-        own = merge_tidy(alloc, &runs[kept - 1], &own, false)?;
+        all = merge_tidy(alloc, &runs[kept - 1], &all, false)?;
         kept -= 1;
     }
-    Ok(own)
+    Ok(all)
 }

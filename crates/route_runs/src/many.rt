@@ -23,10 +23,10 @@ fn in_order<K: RunKey>(keys: Vec<K>) -> Vec<K>
 }
 
 // So many times one handle.
-fn repeated(alloc: Global, val: u32, times: usize) -> Result<Vec<u32>, NoMemory>
-    ensures { IfOk result (λ list. list.items ≡ replicate times val) }
+fn repeated(alloc: Global, handle: u32, times: usize) -> Result<Vec<u32>, NoMemory>
+    ensures { IfOk result (λ list. list.items ≡ replicate times handle) }
 {
-    match vec![in alloc; val; times] {
+    match vec![in alloc; handle; times] {
         Ok(list) => Ok(list),
         Err(_) => Err(NoMemory),
     }
@@ -46,12 +46,12 @@ impl<K: RunKey, A: Drop> Run<K, A> {
             packs: Vec::new(alloc),
             now: Vec::new(alloc),
         };
-        let val = added(&mut out, alloc, set)?;
+        let handle = added(&mut out, alloc, set)?;
         turn(&mut out, alloc)?;
         if out.packs.len() >= 1_048_576 {
             return Err(NoMemory);
         }
-        let handles = repeated(alloc, val, keys.len())?;
+        let handles = repeated(alloc, handle, keys.len())?;
         Ok(Run {
             keys,
             handles,

@@ -80,9 +80,9 @@ impl<K: RunKey, A: Drop> Runs<K, A> {
     }
 }
 
-// Whether there are many more packs than the rows need.
+// Whether there are many more packs than the rows need: room for more than two sets a row, and 64 packs.
 fn is_loose<K: RunKey, A>(run: &Run<K, A>) -> bool {
-    run.packs.len() > 64 + run.keys.len() / 1024
+    run.packs.len() > 64 + run.keys.len() / 2048
 }
 
 /// Two runs merged, with few packs.

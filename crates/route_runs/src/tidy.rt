@@ -84,12 +84,12 @@ fn renamed<A: Drop>(
     out: &mut Gathered<A>,
     alloc: Global,
     packs: &[Arc<Pack<A>>],
-    val: u32,
+    given: u32,
 ) -> Result<u32, NoMemory>
-    requires { IsHandle (sets_of packs.now) val }
-    ensures { IfOk result (Adds (gathered out.old.packs.items out.old.now.items) (gathered out.new.packs.items out.new.now.items) (set_at (sets_of packs.now) val)) }
+    requires { IsHandle (sets_of packs.now) given }
+    ensures { IfOk result (Adds (gathered out.old.packs.items out.old.now.items) (gathered out.new.packs.items out.new.now.items) (set_at (sets_of packs.now) given)) }
 {
-    match set_of(packs, val) {
+    match set_of(packs, given) {
         None => Ok(GONE),
         Some(set) => match Arc::try_clone(set) {
             Ok(set) => add(out, alloc, set),
@@ -103,19 +103,19 @@ fn next_handle<A: Drop>(
     out: &mut Gathered<A>,
     alloc: Global,
     packs: &[Arc<Pack<A>>],
-    val: u32,
+    given: u32,
     last: u32,
     handle: u32,
 ) -> Result<u32, NoMemory>
-    requires val { IsHandle (sets_of packs.now) val }
+    requires given { IsHandle (sets_of packs.now) given }
     requires handle { IsHandle (gathered out.old.packs.items out.old.now.items) handle }
     requires same { set_at (gathered out.old.packs.items out.old.now.items) handle ≡ set_at (sets_of packs.now) last }
-    ensures { IfOk result (Adds (gathered out.old.packs.items out.old.now.items) (gathered out.new.packs.items out.new.now.items) (set_at (sets_of packs.now) val)) }
+    ensures { IfOk result (Adds (gathered out.old.packs.items out.old.now.items) (gathered out.new.packs.items out.new.now.items) (set_at (sets_of packs.now) given)) }
 {
-    if val == last {
+    if given == last {
         return Ok(handle);
     }
-    renamed(out, alloc, packs, val)
+    renamed(out, alloc, packs, given)
 }
 
 // New handles for what handles name. Neighbours that are the same keep one handle.
@@ -134,9 +134,9 @@ fn all_renamed<A: Drop>(
     let mut last = GONE;
     let mut handle = GONE;
     for at in 0..handles.len() {
-        let val = handles[at];
-        handle = next_handle(out, alloc, packs, val, last, handle)?;
-        last = val;
+        let given = handles[at];
+        handle = next_handle(out, alloc, packs, given, last, handle)?;
+        last = given;
         if copy.push(handle).is_err() {
             return Err(NoMemory);
         }

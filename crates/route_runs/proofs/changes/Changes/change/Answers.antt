@@ -3,7 +3,7 @@ use Rattle.std.proofs.lemmas.Result.{on_ok_weaker}
 use Rattle.std.specs.Arc.{arc_value}
 use Rattle.std.specs.Option.{option_map}
 use Rattle.bmp_specs.specs.Orders.{nlri_cmp}
-use Rattle.route_runs.specs.Layers.{AreChangedTo, IsLayered}
+use Rattle.route_runs.specs.Layers.{IsLayered}
 use Rattle.route_runs.specs.Message.{IsAllSet}
 use Rattle.route_runs.proofs.Contents.{all_changed}
 use Rattle.route_runs.proofs.changes.Changes.change.Goals as goal

@@ -1,5 +1,4 @@
 use Rattle.std.proofs.Common.{◌≡◌, ◌∙◌, ◌+◌, [], length, min, ap, sym, arith}
-use Rattle.std.proofs.Common.{subst}
 use Rattle.route_runs.proofs.Left.{none_by_test}
 use Rattle.route_runs.proofs.table.RouteTable.count.Goals as goal
 
