@@ -1,13 +1,11 @@
 -- New handles for the same sets.
 use Rattle.std.proofs.Common.{◌≡◌, ℕ, zero, suc, ◌+◌, ◌*◌, ◌/◌, ◌%◌, ◌<◌, inl, inr, false, nat_eq, if◌then◌else◌, List, [], ◌∷◌, ◌++◌, length, get_or, map, Option, None, Some, refl, ap, sym, ◌∙◌, subst, length-append, arith}
 use Rattle.std.specs.List.{AllByRecursion, slice_get}
-use Rattle.std.specs.List.Sorted.{IsStrictlySortedBy}
-use Rattle.std.specs.declared.cmp.Ordering.{Ordering}
 use Rattle.std.proofs.lemmas.Bool.{cases_lt}
 use Rattle.std.proofs.lemmas.Bool.Decides.{nat_tests}
 use Rattle.std.proofs.lemmas.List.{get_or_append_left, get_or_at, map-append, length-map}
 use Rattle.std.proofs.lemmas.Nat.{div-mul-add, mod-mul-add}
-use Rattle.route_runs.specs.Rows.{gone, set_at, rows, NamesSet, IsHandle, IsRun}
+use Rattle.route_runs.specs.Rows.{gone, set_at, rows, NamesSet, IsHandle}
 use Rattle.route_runs.specs.Gathering.{Keeps, Adds, IsRenamed}
 use Rattle.route_runs.proofs.Handles.{handle_front, set_front, set_gone}
 
@@ -116,8 +114,3 @@ rows_renamed old new (k ∷ ks) (v ∷ vs) (w ∷ ws) e =
 
 pub length_renamed : {A : Type 0} (old new : List (List A)) (vs ws : List ℕ) → map (set_at new) ws ≡ map (set_at old) vs → length ws ≡ length vs
 length_renamed old new vs ws e = sym (length-map ws (set_at new)) ∙ ap length e ∙ length-map vs (set_at old)
-
--- a run of one row
-pub one_run : {K A : Type 0} (cmp : K → K → Ordering) (packs : List (List A)) (k : K) (v : ℕ) → IsHandle packs v → length packs < 1048576 → IsRun cmp packs (k ∷ []) (v ∷ [])
-unfolding IsStrictlySortedBy
-one_run cmp packs k v h few = record { even = refl; ordered = (tt, tt); handles = (h, tt); few = few }

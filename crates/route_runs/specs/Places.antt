@@ -14,11 +14,6 @@ abbrev pub is_after : {K : Type 0} → (K → K → Ordering) → Option K → K
 is_after cmp None q = true
 is_after cmp (Some place) q = is_lt (cmp place q)
 
--- a place behind a reference
-abbrev pub place_of : {K : Type 0} → Option (Bor K) → Option K
-place_of None = None
-place_of (Some p) = Some p.now
-
 -- a pair of a key and what a reference to its set points to
 abbrev pub shown : {K A : Type 0} → K × Bor (Arc A Global) → K × A
 shown p = (p.0, shared p.1)
@@ -32,10 +27,6 @@ pub record IsFirstPair {K A : Type 0} (cmp : K → K → Ordering) (test : K →
 -- the first pair whose key passes, or that there is none
 abbrev pub IsFirst : {K A : Type 0} → (K → K → Ordering) → (K → Bool) → (K → Option A) → Option (K × A) → Type 0
 IsFirst {K} cmp test value found = MatchOption found ((q : K) → test q ≡ true → value q ≡ None) (IsFirstPair cmp test value)
-
--- the order turned round: what comes first in it comes last, and what is after a place is before it
-abbrev pub turned : {K : Type 0} → (K → K → Ordering) → K → K → Ordering
-turned cmp x y = cmp y x
 
 -- whether a key is a place or after it
 abbrev pub is_from : {K : Type 0} → (K → K → Ordering) → K → K → Bool
@@ -74,9 +65,3 @@ lesser_of cmp (Some a) (Some b) = if is_lt (cmp b a) then Some b else Some a
 pub record IsPassed {K A : Type 0} (cmp : K → K → Ordering) (value : K → Option (Option A)) (place at : Option K) : Type 0 where
   pub passed : (q : K) → is_after cmp place q ≡ true → is_after cmp at q ≡ false → seen (value q) ≡ None
   pub further : (q : K) → is_after cmp at q ≡ true → is_after cmp place q ≡ true
-
--- the keys below a number are those before the place
-pub record IsBeforePoint {K : Type 0} (cmp : K → K → Ordering) (place : Option K) (ks : List K) (n : ℕ) : Type 0 where
-  pub within : n ≤ length ks
-  pub before : (k : ℕ) (d : K) → k < n → is_after (turned cmp) place (slice_index_or ks k d) ≡ true
-  pub behind : (k : ℕ) (d : K) → n ≤ k → k < length ks → is_after (turned cmp) place (slice_index_or ks k d) ≡ false

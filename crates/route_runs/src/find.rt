@@ -6,7 +6,7 @@ ghost use Rattle.std.specs.Option.{option_map};
 ghost use Rattle.route_runs.specs.Override.{value_at};
 ghost use Rattle.route_runs.specs.Rows.{sets_of, set_at, IsHandle};
 ghost use Rattle.route_runs.specs.Runs.{latest, seen, shared};
-ghost use Rattle.route_runs.specs.Places.{shown, place_of, is_after, is_from, turned, IsBeforePoint, IsAfterPoint, IsFirst, IsNext, has_key, has_latest, lesser_of};
+ghost use Rattle.route_runs.specs.Places.{shown, is_after, is_from, IsAfterPoint, IsFirst, IsNext, has_key, has_latest, lesser_of};
 
 use crate::key::RunKey;
 use crate::run::{GONE, Pack, Run};
