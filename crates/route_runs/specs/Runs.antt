@@ -43,6 +43,10 @@ pub record IsChanged {K A : Type 0} (cmp : K → K → Ordering) (old : List (K 
   pub ordered : IsStrictlySortedBy cmp (keys_of new)
   pub values : (q : K) → value_at cmp q new ≡ changed (value_at cmp q run) (value_at cmp q old)
 
+-- what a reference to a shared set points to
+abbrev pub shared : {A : Type 0} → Bor (Arc A Global) → A
+shared r = arc_value r.now
+
 -- ---- inside
 -- what the latest run that has a key says of it
 abbrev pub latest : {K A : Type 0} → (K → K → Ordering) → K → List (List (K × Option A)) → Option (Option A)
@@ -58,7 +62,3 @@ seen (Some o) = o
 pub record IsSettled {K A : Type 0} (cmp : K → K → Ordering) (runs : List (List (K × Option A))) (run : List (K × Option A)) (own : List (K × Option A)) (kept : ℕ) : Type 0 where
   pub within : kept ≤ length runs
   pub same : (q : K) → seen (or_else (value_at cmp q own) (latest cmp q (take kept runs))) ≡ seen (or_else (value_at cmp q run) (latest cmp q runs))
-
--- what a reference to a shared set points to
-abbrev pub shared : {A : Type 0} → Bor (Arc A Global) → A
-shared r = arc_value r.now
