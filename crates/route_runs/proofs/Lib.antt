@@ -1,0 +1,10 @@
+pub mod Merging
+pub mod Weaving
+pub mod Handles
+pub mod Overriding
+pub mod Contents
+pub mod Searching
+pub mod Renaming
+pub mod OneSet
+pub mod Hints
+pub mod Left

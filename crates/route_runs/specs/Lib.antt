@@ -1,0 +1,10 @@
+pub mod Rows
+pub mod Override
+pub mod Weave
+pub mod Runs
+pub mod Places
+pub mod Gathering
+pub mod Message
+pub mod Cursor
+pub mod Layers
+pub mod Walk

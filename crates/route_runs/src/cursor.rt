@@ -1,0 +1,286 @@
+ghost use Rattle.std.specs.Prelude.{◌≡◌, ◌≤◌, true, length, map, Some};
+ghost use Rattle.std.specs.Arc.{arc_value};
+ghost use Rattle.std.specs.List.Sorted.{IsStrictlySortedBy};
+ghost use Rattle.std.specs.Map.{keys_of};
+ghost use Rattle.std.specs.Option.{option_map};
+ghost use Rattle.std.specs.Ordering.{is_lt, is_eq};
+ghost use Rattle.route_runs.specs.Override.{value_at};
+ghost use Rattle.route_runs.specs.Runs.{latest, seen, shared};
+ghost use Rattle.route_runs.specs.Places.{shown, is_after, is_from, IsAfterPoint, IsFirst, IsNext, has_key, has_latest};
+ghost use Rattle.route_runs.specs.Cursor.{moved, AreBefore, AreBehind};
+
+use crate::find::{after_place, lesser, set_of};
+use crate::key::RunKey;
+use crate::run::Run;
+use crate::runs::Runs;
+use std::cmp::Ordering;
+use std::marker::Model;
+use std::sync::Arc;
+
+// How many runs a walk keeps its place in.
+const KEPT: usize = 40;
+
+/// A walk over the pairs of a table in key order. It keeps its place in each run, as a hint: a wrong one costs
+/// a search.
+#[derive(Drop)]
+pub(crate) struct Cursor<'a, K: RunKey, A> {
+    runs: &'a Runs<K, A>,
+    place: Option<K>,
+    hints: [usize; 40],
+}
+
+impl<'a, K: RunKey, A> Model for Cursor<'a, K, A> {
+    ghost use Rattle.route_runs.specs.Cursor.{Walking};
+
+    ghost Value = { Walking K A };
+
+    ghost view = { λ w. record { pairs = w.runs.now; place = w.place } };
+}
+
+// Whether a key is before another one.
+fn is_less<K: RunKey>(a: &K, b: &K) -> bool
+    ensures { result ≡ is_lt (K.cmp a.now b.now) }
+{
+    match a.cmp(b) {
+        Ordering::Less => true,
+        _ => false,
+    }
+}
+
+// Whether two keys are the same.
+fn is_same<K: RunKey>(a: &K, b: &K) -> bool
+    ensures { result ≡ is_eq (K.cmp a.now b.now) }
+{
+    match a.cmp(b) {
+        Ordering::Equal => true,
+        _ => false,
+    }
+}
+
+// Whether the keys below a number are not after a place.
+fn are_before<K: RunKey>(keys: &[K], place: &K, at: usize) -> bool
+    requires sorted { IsStrictlySortedBy K.cmp keys.now }
+    requires within { at ≤ length keys.now }
+    ensures { result ≡ true → AreBefore K.cmp place.now keys.now at }
+{
+    if at == 0 {
+        return true;
+    }
+    !is_less(place, &keys[at - 1])
+}
+
+// Whether the keys from a number on are after a place.
+fn are_behind<K: RunKey>(keys: &[K], place: &K, at: usize) -> bool
+    requires sorted { IsStrictlySortedBy K.cmp keys.now }
+    requires within { at ≤ length keys.now }
+    ensures { result ≡ true → AreBehind K.cmp place.now keys.now at }
+{
+    if at == keys.len() {
+        return true;
+    }
+    is_less(place, &keys[at])
+}
+
+// Whether the keys after a place begin here.
+fn is_point<K: RunKey>(keys: &[K], place: &K, at: usize) -> bool
+    requires { IsStrictlySortedBy K.cmp keys.now }
+    ensures { result ≡ true → IsAfterPoint K.cmp (Some place.now) keys.now at }
+{
+    if at > keys.len() {
+        return false;
+    }
+    if !are_before(keys, place, at) {
+        return false;
+    }
+    are_behind(keys, place, at)
+}
+
+// Where the keys after a key begin: at the hint, or one further, or found by a search.
+fn near_key<K: RunKey>(keys: &[K], place: &K, hint: usize) -> usize
+    requires { IsStrictlySortedBy K.cmp keys.now }
+    ensures { IsAfterPoint K.cmp (Some place.now) keys.now result }
+{
+    if is_point(keys, place, hint) {
+        return hint;
+    }
+    let next = hint.saturating_add(1);
+    if is_point(keys, place, next) {
+        return next;
+    }
+    after_place(keys, Some(*place))
+}
+
+// Where the keys after a place begin.
+fn near<K: RunKey>(keys: &[K], place: Option<K>, hint: usize) -> usize
+    requires { IsStrictlySortedBy K.cmp keys.now }
+    ensures { IsAfterPoint K.cmp place keys.now result }
+{
+    match place {
+        None => after_place(keys, None),
+        Some(key) => near_key(keys, &key, hint),
+    }
+}
+
+impl<K: RunKey, A> Run<K, A> {
+    // The first key after a place, and where it is.
+    fn next_near(&self, place: Option<K>, hint: usize) -> (Option<K>, usize)
+        ensures { IsNext K.cmp place (has_key K.cmp self.now) result.0 }
+    {
+        let at = near(&self.keys, place, hint);
+        if at < self.keys.len() {
+            (Some(self.keys[at]), at)
+        } else {
+            (None, at)
+        }
+    }
+
+    // What the run has at a key.
+    fn find_near(&self, key: &K, hint: usize) -> Option<Option<&Arc<A>>>
+        ensures { option_map (option_map shared) result ≡ value_at K.cmp key.now self.now }
+    {
+        let at = near_key(&self.keys, key, hint);
+        if at == 0 {
+            return None;
+        }
+        if is_same(&self.keys[at - 1], key) {
+            return Some(set_of(&self.packs, self.handles[at - 1]));
+        }
+        None
+    }
+}
+
+// The hint of a run.
+fn hint_of(hints: &[usize; 40], at: usize) -> usize {
+    if at < KEPT { hints[at] } else { 0 }
+}
+
+// Keeps the hint of a run.
+fn keep_hint(hints: &mut [usize; 40], at: usize, hint: usize) {
+    if at < KEPT {
+        hints[at] = hint;
+    }
+}
+
+// What the latest run that has a key says of it.
+fn latest_near<'a, K: RunKey, A>(
+    runs: &'a [Arc<Run<K, A>>],
+    key: &K,
+    hints: &[usize; 40],
+) -> Option<Option<&'a Arc<A>>>
+    ensures { option_map (option_map shared) result ≡ latest K.cmp key.now (map arc_value runs.now) }
+{
+    let mut at = runs.len();
+    while at > 0 {
+        at -= 1;
+        if let Some(found) = runs[at].find_near(key, hint_of(hints, at)) {
+            return Some(found);
+        }
+    }
+    None
+}
+
+// The set of a key.
+fn live_near<'a, K: RunKey, A>(
+    runs: &'a [Arc<Run<K, A>>],
+    key: &K,
+    hints: &[usize; 40],
+) -> Option<&'a Arc<A>>
+    ensures { option_map shared result ≡ seen (latest K.cmp key.now (map arc_value runs.now)) }
+{
+    match latest_near(runs, key, hints) {
+        Some(found) => found,
+        None => None,
+    }
+}
+
+// The first key of any run after a place.
+fn least_near<K: RunKey, A>(
+    runs: &[Arc<Run<K, A>>],
+    place: Option<K>,
+    hints: &mut [usize; 40],
+) -> Option<K>
+    ensures { IsNext K.cmp place (has_latest K.cmp (map arc_value runs.now)) result }
+{
+    let mut best = None;
+    let mut at = 0;
+    while at < runs.len() {
+        let (key, hint) = runs[at].next_near(place, hint_of(hints, at));
+        keep_hint(hints, at, hint);
+        best = lesser(best, key);
+        at += 1;
+    }
+    best
+}
+
+// The first live pair after a place.
+fn first_near<'a, K: RunKey, A>(
+    runs: &'a [Arc<Run<K, A>>],
+    place: Option<K>,
+    hints: &mut [usize; 40],
+) -> Option<(K, &'a Arc<A>)>
+    ensures { IsFirst K.cmp (is_after K.cmp place) (λ q. seen (latest K.cmp q (map arc_value runs.now))) (option_map shown result) }
+{
+    let mut at = place;
+    loop {
+        let Some(key) = least_near(runs, at, hints) else {
+            return None;
+        };
+        if let Some(set) = live_near(runs, &key, hints) {
+            return Some((key, set));
+        }
+        at = Some(key);
+    }
+}
+
+// The key of the pair that was found, or the place before.
+fn place_of_next<K: RunKey, A>(place: Option<K>, found: &Option<(K, &Arc<A>)>) -> Option<K>
+    ensures { result ≡ moved place (option_map shown found.now) }
+{
+    match found {
+        Some((key, _)) => Some(*key),
+        None => place,
+    }
+}
+
+impl<K: RunKey, A: Drop> Runs<K, A> {
+    /// A walk over the pairs after a place, or over all. It takes no memory.
+    pub(crate) fn cursor<'a>(&'a self, place: Option<K>) -> Cursor<'a, K, A>
+        ensures { result ≡ record { pairs = self.now; place = place } }
+    {
+        Cursor {
+            runs: self,
+            place,
+            hints: [0; 40],
+        }
+    }
+}
+
+impl<'a, K: RunKey, A: Drop> Cursor<'a, K, A> {
+    /// The first pair after the one given last, or after the place that the walk begins with.
+    pub(crate) fn next(&mut self) -> Option<(K, &'a Arc<A>)>
+        ensures first { IsFirst K.cmp (is_after K.cmp self.old.place) (λ q. value_at K.cmp q self.old.pairs) (option_map shown result) }
+        ensures place { self.new.place ≡ moved self.old.place (option_map shown result) }
+        ensures pairs { self.new.pairs ≡ self.old.pairs }
+        ensures ordered { IsStrictlySortedBy K.cmp (keys_of self.old.pairs) }
+    {
+        let runs = self.runs;
+        let found = first_near(runs.runs.as_slice(), self.place, &mut self.hints);
+        self.place = place_of_next(self.place, &found);
+        found
+    }
+
+    /// The pair of a key, or the first one after it. The cursor stands there then.
+    pub(crate) fn from(&mut self, key: K) -> Option<(K, &'a Arc<A>)>
+        ensures first { IsFirst K.cmp (is_from K.cmp key) (λ q. value_at K.cmp q self.old.pairs) (option_map shown result) }
+        ensures place { self.new.place ≡ moved (Some key) (option_map shown result) }
+        ensures pairs { self.new.pairs ≡ self.old.pairs }
+        ensures ordered { IsStrictlySortedBy K.cmp (keys_of self.old.pairs) }
+    {
+        self.place = Some(key);
+        let runs = self.runs;
+        match runs.get(&key) {
+            Some(set) => Some((key, set)),
+            None => self.next(),
+        }
+    }
+}

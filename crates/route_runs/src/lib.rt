@@ -1,0 +1,36 @@
+//! The routes of one peer in one view, in tables that are read while new ones are made.
+//!
+//! A table is a list of runs. A run is a sorted list of NLRI, each with a route or withdrawn, and is never
+//! changed. A new table has one run more, that of the changes; runs of like size are merged, and where the
+//! oldest run is reached what is withdrawn goes. So a table is a list of some 20 counted runs: it is shared for
+//! that price, and old ones stay readable. A row takes a handle of 32 bits: the packs of a run hold the
+//! attributes, up to 4,096 of them each, and a merge counts a pack, not a row.
+//!
+//! Proved: `with` gives the table with the last change of each NLRI made, and all others as they were; `get` is
+//! the look-up, `walk` gives the pairs from a place on in the order of NLRI, each once, `count` is their number.
+//! How runs are merged is in no contract of a public call.
+//! Begin with `src/table.rt` and `src/changes.rt`, then `specs/Runs.antt`; the rows of a run are in
+//! `specs/Rows.antt`, their merging in `src/weave.rt` and `proofs/Merging.antt`.
+#![tactic(auto)]
+
+mod changes;
+mod cursor;
+mod find;
+mod join;
+mod key;
+mod layers;
+mod many;
+mod packs;
+mod run;
+mod runs;
+mod table;
+mod tidy;
+mod walk;
+mod weave;
+
+pub use changes::Changes;
+pub use table::RouteTable;
+pub use walk::{Place, Walk};
+
+#[cfg(test)]
+mod tests;

@@ -1,0 +1,61 @@
+ghost use Rattle.std.specs.Prelude.{◌≡◌, ◌∷◌, [], replicate, IfOk};
+ghost use Rattle.std.specs.Arc.{arc_value};
+ghost use Rattle.std.specs.List.Sorted.{IsStrictlySortedBy};
+ghost use Rattle.std.specs.Option.{option_map};
+ghost use Rattle.route_runs.specs.Message.{IsAllSet, HasSame};
+
+use crate::key::RunKey;
+use crate::run::Run;
+use crate::tidy::{Gathered, added, turn};
+use std::alloc::Global;
+use std::sync::Arc;
+use wire_io::NoMemory;
+
+// Keys in order, each once.
+fn in_order<K: RunKey>(keys: Vec<K>) -> Vec<K>
+    ensures ordered { IsStrictlySortedBy K.cmp result.items }
+    ensures same { HasSame keys.items result.items }
+{
+    let mut keys = keys;
+    keys.sort_unstable();
+    keys.dedup();
+    keys
+}
+
+// So many times one handle.
+fn repeated(alloc: Global, handle: u32, times: usize) -> Result<Vec<u32>, NoMemory>
+    ensures { IfOk result (λ list. list.items ≡ replicate times handle) }
+{
+    match vec![in alloc; handle; times] {
+        Ok(list) => Ok(list),
+        Err(_) => Err(NoMemory),
+    }
+}
+
+impl<K: RunKey, A: Drop> Run<K, A> {
+    /// The run of one message: its keys, in any order, each with the one set, or gone.
+    pub(crate) fn many(
+        alloc: Global,
+        keys: Vec<K>,
+        set: Option<Arc<A>>,
+    ) -> Result<Run<K, A>, NoMemory>
+        ensures { IfOk result (IsAllSet K.cmp keys.items (option_map arc_value set)) }
+    {
+        let keys = in_order(keys);
+        let mut out = Gathered {
+            packs: Vec::new(alloc),
+            now: Vec::new(alloc),
+        };
+        let handle = added(&mut out, alloc, set)?;
+        turn(&mut out, alloc)?;
+        if out.packs.len() >= 1_048_576 {
+            return Err(NoMemory);
+        }
+        let handles = repeated(alloc, handle, keys.len())?;
+        Ok(Run {
+            keys,
+            handles,
+            packs: out.packs,
+        })
+    }
+}

@@ -1,0 +1,161 @@
+ghost use Rattle.std.specs.Prelude.{◌≡◌, ◌++◌, ◌∷◌, ◌≤◌, [], length, map, take, IfOk, OnOk, OnErr};
+ghost use Rattle.std.specs.Arc.{arc_value};
+ghost use Rattle.route_runs.specs.Override.{IsOverride};
+ghost use Rattle.route_runs.specs.Runs.{IsChanged, IsSettled};
+
+use crate::join::merge;
+use crate::key::RunKey;
+use crate::layers::Layers;
+use crate::run::Run;
+use std::alloc::Global;
+use std::marker::Model;
+use std::sync::Arc;
+use wire_io::NoMemory;
+
+/// A table as a list of runs, of which the later ones override the earlier ones. Contracts see the list of
+/// its live pairs, in key order.
+#[derive(Drop)]
+pub(crate) struct Runs<K: RunKey, A> {
+    pub(crate) runs: Vec<Arc<Run<K, A>>>,
+}
+
+impl<K: RunKey, A> Model for Runs<K, A> {
+    ghost use Rattle.std.specs.Prelude.{List, map};
+    ghost use Rattle.std.specs.Arc.{arc_value};
+    ghost use Rattle.route_runs.specs.Runs.{contents};
+
+    ghost Value = { List (K × A) };
+
+    ghost view = { λ t. contents K.cmp (map arc_value t.runs.items) };
+}
+
+impl<K: RunKey, A: Drop> Runs<K, A> {
+    /// The table with no pair.
+    pub(crate) fn new(alloc: Global) -> Runs<K, A>
+        ensures { result ≡ [] }
+    {
+        Runs {
+            runs: Vec::new(alloc),
+        }
+    }
+
+    /// Sets the rows of a run, and takes out those that are gone. After want of memory nothing has changed.
+    pub(crate) fn push(&mut self, alloc: Global, run: Run<K, A>) -> Result<(), NoMemory>
+        ensures ok { OnOk result (IsChanged K.cmp self.old run self.new) }
+        ensures err { OnErr result (self.new ≡ self.old) }
+    {
+        let (own, kept) = settle(alloc, self.runs.as_slice(), run)?;
+        let Ok(own) = Arc::new(alloc, own) else {
+            return Err(NoMemory);
+        };
+        replace(&mut self.runs, own, kept)
+    }
+
+    /// The table with changes made; they are taken out of the list.
+    pub(crate) fn with(
+        &self,
+        alloc: Global,
+        changes: &mut Layers<K, A>,
+    ) -> Result<Runs<K, A>, NoMemory>
+        ensures runs { IfOk result (IsChanged K.cmp self.now changes.old) }
+        ensures emptied { OnOk result (changes.new ≡ []) }
+    {
+        let mut runs = self.share(alloc)?;
+        let rows = changes.take(alloc)?;
+        match rows {
+            None => Ok(runs),
+            Some(run) => {
+                runs.push(alloc, run)?;
+                Ok(runs)
+            }
+        }
+    }
+
+    /// An equal table, at the price of a counter for each run.
+    pub(crate) fn share(&self, alloc: Global) -> Result<Runs<K, A>, NoMemory>
+        ensures { IfOk result (λ copy. copy ≡ self.now) }
+    {
+        let runs = copied(alloc, self.runs.as_slice())?;
+        Ok(Runs { runs })
+    }
+}
+
+// Whether there are many more packs than the rows need: room for more than two sets a row, and 64 packs.
+fn is_loose<K: RunKey, A>(run: &Run<K, A>) -> bool {
+    run.packs.len() > 64 + run.keys.len() / 2048
+}
+
+/// Two runs merged, with few packs.
+pub(crate) fn merge_tidy<K: RunKey, A: Drop>(
+    alloc: Global,
+    earlier: &Run<K, A>,
+    later: &Run<K, A>,
+    bottom: bool,
+) -> Result<Run<K, A>, NoMemory>
+    ensures { IfOk result (IsOverride K.cmp bottom earlier.now later.now) }
+{
+    let both = merge(alloc, earlier, later, bottom)?;
+    if is_loose(&both) {
+        return both.tidy(alloc);
+    }
+    Ok(both)
+}
+
+// Merges a run with the last ones that aren't more than twice as long, and says how many runs are left before it.
+fn settle<K: RunKey, A: Drop>(
+    alloc: Global,
+    runs: &[Arc<Run<K, A>>],
+    run: Run<K, A>,
+) -> Result<(Run<K, A>, usize), NoMemory>
+    ensures { IfOk result (λ r. IsSettled K.cmp (map arc_value runs.now) run r.0 r.1) }
+{
+    let mut own = run;
+    let mut kept = runs.len();
+    while kept > 0 && runs[kept - 1].len() / 2 < own.len() {
+        own = merge_tidy(alloc, &runs[kept - 1], &own, kept == 1)?;
+        kept -= 1;
+    }
+    Ok((own, kept))
+}
+
+// Puts a run in the place of those from a number on.
+fn replace<K: RunKey, A: Drop>(
+    runs: &mut Vec<Arc<Run<K, A>>>,
+    own: Arc<Run<K, A>>,
+    kept: usize,
+) -> Result<(), NoMemory>
+    requires { kept ≤ length runs.old.items }
+    ensures ok { OnOk result (map arc_value runs.new.items ≡ take kept (map arc_value runs.old.items) ++ arc_value own ∷ []) }
+    ensures err { OnErr result (map arc_value runs.new.items ≡ map arc_value runs.old.items) }
+{
+    if kept == runs.len() {
+        return match runs.push(own) {
+            Ok(_) => Ok(()),
+            Err(_) => Err(NoMemory),
+        };
+    }
+    runs[kept] = own;
+    runs.truncate(kept + 1);
+    Ok(())
+}
+
+// The list of the same runs.
+fn copied<K: RunKey, A: Drop>(
+    alloc: Global,
+    runs: &[Arc<Run<K, A>>],
+) -> Result<Vec<Arc<Run<K, A>>>, NoMemory>
+    ensures { IfOk result (λ copy. map arc_value copy.items ≡ map arc_value runs.now) }
+{
+    let Ok(mut copy) = Vec::with_capacity(alloc, runs.len()) else {
+        return Err(NoMemory);
+    };
+    for run in runs {
+        let Ok(again) = Arc::try_clone(run) else {
+            return Err(NoMemory);
+        };
+        if copy.push(again).is_err() {
+            return Err(NoMemory);
+        }
+    }
+    Ok(copy)
+}
