@@ -13,8 +13,8 @@ use bmp_specs::{IdUse, Width};
 use ip_prefix::Family;
 use path_attrs::{Judged, MpSlice, judge_attrs};
 
-// What judging the body of an UPDATE finds: its fields, its attributes where they stand, and how many prefixes each list of the
-// UPDATE has.
+// What judging the body of an UPDATE finds: its fields, its attributes where they stand, and how many prefixes each
+// list of the UPDATE has.
 #[derive(Clone, Copy)]
 pub(crate) struct Found<'a> {
     pub(crate) fields: Fields<'a>,
@@ -24,8 +24,8 @@ pub(crate) struct Found<'a> {
     pub(crate) multi: usize,
 }
 
-// How many prefixes the attribute has. One that isn't there, or is of a family that isn't read, has none; `None` exactly where
-// those of one that is read aren't prefixes.
+// How many prefixes the attribute has. One that isn't there, or is of a family that isn't read, has none; `None`
+// exactly where those of one that is read aren't prefixes.
 fn multi_count(ids: IdUse, part: Option<MpSlice<'_>>) -> Option<usize>
     ensures some { IfSome result (λ count. (ns : List NlriValue) × AreMpNlri ids (option_map mp_value part.entry) ns × (count ≡ length ns)) }
     ensures room { IfSome result (λ count. count < 2 ^ 63) }
@@ -40,8 +40,8 @@ fn multi_count(ids: IdUse, part: Option<MpSlice<'_>>) -> Option<usize>
     }
 }
 
-// Judges the body (RFC 4271, section 4.3), and finds what `read_update` makes an UPDATE of. `None` only where the body isn't
-// that of an UPDATE message.
+// Judges the body (RFC 4271, section 4.3), and finds what `read_update` makes an UPDATE of. `None` only where the
+// body isn't that of an UPDATE message.
 pub(crate) fn find_update(body: &[u8], width: Width, ids: IdUse) -> Option<Found<'_>>
     ensures some { IfSome result (HasFound width ids body.now) }
     ensures none { IfNone result ((u : UpdateValue) → IsUpdate width ids body.now u → ⊥) }

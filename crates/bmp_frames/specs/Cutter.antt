@@ -58,8 +58,8 @@ abbrev pub last_body : List ℕ → List MessageValue → List ℕ
 last_body body [] = body
 last_body body (m ∷ ms) = last_body m.body ms
 
--- A run of calls fed these bytes in all and gave these messages: the bytes are the messages, one after another, and then
--- what is pending.
+-- A run of calls fed these bytes in all and gave these messages: the bytes are the messages, one after another, and
+-- then what is pending.
 pub record HasCut (fed : List ℕ) (given : List MessageValue) (c : CutterValue) : Type 0 where
   pub front : List ℕ
   pub split : fed ≡ front ++ c.pending
@@ -75,8 +75,8 @@ GoesOn fed given new (Bad Version) = HasCut fed given new × BreaksVersion (drop
 GoesOn fed given new (Bad Length) = HasCut fed given new × BreaksLength (drop new.offset fed)
 GoesOn fed given new (Bad Body) = ⊥
 
--- What a feed leaves of the front of its buffer: all of it or nothing. What stays before the last body is no longer than
--- what is pending, and what is pending moves only where at least as much is dropped.
+-- What a feed leaves of the front of its buffer: all of it or nothing. What stays before the last body is no longer
+-- than what is pending, and what is pending moves only where at least as much is dropped.
 pub record Settles (dropped before pending : ℕ) : Type 0 where
   pub held : before - dropped ≤ pending
   pub paid : (dropped ≡ 0) ⊎ ((dropped ≡ before) × (pending ≤ dropped))

@@ -4,8 +4,8 @@ use std::alloc::Global;
 use std::process::Abort;
 use std::test::Fail;
 
-// A Peer Up Notification of the peer 192.0.2.1, 154 bytes (RFC 7854, section 4.10): the common header, the Per-Peer Header,
-// the local address and ports, and two OPENs.
+// A Peer Up Notification of the peer 192.0.2.1, 154 bytes (RFC 7854, section 4.10): the common header, the Per-Peer
+// Header, the local address and ports, and two OPENs.
 const PEER_UP: &str = "030000009a03\
     00000000000000000000000000000000000000000000c00002010000fbf4c00002010000000000000000\
     000000000000000000000000c00002fe00b3c350\

@@ -62,8 +62,8 @@ pub record HasReached (fed : List ℕ) (given : List EntryValue) (w : WalkValue)
 abbrev pub verdict_with : ℕ → Verdict
 verdict_with rest = if rest == 0 then whole else more
 
--- The run goes on with this answer: one more message was given; or the walk of the bytes, if nothing more comes, gives the
--- entries given; or the walk ends here, whatever comes.
+-- The run goes on with this answer: one more message was given; or the walk of the bytes, if nothing more comes,
+-- gives the entries given; or the walk ends here, whatever comes.
 abbrev pub GoesOn : {T : Type 0} → (T → EntryValue → Type 0) → List ℕ → List EntryValue → WalkValue → Progress T → Type 0
 GoesOn IsOf fed given new (progress.Message item) = (entry : EntryValue) × IsOf item entry × HasReached fed (given ++ entry ∷ []) new
 GoesOn IsOf fed given new progress.More = HasReached fed given new × WalksBy strict fed given new.offset (verdict_with (rest_of new))

@@ -83,7 +83,8 @@ fn read_routes(
     Ok(update)
 }
 
-// Whether the bytes are the UPDATE of a Route Monitoring message (RFC 7854, section 4.6) of a peer that is up. Takes no memory.
+// Whether the bytes are the UPDATE of a Route Monitoring message (RFC 7854, section 4.6) of a peer that is up. Takes
+// no memory.
 pub(crate) fn judge_routes(peer: &PeerInfo, head: &PeerHeader, rest: &[u8]) -> bool
     ensures { IsTrue result ↔ ((u : UpdateValue) × IsRouteMonitoring (opens_of peer.now) head.now rest.now u) }
 {

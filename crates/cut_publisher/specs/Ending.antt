@@ -32,7 +32,9 @@ module _ {E : Type 0} where
     pub each : (k : ℕ) (d : Asker E) → k < length old → slice_index_or new k d ≡ asked_at_end h (slice_index_or old k d)
     pub earlier : (k : ℕ) (d : Asker E) → k < length old → Begins (slice_index_or old k d).seen h
 
--- all passes have seen one history, whose last event is the mark, and no other is; it begins with what each had seen, a lane's pass before the mark; each lane's part of it is that pass's entries, and the cut of all lanes stands for it
+-- all passes have seen one history, whose last event is the mark, and no other is; it begins with what each had seen,
+-- a lane's pass before the mark; each lane's part of it is that pass's entries, and the cut of all lanes stands for
+-- it
 pub record IsEnding {S E : Type 0} (stands : S → List E → Type 0) (lanes : ℕ) (feeds : List (Fed E)) (asks : List (Asker E)) (c : List (S × ℕ)) (feeds' : List (Fed E)) (asks' : List (Asker E)) : Type 0 where
   pub before : List (Event E)
   pub history : List (Event E)

@@ -63,7 +63,8 @@ pub record Saw (E : Type 0) : Type 0 where
 abbrev pub saw : {E : Type 0} → Site → List (Step E) → Saw E
 saw b log = record { station = b; seen = told log }
 
--- what contracts see of an asker's pass: the station, the history that it has seen, and whether it has a seat at the cell
+-- what contracts see of an asker's pass: the station, the history that it has seen, and whether it has a seat at the
+-- cell
 pub record Asker (E : Type 0) : Type 0 where
   pub station : Site
   pub seen : List (Event E)
@@ -72,7 +73,8 @@ pub record Asker (E : Type 0) : Type 0 where
 abbrev pub asker : {E : Type 0} → Site → List (Step E) → Bool → Asker E
 asker b log seated = record { station = b; seen = told log; seated = seated }
 
--- what contracts see of a lane's pass: the station, the lane, the entries that it made, and the history that it has seen
+-- what contracts see of a lane's pass: the station, the lane, the entries that it made, and the history that it has
+-- seen
 pub record Fed (E : Type 0) : Type 0 where
   pub station : Site
   pub lane : ℕ

@@ -22,8 +22,8 @@ use Rattle.path_attrs.proofs.Counting.{Counts, codes_of, counts_first, counts_mo
 abbrev pub HaveForms : Width → List OtherValue → Type 0
 HaveForms width parts = AllByRecursion (λ a. FitsType width a.code a.value) parts
 
--- the attributes up to the rest were counted, each has the form of its type, and the values of those of the first types stand at
--- their types
+-- the attributes up to the rest were counted, each has the form of its type, and the values of those of the first
+-- types stand at their types
 pub record Gathers (width : Width) (field rest : List ℕ) (seen : List Bool) (count : ℕ) (values : List (Option (Bor (List ℕ)))) : Type 0 where
   pub counts : Counts field rest seen count
   pub forms : HaveForms width counts.parts

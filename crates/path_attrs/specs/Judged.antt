@@ -12,15 +12,15 @@ use Rattle.path_attrs.specs.Field.{HasShape, value_at}
 use Rattle.path_attrs.specs.declared.judge.Judged.{Judged}
 use Rattle.path_attrs.specs.declared.mp.MpSlice.{MpSlice}
 
--- The value has the form of its type: AS_PATH has path segments, AGGREGATOR an AS number and an address, and any other type the
--- shape that the registry has for it. Those of MP_REACH_NLRI and MP_UNREACH_NLRI are judged apart.
+-- The value has the form of its type: AS_PATH has path segments, AGGREGATOR an AS number and an address, and any
+-- other type the shape that the registry has for it. Those of MP_REACH_NLRI and MP_UNREACH_NLRI are judged apart.
 abbrev pub FitsType : Width → ℕ → List ℕ → Type 0
 FitsType width code value =
     MatchBool (code == as_path) ((path : List SegmentValue) × ArePath width value path)
     (MatchBool (code == aggregator) ((a : AggregatorValue) × IsAggregator width value a) (HasShape code (length value)))
 
--- the field is attributes, no two of one type, each of the form of its type; they are so many, and up to the last type that is
--- read, at each type is the value of the field's attribute of the type
+-- the field is attributes, no two of one type, each of the form of its type; they are so many, and up to the last
+-- type that is read, at each type is the value of the field's attribute of the type
 pub record HasForms (width : Width) (field : List ℕ) (count : ℕ) (value : ℕ → Option (List ℕ)) : Type 0 where
   pub parts : List OtherValue
   pub are : AreParts IsAttribute field parts
@@ -33,8 +33,8 @@ pub record HasForms (width : Width) (field : List ℕ) (count : ℕ) (value : �
 abbrev pub mp_value : MpSlice → MpValue
 mp_value m = record { afi = m.afi; safi = m.safi; hop = m.hop.now; prefixes = m.prefixes.now }
 
--- the field has these attributes, their multiprotocol attributes are those that are lent, and the values of the others stand at
--- their types
+-- the field has these attributes, their multiprotocol attributes are those that are lent, and the values of the
+-- others stand at their types
 pub record IsJudged (width : Width) (field : List ℕ) (judged : Judged) : Type 0 where
   pub read : AttrsReadValue
   pub are : AreAttributes width field read

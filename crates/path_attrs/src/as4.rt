@@ -10,8 +10,8 @@ use wire_io::{BodyFault, NoMemory};
 // "AS_TRANS" (RFC 6793, section 9).
 const AS_TRANS: u32 = 23456;
 
-// Whether the AS4 attributes are ignored: AGGREGATOR has another AS than AS_TRANS, and AS4_AGGREGATOR is there (RFC 6793,
-// section 4.2.3).
+// Whether the AS4 attributes are ignored: AGGREGATOR has another AS than AS_TRANS, and AS4_AGGREGATOR is there (RFC
+// 6793, section 4.2.3).
 pub(crate) fn ignores(aggregator: &Option<Aggregator>, as4_aggregator: Option<&[u8]>) -> bool
     ensures { result ≡ ignores_as4 aggregator.now (option_copied as4_aggregator.entry) }
 {

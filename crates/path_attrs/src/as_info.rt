@@ -70,7 +70,8 @@ pub(crate) struct AsInfo {
     pub(crate) path: Option<AsPath>,
 }
 
-// What AS_PATH and AGGREGATOR say, in two-octet form together with AS4_PATH and AS4_AGGREGATOR (RFC 6793, section 4.2.3).
+// What AS_PATH and AGGREGATOR say, in two-octet form together with AS4_PATH and AS4_AGGREGATOR (RFC 6793, section
+// 4.2.3).
 pub(crate) fn make_as_info(
     alloc: Global,
     values: &[Option<&[u8]>; PLACES],

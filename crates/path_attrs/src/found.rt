@@ -12,16 +12,17 @@ use crate::codes::{
 use crate::part::read_part;
 use as_path::{AsPath, Width};
 
-// What one pass over the attributes of a field finds: how many they are, and the value of each type below `PLACES`, at its
-// type, where the field has an attribute of it.
+// What one pass over the attributes of a field finds: how many they are, and the value of each type below `PLACES`,
+// at its type, where the field has an attribute of it.
 #[derive(Clone, Copy)]
 pub(crate) struct Found<'a> {
     pub(crate) count: u32,
     pub(crate) values: [Option<&'a [u8]>; PLACES],
 }
 
-// Whether the value has the form of its type. Any value has that of MP_REACH_NLRI and MP_UNREACH_NLRI here, whose families and
-// prefixes are found afterwards, and of AS4_PATH and AS4_AGGREGATOR, which break no field (RFC 6793, section 6).
+// Whether the value has the form of its type. Any value has that of MP_REACH_NLRI and MP_UNREACH_NLRI here, whose
+// families and prefixes are found afterwards, and of AS4_PATH and AS4_AGGREGATOR, which break no field (RFC 6793,
+// section 6).
 fn has_form(code: u8, value: &[u8], width: Width) -> bool
     ensures { IsTrue result ↔ FitsType width code value.now }
 {
@@ -36,8 +37,8 @@ fn has_form(code: u8, value: &[u8], width: Width) -> bool
     }
 }
 
-// Reads the header of each attribute of the field, once (RFC 4271, section 4.3), and tests the form of its value. `None` only
-// where the field has no value in the grammar.
+// Reads the header of each attribute of the field, once (RFC 4271, section 4.3), and tests the form of its value.
+// `None` only where the field has no value in the grammar.
 pub(crate) fn find_values(field: &[u8], width: Width) -> Option<Found<'_>>
     ensures some { IfSome result (λ f. HasForms width field.now f.count (value_at f.values)) }
     ensures none { IfNone result ((read : AttrsReadValue) → AreAttributes width field.now read → ⊥) }

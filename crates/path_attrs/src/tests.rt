@@ -85,7 +85,8 @@ const LARGE_COMMUNITY: [u8; 16] = [
     0xd0, 32, 0, 12, /* 64496:1:2 */ 0, 0, 0xfb, 0xf0, 0, 0, 0, 1, 0, 0, 0, 2,
 ];
 
-// ORIGIN, MULTI_EXIT_DISC, LOCAL_PREF and ATOMIC_AGGREGATE of a field, and how many communities and other attributes it has.
+// ORIGIN, MULTI_EXIT_DISC, LOCAL_PREF and ATOMIC_AGGREGATE of a field, and how many communities and other attributes
+// it has.
 type Numbers = (Option<u8>, Option<u32>, Option<u32>, bool, usize, usize);
 
 fn numbers_of(alloc: Global, field: &[u8]) -> Option<Numbers> {
@@ -136,8 +137,8 @@ fn is_read(lent: Option<MpSlice<'_>>, read: &Option<MpPart>) -> bool {
     }
 }
 
-// Whether the field has MP_REACH_NLRI and MP_UNREACH_NLRI, where it is one of attributes. `judge_attrs` and `read_attrs` have to
-// say the same.
+// Whether the field has MP_REACH_NLRI and MP_UNREACH_NLRI, where it is one of attributes. `judge_attrs` and
+// `read_attrs` have to say the same.
 fn judged(alloc: Global, field: &[u8], width: Width) -> Result<Option<(bool, bool)>, Fail> {
     match (judge_attrs(field, width), read_attrs(alloc, field, width)) {
         (Some(lent), Ok(read)) => {

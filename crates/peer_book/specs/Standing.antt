@@ -7,8 +7,8 @@ use Rattle.bmp_specs.specs.Complete.{IsComplete}
 use Rattle.bmp_specs.specs.PeerUp.{IsNamed, IsUpWith, IsDownWith, up_state, down_state}
 use Rattle.peer_book.specs.Peers.{Peers, state_at, is_complete_at}
 
--- The book has the peers that the effects name, up or down by their last Peer Up or Peer Down (RFC 7854, sections 4.9 and
--- 4.10), and the marks of the tables that are complete (RFC 4724, section 2).
+-- The book has the peers that the effects name, up or down by their last Peer Up or Peer Down (RFC 7854, sections 4.9
+-- and 4.10), and the marks of the tables that are complete (RFC 4724, section 2).
 pub record StandsForPeers (peers : Peers) (effects : List EffectValue) : Type 0 where
   pub up : (key : KeyValue) (info : PeerInfoValue) → (state_at peers key ≡ Some (up_state info)) ↔ IsUpWith effects key info
   pub down : (key : KeyValue) (info : DownInfoValue) → (state_at peers key ≡ Some (down_state info)) ↔ IsDownWith effects key info

@@ -7,8 +7,8 @@ use std::alloc::Global;
 use std::test::Fail;
 use wire_io::{ByteList, MemSink, NoMemory};
 
-// A route: its peer, its RIB and its prefix as texts, its path identifier, its path attributes as they stand in an UPDATE,
-// each on a line, and the line that tells of it.
+// A route: its peer, its RIB and its prefix as texts, its path identifier, its path attributes as they stand in an
+// UPDATE, each on a line, and the line that tells of it.
 struct Route {
     key: &'static [u8],
     view: &'static [u8],

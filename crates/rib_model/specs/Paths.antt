@@ -19,8 +19,8 @@ path_value path = (path.id, arc_value path.route)
 abbrev pub path_values : List PathOf → List (Option ℕ × AttrsValue)
 path_values paths = map path_value paths
 
--- a path of this identifier goes behind the first paths, and before those that come after the second number of them: between
--- these stands the one whose place it takes, where there is one
+-- a path of this identifier goes behind the first paths, and before those that come after the second number of them:
+-- between these stands the one whose place it takes, where there is one
 pub record GoesTo (id : Option ℕ) (paths : List (Option ℕ × AttrsValue)) (at rest : ℕ) : Type 0 where
   pub order : at ≤ rest
   pub within : rest ≤ length paths

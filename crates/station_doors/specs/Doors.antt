@@ -14,8 +14,8 @@ one_more n = min (n + 1) (2 ^ 64 - 1)
 abbrev pub untouched : Plan → Aside
 untouched plan = record { plan = Some plan; coming = Some plan.connections; rest = Some []; given = Some []; opened = 0; closed = 0; is_open = false; taken = 0; refused = false; open_faults = 0; read_faults = 0; laid = [] }
 
--- The connections to come, and what the present one has left, where they are told: the next connection was opened, where
--- true, and there was none, where false. A failed call leaves what is to come.
+-- The connections to come, and what the present one has left, where they are told: the next connection was opened,
+-- where true, and there was none, where false. A failed call leaves what is to come.
 abbrev pub OpensNext : Option (List (List ℕ)) → Option (List (List ℕ)) → Option (List ℕ) → Result Bool Failed → Type 0
 OpensNext None after rest result = after ≡ None
 OpensNext (Some before) None rest result = ⊥
@@ -132,8 +132,8 @@ pub record YardValue : Type 0 where
   -- the ports that were given back
   pub back : List Returned
 
--- A call of this number hands out the next port under this number, or fails: exactly where the plan says so, or nothing is
--- left to hand out. The port has answered no call yet.
+-- A call of this number hands out the next port under this number, or fails: exactly where the plan says so, or
+-- nothing is left to hand out. The port has answered no call yet.
 abbrev pub HandsOut : {P : Type 0} → (P → Aside) → (P → ℕ) → ℕ → ℕ → Option YardValue → Option YardValue → Result P Failed → Type 0
 HandsOut shows calls lane number None new result = new ≡ None
 HandsOut shows calls lane number (Some old) new (Ok port) = (Contains old.fails number → ⊥) × (plan : Plan) × (rest : List Plan) × (old.ports ≡ plan ∷ rest)
@@ -145,8 +145,8 @@ abbrev pub without : ℕ → List ℕ → List ℕ
 without n [] = []
 without n (x ∷ xs) = if nat_eq x n then xs else x ∷ without n xs
 
--- A port is given back under this number: it is shown where one was handed out under it and not given back since, else it
--- is dropped.
+-- A port is given back under this number: it is shown where one was handed out under it and not given back since,
+-- else it is dropped.
 pub record TakesBackTold (lane : ℕ) (shows : Aside) (old : YardValue) (new : Option YardValue) : Type 0 where
   pub lent : Contains old.out lane → new ≡ Some (record old { out = without lane old.out; back = old.back ++ record { lane = lane; shows = shows } ∷ [] })
   pub dropped : (Contains old.out lane → ⊥) → new ≡ Some old

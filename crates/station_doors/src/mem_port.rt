@@ -111,8 +111,8 @@ impl Session {
         self.last = Last::Gave;
     }
 
-    // Copies what is left of it to the front of the buffer, as far as it fits and at most so many bytes, and answers how
-    // many.
+    // Copies what is left of it to the front of the buffer, as far as it fits and at most so many bytes, and answers
+    // how many.
     fn give(&mut self, most: usize, buf: &mut [u8]) -> usize
         requires most { 0 < most }
         requires room { 0 < length buf.old }

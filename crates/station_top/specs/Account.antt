@@ -10,8 +10,8 @@ use Rattle.bmp_specs.specs.Values.{EntryValue, opened}
 use Rattle.bmp_specs.specs.Walk.{terminated, broken}
 use Rattle.bmp_message.specs.StreamWalk.{WalkValue, HasReached, EndsAt, rest_of, verdict_with}
 
--- The text is the reply on the entries that the account stands for, where this is their number, and fewer than 2^64 bytes
--- came.
+-- The text is the reply on the entries that the account stands for, where this is their number, and fewer than 2^64
+-- bytes came.
 abbrev pub RepliesBy : (List EntryValue → Type 0) → (List EntryValue → List ℕ → Type 0) → ℕ → List ℕ → Type 0
 RepliesBy Stands Replies revision text = (entries : List EntryValue) → Stands entries → revision ≡ length entries → sum_by length_of entries < 2 ^ 64 → Replies entries text
 

@@ -7,8 +7,8 @@ use Rattle.bmp_specs.specs.Values.{EntryValue}
 use Rattle.bmp_specs.specs.Walk.{Verdict}
 use Rattle.wire_io.specs.Aside.{Given}
 
--- The connection that was given. Where there is none the input is an empty connection that ended, and where the call that
--- opens one failed it is an empty one whose read failed.
+-- The connection that was given. Where there is none the input is an empty connection that ended, and where the call
+-- that opens one failed it is an empty one whose read failed.
 abbrev pub input_of : List Given → Bool → Given
 input_of [] true = record { bytes = []; last = gave_none }
 input_of [] false = record { bytes = []; last = failed }

@@ -58,11 +58,12 @@ pub data Runs (meaning : Meaning) (Replies : List EntryValue → List ℕ → Ty
   -- line, and the port is given back
   replied : (input : Given) (messages : List EntryValue) (cause : Cause) (reply : List ℕ) → HasCome meaning input messages cause → IsReadNoFurther meaning input.bytes → Replies (opened ∷ messages) reply
       → LendsWhereTold (λ plan shows. Comes meaning plan shows input messages cause) old new number → Runs meaning Replies old new number (status_of cause) (reply ++ stop_line cause)
-  -- want of memory while the input was taken: nothing is written, and the port is given back, with what it gave until then
+  -- want of memory while the input was taken: nothing is written, and the port is given back, with what it gave until
+  -- then
   starved : LendsWhereTold (BreaksOff meaning) old new number → Runs meaning Replies old new number NoMemory []
 
--- What a call comes to by its words and the yard, before anything is written: how many calls of the yard were made then, the
--- status that is meant, and the text.
+-- What a call comes to by its words and the yard, before anything is written: how many calls of the yard were made
+-- then, the status that is meant, and the text.
 pub data Means (meaning : Meaning) (words : List (List ℕ)) (old new : Option YardValue) (number : ℕ) : ℕ → Status → List ℕ → Type 0 where
   -- the words are no command: the usage line, and the yard is asked for nothing
   usage : ((command : Command) → IsCommand command words → ⊥) → new ≡ old → Means meaning words old new number number Usage usage_line
@@ -94,8 +95,8 @@ pub record AnswersFault (before now : ℕ) (status fault : Status) : Type 0 wher
   pub rose : status ≡ fault → Rose before now
   pub calm : status ≢ fault → now ≡ before
 
--- What the yard and its port came to: how the input was taken, with what the account then stands for, or the status that
--- says why it was not.
+-- What the yard and its port came to: how the input was taken, with what the account then stands for, or the status
+-- that says why it was not.
 pub record IsTaken (meaning : Meaning) (Stands : List EntryValue → Type 0) (old new : Option YardValue) (number : ℕ) (taken : Taken) : Type 0 where
   pub input : Given
   pub messages : List EntryValue

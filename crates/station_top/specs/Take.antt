@@ -23,15 +23,15 @@ pub record IsNew (a : Aside) : Type 0 where
   pub none : a.taken ≡ 0
   pub fresh : GivesMore a.given a.given [] gave
 
--- The first reads of a port, so many, gave these bytes: each at least one, and at most as many as one read gives. The plan
--- fails none of them.
+-- The first reads of a port, so many, gave these bytes: each at least one, and at most as many as one read gives. The
+-- plan fails none of them.
 pub record Gives (plan : Plan) (reads : ℕ) (bytes : List ℕ) : Type 0 where
   pub most : reads ≤ length bytes
   pub fewest : length bytes ≤ reads * most_read
   pub calm : (k : ℕ) → k < reads → Contains plan.fails k → ⊥
 
--- the read of this number, a connection's last one, may go so: it gives none only where the plan doesn't fail it, and fails
--- only where the plan does
+-- the read of this number, a connection's last one, may go so: it gives none only where the plan doesn't fail it, and
+-- fails only where the plan does
 abbrev pub GoesAsPlanned : Plan → ℕ → LastRead → Type 0
 GoesAsPlanned plan number gave = Unit {0}
 GoesAsPlanned plan number gave_none = Contains plan.fails number → ⊥
@@ -92,13 +92,13 @@ abbrev pub first_of : List (List ℕ) → List ℕ
 first_of [] = []
 first_of (bytes ∷ more) = bytes
 
--- What a port with this plan shows after its one input connection was taken. What it gave is a front of the plan's first
--- connection, and is the whole of it where it ended. Where the plan doesn't fail, the messages and the cause follow from
--- that connection alone: they are those of its first 2^46 bytes, and then its end. So many reads gave these bytes; a
--- failed read is the one after them, and the first that the plan fails. A fault of an opening is counted exactly where no
--- connection was given, nor was it answered that there is none; a fault of a read, exactly where one of its reads failed.
--- The connection that was given was closed once, and after its last read, since a port is read only while its
--- connection is open. It was answered that there is none only where the plan has none.
+-- What a port with this plan shows after its one input connection was taken. What it gave is a front of the plan's
+-- first connection, and is the whole of it where it ended. Where the plan doesn't fail, the messages and the cause
+-- follow from that connection alone: they are those of its first 2^46 bytes, and then its end. So many reads gave
+-- these bytes; a failed read is the one after them, and the first that the plan fails. A fault of an opening is
+-- counted exactly where no connection was given, nor was it answered that there is none; a fault of a read, exactly
+-- where one of its reads failed. The connection that was given was closed once, and after its last read, since a port
+-- is read only while its connection is open. It was answered that there is none only where the plan has none.
 pub record Comes (meaning : Meaning) (plan : Plan) (shows : Aside) (input : Given) (messages : List EntryValue) (cause : Cause) : Type 0 where
   pub shown : shows.plan ≡ Some plan
   pub given : List Given
@@ -122,9 +122,9 @@ pub record Comes (meaning : Meaning) (plan : Plan) (shows : Aside) (input : Give
   pub opening : ((given ≡ []) × (shows.refused ≡ false)) ↔ 0 < shows.open_faults
   pub reading : ((0 < length given) × (input.last ≡ failed)) ↔ 0 < shows.read_faults
 
--- Of the plan's first connection this front was given, by so many reads, and it was read no further than its walk goes. No
--- call failed, and no read told the end. The connection was closed once, after its last read, and no further one was
--- asked for.
+-- Of the plan's first connection this front was given, by so many reads, and it was read no further than its walk
+-- goes. No call failed, and no read told the end. The connection was closed once, after its last read, and no further
+-- one was asked for.
 pub record HasBegun (meaning : Meaning) (plan : Plan) (shows : Aside) : Type 0 where
   pub shown : shows.plan ≡ Some plan
   pub bytes : List ℕ

@@ -60,8 +60,8 @@ fn untaken(cause: Cause) -> Taken
     Taken { cause, revision: 1 }
 }
 
-// Takes the present connection to its end, to the end of its walk, or to the limit of one connection. After want of memory
-// no read had failed or told the end.
+// Takes the present connection to its end, to the end of its walk, or to the limit of one connection. After want of
+// memory no read had failed or told the end.
 fn take_bytes<P: Port, A: Account>(
     alloc: Global,
     port: &mut P,

@@ -90,8 +90,8 @@ fn listed(alloc: Global, texts: &[&str]) -> Result<Vec<String>, NoMemory> {
     Ok(words)
 }
 
-// A port with one connection of the bytes that these hex digits spell, given in small pieces first. Its reads with these
-// numbers fail.
+// A port with one connection of the bytes that these hex digits spell, given in small pieces first. Its reads with
+// these numbers fail.
 fn port(alloc: Global, texts: &[&str], reads: &[u64]) -> Result<MemPort, Fail>
     ensures { IfOk result IsUntouched }
 {
@@ -114,8 +114,8 @@ fn ports(alloc: Global, texts: &[&str], reads: &[u64]) -> Result<PortList, Fail>
     }
 }
 
-// What a run over one connection of these bytes writes, and its exit status, where the reads, the calls of the yard and the
-// writes with these numbers fail.
+// What a run over one connection of these bytes writes, and its exit status, where the reads, the calls of the yard
+// and the writes with these numbers fail.
 fn shown(
     alloc: Global,
     words: &[String],

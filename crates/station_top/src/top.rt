@@ -28,8 +28,8 @@ use wire_io::{BufferedSink, Failed, Sink, write_all};
 const USAGE: &str =
     "usage: bmpstation replay QUERY, check, serve OPTIONS, or drill SEED LANES MESSAGES\n";
 
-// Takes the one input connection of the yard's port 0, and gives the port back. YardFault where the yard refused the port,
-// NoMemory on want of memory.
+// Takes the one input connection of the yard's port 0, and gives the port back. YardFault where the yard refused the
+// port, NoMemory on want of memory.
 fn take_from<Y: Yard, A: Account>(
     alloc: Global,
     yard: &mut Y,

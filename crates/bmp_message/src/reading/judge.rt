@@ -13,8 +13,8 @@ use bmp_frames::PeerHeader;
 use wire_io::BodyFault;
 
 impl Reading {
-    // Whether the body is that of a Route Monitoring message (RFC 7854, section 4.6). Of a peer type that isn't known nothing
-    // after the header is read, nor of a peer that isn't up.
+    // Whether the body is that of a Route Monitoring message (RFC 7854, section 4.6). Of a peer type that isn't known
+    // nothing after the header is read, nor of a peer that isn't up.
     fn has_routes(&self, body: &[u8]) -> bool
         ensures { TellsMeaning (HasPeer route_monitoring (reading_state self.now) body.now) (reading_state self.now) result }
     {

@@ -45,8 +45,8 @@ fn step(walk: &mut StreamWalk, judges: bool) -> Result<Progress<Judged>, Fail>
     }
 }
 
-// The types and lengths of the messages that are there, behind those so far, and what follows them. Every other message is
-// asked for by the other call of the two.
+// The types and lengths of the messages that are there, behind those so far, and what follows them. Every other
+// message is asked for by the other call of the two.
 fn drain(
     walk: &mut StreamWalk,
     calls: [bool; 2],
