@@ -100,14 +100,19 @@ twice (x ∷ xs) zs y e d =
     let other : eqb y x ≡ false = nat_eq_equiv.symm y x ∙ apart in
     twice xs zs y (ap (λ (b : Bool). b || list_any (eqb y) xs) (sym other) ∙ e) (IsDistinct-tail (λ j k. j == k) x (xs ++ y ∷ zs) d)
 
+-- an attribute of a type that was read stands there
+pub stands_twice : (field rest after : List ℕ) (read : List OtherValue) (a : OtherValue) → HasRead IsAttribute field read rest → HasFront IsAttribute rest a after → list_any (eqb a.code) (codes_of read) ≡ true
+    → (parts : List OtherValue) → AreParts IsAttribute field parts → IsDistinct (λ j k. j == k) (codes_of parts) → ⊥
+stands_twice field rest after read a has here marked parts are distinct =
+    let q = has.only parts are in
+    let r = front_part rest after a q.0 here q.2 in
+    let together : codes_of parts ≡ codes_of read ++ a.code ∷ codes_of r.0 =
+    ap codes_of (q.1 ∙ ap (λ (l : List OtherValue). read ++ l) r.1) ∙ map-append (λ (d : OtherValue). d.code) read (a ∷ r.0) in
+    twice (codes_of read) (codes_of r.0) a.code marked (subst (λ (l : List ℕ). IsDistinct (λ j k. j == k) l) together distinct)
+
 pub counts_twice : (field rest after : List ℕ) (seen : List Bool) (count : ℕ) (a : OtherValue) → Counts field rest seen count → HasFront IsAttribute rest a after → get_or seen a.code false ≡ true
     → (parts : List OtherValue) → AreParts IsAttribute field parts → IsDistinct (λ j k. j == k) (codes_of parts) → ⊥
-counts_twice field rest after seen count a c here marked parts are distinct =
-    let q = c.read.only parts are in
-    let r = front_part rest after a q.0 here q.2 in
-    let together : codes_of parts ≡ codes_of c.parts ++ a.code ∷ codes_of r.0 =
-    ap codes_of (q.1 ∙ ap (λ (l : List OtherValue). c.parts ++ l) r.1) ∙ map-append (λ (d : OtherValue). d.code) c.parts (a ∷ r.0) in
-    twice (codes_of c.parts) (codes_of r.0) a.code (sym (c.marks a.code) ∙ marked) (subst (λ (l : List ℕ). IsDistinct (λ j k. j == k) l) together distinct)
+counts_twice field rest after seen count a c here marked = stands_twice field rest after c.parts a c.read here (sym (c.marks a.code) ∙ marked)
 
 pub counts_stuck : (field rest : List ℕ) (seen : List Bool) (count : ℕ) → Counts field rest seen count → 0 < length rest → ((a : OtherValue) (after : List ℕ) → HasFront IsAttribute rest a after → ⊥)
     → (parts : List OtherValue) → AreParts IsAttribute field parts → ⊥

@@ -1,7 +1,6 @@
 -- The attributes of a field, judged one after another as the loop does, and the value that judged attributes have.
 use Rattle.std.proofs.Common.{◌≡◌, ◌+◌, ◌/◌, ◌%◌, ◌<◌, ◌≤◌, ℕ, Bool, true, false, cond, eqb, List, [], ◌∷◌, ◌++◌, length, drop, get_or, map, filter, not, find, Option, Some, None, inl, inr, refl, sym, ap, subst, ◌∙◌, arith}
 use Rattle.std.specs.Prelude.{◌==◌, ◌↔◌, IfSome, IsTrue, MatchBool, MatchOption, ⊤}
-use Rattle.std.specs.Borrow.{Bor}
 use Rattle.std.specs.List.{list_any}
 use Rattle.std.specs.Option.{option_map}
 use Rattle.std.proofs.lemmas.Bool.{cond_both, eq-eqb, eqb-true}
@@ -24,26 +23,26 @@ use Rattle.bmp_specs.proofs.AttributesOne.{attribute_code}
 use Rattle.bmp_specs.proofs.PartsRead.{AreParts-one}
 use Rattle.as_path.proofs.Judging.{path_decides, IsDecided, parts_there}
 use Rattle.path_attrs.specs.AsInfo.{StatesAs}
-use Rattle.path_attrs.specs.Field.{HasShape, value_at}
-use Rattle.path_attrs.specs.Judged.{FitsType, HasForms, IsJudged, mp_value}
+use Rattle.path_attrs.specs.Field.{HasShape}
+use Rattle.path_attrs.specs.Judged.{FitsType, HasForms, IsFound, IsJudged, mp_value}
 use Rattle.path_attrs.specs.declared.judge.Judged.{Judged}
 use Rattle.path_attrs.proofs.AsStated.{states_four, states_ignored, states_merged}
 use Rattle.path_attrs.proofs.Counting.{codes_of, counts_twice, counts_stuck}
-use Rattle.path_attrs.proofs.Gathering.{Gathers, HaveForms, value_of_first}
+use Rattle.path_attrs.proofs.Gathering.{HaveForms, Judges, value_of_first}
 use Rattle.path_attrs.proofs.Keeping.{length-AreNumbers}
 use Rattle.path_attrs.proofs.Reading.{front_part}
 
 -- Attributes in turn.
 
 -- no attribute stands at what is left
-pub judges_stuck : (width : Width) (field rest : List ℕ) (seen : List Bool) (count : ℕ) (values : List (Option (Bor (List ℕ)))) → Gathers width field rest seen count values → 0 < length rest
+pub judges_stuck : (width : Width) (field rest : List ℕ) (seen : List Bool) (count : ℕ) (reach unreach : Option (List ℕ)) → Judges width field rest seen count reach unreach → 0 < length rest
     → ((a : OtherValue) (after : List ℕ) → HasFront IsAttribute rest a after → ⊥) → (read : AttrsReadValue) → AreAttributes width field read → ⊥
-judges_stuck width field rest seen count values j left none read p = counts_stuck field rest seen count j.counts left none p.parts p.are
+judges_stuck width field rest seen count reach unreach j left none read p = counts_stuck field rest seen count j.counts left none p.parts p.are
 
 -- a second of one type stands there
-pub judges_twice : (width : Width) (field rest after : List ℕ) (seen : List Bool) (count : ℕ) (values : List (Option (Bor (List ℕ)))) (a : OtherValue) → Gathers width field rest seen count values → HasFront IsAttribute rest a after
+pub judges_twice : (width : Width) (field rest after : List ℕ) (seen : List Bool) (count : ℕ) (reach unreach : Option (List ℕ)) (a : OtherValue) → Judges width field rest seen count reach unreach → HasFront IsAttribute rest a after
     → get_or seen a.code false ≡ true → (read : AttrsReadValue) → AreAttributes width field read → ⊥
-judges_twice width field rest after seen count values a j here marked read p = counts_twice field rest after seen count a j.counts here marked p.parts p.are p.distinct
+judges_twice width field rest after seen count reach unreach a j here marked read p = counts_twice field rest after seen count a j.counts here marked p.parts p.are p.distinct
 
 -- The forms of a field that is attributes.
 
@@ -111,9 +110,9 @@ form_at width field read p code value e = form_cases width code value
     here k is = subst (λ (j : ℕ). value_of j p.parts ≡ Some value) is e
 
 -- an attribute without the form of its type stands there
-pub judges_unfit : (width : Width) (field rest after : List ℕ) (seen : List Bool) (count : ℕ) (values : List (Option (Bor (List ℕ)))) (a : OtherValue) → Gathers width field rest seen count values → HasFront IsAttribute rest a after
+pub judges_unfit : (width : Width) (field rest after : List ℕ) (seen : List Bool) (count : ℕ) (reach unreach : Option (List ℕ)) (a : OtherValue) → Judges width field rest seen count reach unreach → HasFront IsAttribute rest a after
     → get_or seen a.code false ≡ false → (FitsType width a.code a.value → ⊥) → (read : AttrsReadValue) → AreAttributes width field read → ⊥
-judges_unfit width field rest after seen count values a j here unseen unfit read p =
+judges_unfit width field rest after seen count reach unreach a j here unseen unfit read p =
     let c = j.counts in
     let q = c.read.only p.parts p.are in
     let r = front_part rest after a q.0 here q.2 in
@@ -186,9 +185,9 @@ states_there Two value g p paths aggregators = at (ignores_as4 g (value as4_aggr
         (h, m.0, states_merged Two refl value g h p m.0 (value as4_aggregator) (value as4_path) paths aggregators refl refl e refl m.1)
 
 -- the field has attributes with these two
-attributes_are : (width : Width) (field : List ℕ) (count : ℕ) (at : ℕ → Option (List ℕ)) (r u : Option MpValue) → HasForms width field count at → Optional IsMpReach (at mp_reach_nlri) r → Optional IsMpUnreach (at mp_unreach_nlri) u
+attributes_are : (width : Width) (field : List ℕ) (count : ℕ) (r u : Option MpValue) (h : HasForms width field count) → Optional IsMpReach (value_of mp_reach_nlri h.parts) r → Optional IsMpUnreach (value_of mp_unreach_nlri h.parts) u
     → (read : AttrsReadValue) × AreAttributes width field read × (read.reach ≡ r) × (read.unreach ≡ u) × (read.count ≡ count)
-attributes_are width field count at r u h rs us =
+attributes_are width field count r u h rs us =
     let parts = h.parts in
     let value : ℕ → Option (List ℕ) = λ code. value_of code parts in
     let origins = optional_there (IsNumber 1) (λ v. length v ≡ 1) (number_there 1) (value origin) (fits_at width origin parts h.forms) in
@@ -228,8 +227,8 @@ attributes_are width field count at r u h rs us =
         pref_is = prefs.1;
         atomic_is = atomics.1;
         communities_are = lists.1;
-        reach_is = subst (λ (o : Option (List ℕ)). Optional IsMpReach o r) (h.values_are mp_reach_nlri (omega arith)) rs;
-        unreach_is = subst (λ (o : Option (List ℕ)). Optional IsMpUnreach o u) (h.values_are mp_unreach_nlri (omega arith)) us;
+        reach_is = rs;
+        unreach_is = us;
         stated = s.stated;
         as_path_is = s.as_path_is;
         aggregator_is = s.aggregator_is;
@@ -244,24 +243,26 @@ attributes_are width field count at r u h rs us =
       sym h.count_is,
     )
 
-pub judged_are : (width : Width) (field : List ℕ) (judged : Judged) → HasForms width field judged.count (value_at judged.values) → Optional IsMpReach (value_at judged.values mp_reach_nlri) (option_map mp_value judged.reach)
-    → Optional IsMpUnreach (value_at judged.values mp_unreach_nlri) (option_map mp_value judged.unreach) → IsJudged width field judged
-judged_are width field judged h rs us =
-    let q = attributes_are width field judged.count (value_at judged.values) (option_map mp_value judged.reach) (option_map mp_value judged.unreach) h rs us in
-    record { read = q.0; are = q.1; reach_is = q.2; unreach_is = q.3; count_is = q.4; forms = h }
+pub judged_are : (width : Width) (field : List ℕ) (judged : Judged) (reach unreach : Option (List ℕ)) → IsFound width field judged.count reach unreach → Optional IsMpReach reach (option_map mp_value judged.reach)
+    → Optional IsMpUnreach unreach (option_map mp_value judged.unreach) → IsJudged width field judged
+judged_are width field judged reach unreach f rs us =
+    let q = attributes_are width field judged.count (option_map mp_value judged.reach) (option_map mp_value judged.unreach) f.forms
+    (subst (λ (o : Option (List ℕ)). Optional IsMpReach o (option_map mp_value judged.reach)) f.reach_is rs)
+    (subst (λ (o : Option (List ℕ)). Optional IsMpUnreach o (option_map mp_value judged.unreach)) f.unreach_is us) in
+    record { read = q.0; are = q.1; reach_is = q.2; unreach_is = q.3; count_is = q.4; forms = f.forms }
 
 -- A value that has no value of the form of MP_REACH_NLRI or MP_UNREACH_NLRI.
 
-pub same_value : (width : Width) (field : List ℕ) (count : ℕ) (at : ℕ → Option (List ℕ)) (h : HasForms width field count at) (read : AttrsReadValue) (p : AreAttributes width field read) (code : ℕ) → code ≤ as4_aggregator → value_of code p.parts ≡ at code
-same_value width field count at h read p code le = ap (λ (l : List OtherValue). value_of code l) (AreParts-one IsAttribute attribute_code field p.parts h.parts p.are h.are) ∙ sym (h.values_are code le)
+pub same_value : (width : Width) (field : List ℕ) (count : ℕ) (h : HasForms width field count) (read : AttrsReadValue) (p : AreAttributes width field read) (code : ℕ) → value_of code p.parts ≡ value_of code h.parts
+same_value width field count h read p code = ap (λ (l : List OtherValue). value_of code l) (AreParts-one IsAttribute attribute_code field p.parts h.parts p.are h.are)
 
-pub reach_broken : (width : Width) (field : List ℕ) (count : ℕ) (at : ℕ → Option (List ℕ)) → HasForms width field count at → ((m : Option MpValue) → Optional IsMpReach (at mp_reach_nlri) m → ⊥) → (read : AttrsReadValue) → AreAttributes width field read → ⊥
-reach_broken width field count at h none read p =
-    none read.reach (subst (λ (o : Option (List ℕ)). Optional IsMpReach o read.reach) (same_value width field count at h read p mp_reach_nlri (omega arith)) p.reach_is)
+pub reach_broken : (width : Width) (field : List ℕ) (count : ℕ) (reach unreach : Option (List ℕ)) → IsFound width field count reach unreach → ((m : Option MpValue) → Optional IsMpReach reach m → ⊥) → (read : AttrsReadValue) → AreAttributes width field read → ⊥
+reach_broken width field count reach unreach f none read p =
+    none read.reach (subst (λ (o : Option (List ℕ)). Optional IsMpReach o read.reach) (same_value width field count f.forms read p mp_reach_nlri ∙ sym f.reach_is) p.reach_is)
 
-pub unreach_broken : (width : Width) (field : List ℕ) (count : ℕ) (at : ℕ → Option (List ℕ)) → HasForms width field count at → ((m : Option MpValue) → Optional IsMpUnreach (at mp_unreach_nlri) m → ⊥) → (read : AttrsReadValue) → AreAttributes width field read → ⊥
-unreach_broken width field count at h none read p =
-    none read.unreach (subst (λ (o : Option (List ℕ)). Optional IsMpUnreach o read.unreach) (same_value width field count at h read p mp_unreach_nlri (omega arith)) p.unreach_is)
+pub unreach_broken : (width : Width) (field : List ℕ) (count : ℕ) (reach unreach : Option (List ℕ)) → IsFound width field count reach unreach → ((m : Option MpValue) → Optional IsMpUnreach unreach m → ⊥) → (read : AttrsReadValue) → AreAttributes width field read → ⊥
+unreach_broken width field count reach unreach f none read p =
+    none read.unreach (subst (λ (o : Option (List ℕ)). Optional IsMpUnreach o read.unreach) (same_value width field count f.forms read p mp_unreach_nlri ∙ sym f.unreach_is) p.unreach_is)
 
 -- attributes of the other types have any octets
 pub other_form : (width : Width) (code : ℕ) (value : List ℕ) → (code ≡ origin → ⊥) → (code ≡ as_path → ⊥) → (code ≡ next_hop → ⊥) → (code ≡ multi_exit_disc → ⊥) → (code ≡ local_pref → ⊥) → (code ≡ atomic_aggregate → ⊥)

@@ -1,6 +1,8 @@
 -- The attributes that are made of what judging found.
-use Rattle.std.proofs.Common.{◌≡◌, ◌≤◌, ◌+◌, ℕ, List, length, Option, sym, subst, ◌∙◌, arith}
-use Rattle.std.specs.Prelude.{IfSome}
+use Rattle.std.proofs.Common.{◌≡◌, ◌≤◌, ◌+◌, ℕ, List, length, map, Option, sym, subst, ◌∙◌, arith}
+use Rattle.std.specs.Borrow.{Bor}
+use Rattle.std.specs.List.{IsDistinct}
+use Rattle.std.specs.Prelude.{◌==◌, IfSome}
 use Rattle.std.specs.Option.{option_map}
 use Rattle.std.proofs.lemmas.Option.{IfSome_then}
 use Rattle.bmp_specs.specs.declared.wire.Width.{Width}
@@ -19,23 +21,26 @@ use Rattle.path_attrs.specs.Kept.{kept_of}
 use Rattle.path_attrs.specs.declared.judge.Judged.{Judged}
 use Rattle.path_attrs.proofs.Judging.{fits_at, same_value}
 
-module _ (width : Width) (field : List ℕ) (judged : Judged) (j : IsJudged width field judged) where
-  -- the value that was found at a type has the form of the type
-  pub form_found : (code : ℕ) → code ≤ as4_aggregator → IfSome (value_at judged.values code) (λ value. FitsType width code value)
-  form_found code le = subst (λ (o : Option (List ℕ)). IfSome o (λ value. FitsType width code value)) (sym (j.forms.values_are code le)) (fits_at width code j.forms.parts j.forms.forms)
+module _ (width : Width) (field : List ℕ) (judged : Judged) (j : IsJudged width field judged) (values : List (Option (Bor (List ℕ))))
+    (gathered : (parts : List OtherValue) → AreParts IsAttribute field parts → IsDistinct (λ j k. j == k) (map (λ a. a.code) parts) → (code : ℕ) → code ≤ as4_aggregator → value_at values code ≡ value_of code parts) where
+  at : (code : ℕ) → code ≤ as4_aggregator → value_at values code ≡ value_of code j.forms.parts
+  at = gathered j.forms.parts j.forms.are j.forms.distinct
 
-  pub aggregator_long : IfSome (value_at judged.values aggregator) (λ value. length value ≡ as_width width + 4)
-  aggregator_long = IfSome_then (value_at judged.values aggregator) (form_found aggregator (omega arith)) (λ value q. q.1.len)
+  -- the value that was found at a type has the form of the type
+  pub form_found : (code : ℕ) → code ≤ as4_aggregator → IfSome (value_at values code) (λ value. FitsType width code value)
+  form_found code le = subst (λ (o : Option (List ℕ)). IfSome o (λ value. FitsType width code value)) (sym (at code le)) (fits_at width code j.forms.parts j.forms.forms)
+
+  pub aggregator_long : IfSome (value_at values aggregator) (λ value. length value ≡ as_width width + 4)
+  aggregator_long = IfSome_then (value_at values aggregator) (form_found aggregator (omega arith)) (λ value q. q.1.len)
 
   -- they are the attributes of the field, where each is made of the value at its type
-  pub made_are : (read : AttrsReadValue) → Optional (IsNumber 1) (value_at judged.values origin) read.attrs.origin → Optional (IsField 4) (value_at judged.values next_hop) read.attrs.hop
-      → Optional (IsNumber 4) (value_at judged.values multi_exit_disc) read.attrs.med → Optional (IsNumber 4) (value_at judged.values local_pref) read.attrs.pref → IsAtomic (value_at judged.values atomic_aggregate) read.attrs.atomic
-      → AreCommunities (value_at judged.values communities) read.attrs.communities → StatesAs width (value_at judged.values) read.attrs.aggregator read.attrs.path
+  pub made_are : (read : AttrsReadValue) → Optional (IsNumber 1) (value_at values origin) read.attrs.origin → Optional (IsField 4) (value_at values next_hop) read.attrs.hop
+      → Optional (IsNumber 4) (value_at values multi_exit_disc) read.attrs.med → Optional (IsNumber 4) (value_at values local_pref) read.attrs.pref → IsAtomic (value_at values atomic_aggregate) read.attrs.atomic
+      → AreCommunities (value_at values communities) read.attrs.communities → StatesAs width (value_at values) read.attrs.aggregator read.attrs.path
       → ((parts : List OtherValue) → AreParts IsAttribute field parts → read.attrs.others ≡ kept_of parts)
       → read.reach ≡ option_map mp_value judged.reach → read.unreach ≡ option_map mp_value judged.unreach → read.count ≡ judged.count → AreAttributes width field read
   made_are read is_origin is_hop is_med is_pref is_atomic are_communities s others reach unreach count =
       let h = j.forms in
-      let at : (code : ℕ) → code ≤ as4_aggregator → value_at judged.values code ≡ value_of code h.parts = h.values_are in
       record {
         parts = h.parts;
         are = h.are;
@@ -48,10 +53,10 @@ module _ (width : Width) (field : List ℕ) (judged : Judged) (j : IsJudged widt
         communities_are = subst (λ (o : Option (List ℕ)). AreCommunities o read.attrs.communities) (at communities (omega arith)) are_communities;
         reach_is =
             subst (λ (m : Option MpValue). Optional IsMpReach (value_of mp_reach_nlri h.parts) m) (j.reach_is ∙ sym reach)
-            (subst (λ (o : Option (List ℕ)). Optional IsMpReach o j.read.reach) (same_value width field judged.count (value_at judged.values) h j.read j.are mp_reach_nlri (omega arith) ∙ at mp_reach_nlri (omega arith)) j.are.reach_is);
+            (subst (λ (o : Option (List ℕ)). Optional IsMpReach o j.read.reach) (same_value width field judged.count h j.read j.are mp_reach_nlri) j.are.reach_is);
         unreach_is =
             subst (λ (m : Option MpValue). Optional IsMpUnreach (value_of mp_unreach_nlri h.parts) m) (j.unreach_is ∙ sym unreach)
-            (subst (λ (o : Option (List ℕ)). Optional IsMpUnreach o j.read.unreach) (same_value width field judged.count (value_at judged.values) h j.read j.are mp_unreach_nlri (omega arith) ∙ at mp_unreach_nlri (omega arith)) j.are.unreach_is);
+            (subst (λ (o : Option (List ℕ)). Optional IsMpUnreach o j.read.unreach) (same_value width field judged.count h j.read j.are mp_unreach_nlri) j.are.unreach_is);
         stated = s.stated;
         as_path_is = subst (λ (o : Option (List ℕ)). Optional (ArePath width) o s.stated.as_path) (at as_path (omega arith)) s.as_path_is;
         aggregator_is = subst (λ (o : Option (List ℕ)). Optional (IsAggregator width) o s.stated.aggregator) (at aggregator (omega arith)) s.aggregator_is;

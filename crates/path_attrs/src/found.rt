@@ -1,23 +1,23 @@
-ghost use Rattle.std.specs.Prelude.{◌↔◌, IsTrue, IfSome, IfNone};
+ghost use Rattle.std.specs.Prelude.{◌↔◌, IsTrue, IfSome, IfNone, option_copied};
 ghost use Rattle.bmp_specs.specs.Attributes.{AreAttributes};
 ghost use Rattle.bmp_specs.specs.Values.{AttrsReadValue};
-ghost use Rattle.path_attrs.specs.Field.{value_at};
-ghost use Rattle.path_attrs.specs.Judged.{FitsType, HasForms};
+ghost use Rattle.path_attrs.specs.Judged.{FitsType, IsFound};
 
 use crate::as_info::width_bytes;
 use crate::codes::{
-    AGGREGATOR, AS_PATH, ATOMIC_AGGREGATE, COMMUNITIES, LOCAL_PREF, MULTI_EXIT_DISC, NEXT_HOP,
-    ORIGIN, PLACES,
+    AGGREGATOR, AS_PATH, ATOMIC_AGGREGATE, COMMUNITIES, LOCAL_PREF, MP_REACH_NLRI, MP_UNREACH_NLRI,
+    MULTI_EXIT_DISC, NEXT_HOP, ORIGIN,
 };
 use crate::part::read_part;
 use as_path::{AsPath, Width};
 
-// What one pass over the attributes of a field finds: how many they are, and the value of each type below `PLACES`,
-// at its type, where the field has an attribute of it.
+// What judging the attributes of a field finds: how many they are, and the values of MP_REACH_NLRI and
+// MP_UNREACH_NLRI, where it has them.
 #[derive(Clone, Copy)]
 pub(crate) struct Found<'a> {
     pub(crate) count: u32,
-    pub(crate) values: [Option<&'a [u8]>; PLACES],
+    pub(crate) reach: Option<&'a [u8]>,
+    pub(crate) unreach: Option<&'a [u8]>,
 }
 
 // Whether the value has the form of its type. Any value has that of MP_REACH_NLRI and MP_UNREACH_NLRI here, whose
@@ -39,13 +39,14 @@ fn has_form(code: u8, value: &[u8], width: Width) -> bool
 
 // Reads the header of each attribute of the field, once (RFC 4271, section 4.3), and tests the form of its value.
 // `None` only where the field has no value in the grammar.
-pub(crate) fn find_values(field: &[u8], width: Width) -> Option<Found<'_>>
-    ensures some { IfSome result (λ f. HasForms width field.now f.count (value_at f.values)) }
+pub(crate) fn find_multi(field: &[u8], width: Width) -> Option<Found<'_>>
+    ensures some { IfSome result (λ f. IsFound width field.now f.count (option_copied f.reach) (option_copied f.unreach)) }
     ensures none { IfNone result ((read : AttrsReadValue) → AreAttributes width field.now read → ⊥) }
 {
     let mut seen = [false; 256];
-    let mut values = [None; PLACES];
     let mut count = 0u32;
+    let mut reach = None;
+    let mut unreach = None;
     let mut rest = field;
     while !rest.is_empty() {
         let Some(part) = read_part(rest) else {
@@ -59,11 +60,17 @@ pub(crate) fn find_values(field: &[u8], width: Width) -> Option<Found<'_>>
             return None;
         }
         seen[code] = true;
-        if code < PLACES {
-            values[code] = Some(part.value);
+        if part.code == MP_REACH_NLRI {
+            reach = Some(part.value);
+        } else if part.code == MP_UNREACH_NLRI {
+            unreach = Some(part.value);
         }
         count += 1;
         rest = part.rest;
     }
-    Some(Found { count, values })
+    Some(Found {
+        count,
+        reach,
+        unreach,
+    })
 }

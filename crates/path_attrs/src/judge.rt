@@ -3,13 +3,12 @@ ghost use Rattle.bmp_specs.specs.Attributes.{AreAttributes};
 ghost use Rattle.bmp_specs.specs.Values.{AttrsReadValue};
 ghost use Rattle.path_attrs.specs.Judged.{IsJudged};
 
-use crate::codes::{MP_REACH_NLRI, MP_UNREACH_NLRI, PLACES};
-use crate::found::find_values;
+use crate::found::find_multi;
 use crate::mp::{MpSlice, slice_reach, slice_unreach};
 use as_path::Width;
 
 /// The attributes of an UPDATE, judged where they stand: the multiprotocol ones in the bytes of their
-/// field, and what `make_attrs` makes the others of.
+/// field, and how many there are.
 #[derive(Clone, Copy)]
 pub struct Judged<'a> {
     /// MP_REACH_NLRI (RFC 4760, section 3).
@@ -20,9 +19,6 @@ pub struct Judged<'a> {
 
     /// How many attributes the field has.
     pub count: u32,
-
-    // The value of each type below `PLACES`, at its type.
-    pub(crate) values: [Option<&'a [u8]>; PLACES],
 }
 
 /// Judges the "Path Attributes" of an UPDATE message (RFC 4271, section 4.3), with AS numbers of the width,
@@ -34,19 +30,18 @@ pub fn judge_attrs(field: &[u8], width: Width) -> Option<Judged<'_>>
     ensures some { IfSome result (IsJudged width field.now) }
     ensures none { IfNone result ((read : AttrsReadValue) → AreAttributes width field.now read → ⊥) }
 {
-    let Some(found) = find_values(field, width) else {
+    let Some(found) = find_multi(field, width) else {
         return None;
     };
-    let Ok(reach) = slice_reach(found.values[MP_REACH_NLRI as usize]) else {
+    let Ok(reach) = slice_reach(found.reach) else {
         return None;
     };
-    let Ok(unreach) = slice_unreach(found.values[MP_UNREACH_NLRI as usize]) else {
+    let Ok(unreach) = slice_unreach(found.unreach) else {
         return None;
     };
     Some(Judged {
         reach,
         unreach,
         count: found.count,
-        values: found.values,
     })
 }

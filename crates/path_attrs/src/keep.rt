@@ -1,15 +1,16 @@
-ghost use Rattle.std.specs.Prelude.{◌≡◌, ◌++◌, ◌==◌, List, map, filter, not, [], ◌∷◌, IfOk, OnOk};
-ghost use Rattle.std.specs.List.{list_any};
+ghost use Rattle.std.specs.Prelude.{◌≡◌, ◌≤◌, ◌++◌, ◌==◌, ℕ, List, map, [], ◌∷◌, IfOk, OnOk};
+ghost use Rattle.std.specs.List.{IsDistinct, list_any};
 ghost use Rattle.bmp_specs.specs.Attribute.{IsAttribute};
-ghost use Rattle.bmp_specs.specs.Attributes.{is_read, kept, read_types};
+ghost use Rattle.bmp_specs.specs.Attributes.{as4_aggregator, read_types, value_of};
 ghost use Rattle.bmp_specs.specs.Parts.{AreParts};
 ghost use Rattle.bmp_specs.specs.Values.{OtherValue};
+ghost use Rattle.path_attrs.specs.Field.{value_at};
 ghost use Rattle.path_attrs.specs.Kept.{kept_of};
 
 use crate::bytes::bytes_of;
 use crate::codes::{
     AGGREGATOR, AS_PATH, AS4_AGGREGATOR, AS4_PATH, ATOMIC_AGGREGATE, COMMUNITIES, LOCAL_PREF,
-    MP_REACH_NLRI, MP_UNREACH_NLRI, MULTI_EXIT_DISC, NEXT_HOP, ORIGIN,
+    MP_REACH_NLRI, MP_UNREACH_NLRI, MULTI_EXIT_DISC, NEXT_HOP, ORIGIN, PLACES,
 };
 use crate::others::{Other, OtherList};
 use crate::part::{EXTENDED_LENGTH, Part, read_part};
@@ -58,15 +59,29 @@ fn keep(alloc: Global, others: &mut OtherList, part: &Part<'_>) -> Result<(), No
     Ok(())
 }
 
-// The field's attributes of all types that aren't read, in order.
-pub(crate) fn make_others(alloc: Global, field: &[u8]) -> Result<OtherList, NoMemory>
-    ensures { IfOk result (λ others. (parts : List OtherValue) → AreParts IsAttribute field.now parts → others ≡ kept_of parts) }
+// What attributes are made of: the value of each type below `PLACES`, at its type, where the field has an attribute of
+// it, and the field's attributes of all types that aren't read, in order.
+#[derive(Drop)]
+pub(crate) struct Gathered<'a> {
+    pub(crate) values: [Option<&'a [u8]>; PLACES],
+    pub(crate) others: OtherList,
+}
+
+// Reads the header of each attribute of the field, once.
+pub(crate) fn gather(alloc: Global, field: &[u8]) -> Result<Gathered<'_>, NoMemory>
+    ensures values { IfOk result (λ g. (parts : List OtherValue) → AreParts IsAttribute field.now parts → IsDistinct (λ j k. j == k) (map (λ a. a.code) parts) → (code : ℕ) → code ≤ as4_aggregator → value_at g.values code ≡ value_of code parts) }
+    ensures others { IfOk result (λ g. (parts : List OtherValue) → AreParts IsAttribute field.now parts → g.others ≡ kept_of parts) }
 {
+    let mut values = [None; PLACES];
     let mut others = OtherList::new(alloc);
     let mut rest = field;
     while let Some(part) = read_part(rest) {
+        let code = part.code as usize;
+        if code < PLACES {
+            values[code] = Some(part.value);
+        }
         keep(alloc, &mut others, &part)?;
         rest = part.rest;
     }
-    Ok(others)
+    Ok(Gathered { values, others })
 }

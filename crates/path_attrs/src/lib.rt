@@ -9,8 +9,8 @@
 //! 1997). It makes none, and lends what it found. `make_attrs` makes the attributes of what was found, and
 //! `read_attrs` judges and makes. In two-octet form AS4_PATH and AS4_AGGREGATOR are put back (RFC 6793,
 //! section 4.2.3). A copy of attributes is equal to them. The words are in `bmp_specs`,
-//! `specs/Attributes.antt` and `specs/FourOctetAs.antt`. Begin with `src/judge.rt`; `src/found.rt` finds
-//! the value of each type and tests its form in one pass, and `src/read.rt` makes the values.
+//! `specs/Attributes.antt` and `specs/FourOctetAs.antt`. Begin with `src/judge.rt`; `src/found.rt` tests
+//! the form of each value in one pass, `src/keep.rt` gathers them, and `src/read.rt` makes the attributes.
 #![tactic(auto)]
 
 mod as4;

@@ -7,7 +7,7 @@ use crate::as_info::make_as_info;
 use crate::attrs::Attrs;
 use crate::codes::{ATOMIC_AGGREGATE, COMMUNITIES, LOCAL_PREF, MULTI_EXIT_DISC, NEXT_HOP, ORIGIN};
 use crate::judge::{Judged, judge_attrs};
-use crate::keep::make_others;
+use crate::keep::{Gathered, gather};
 use crate::mp::{MpPart, make_part};
 use crate::values::{is_there, make_communities, make_hop, number, octet};
 use as_path::Width;
@@ -39,8 +39,8 @@ impl Model for AttrsRead {
     ghost view = { λ r. record { attrs = r.attrs; reach = r.reach; unreach = r.unreach; count = r.count } };
 }
 
-/// Makes the attributes of a field that was judged. It tests nothing again, and reads the headers once more
-/// to keep the attributes of other types. Time and memory are linear in the field.
+/// Makes the attributes of a field that was judged. It tests nothing again, and reads each header once more
+/// to find the values. Time and memory are linear in the field.
 pub fn make_attrs(
     alloc: Global,
     field: &[u8],
@@ -50,13 +50,12 @@ pub fn make_attrs(
     requires { IsJudged width field.now judged.now }
     ensures { IfOk result (AreAttributes width field.now) }
 {
-    let values = &judged.values;
+    let Gathered { values, others } = gather(alloc, field)?;
     let hop = make_hop(alloc, values[NEXT_HOP as usize])?;
     let communities = make_communities(alloc, values[COMMUNITIES as usize])?;
-    let info = make_as_info(alloc, values, width)?;
+    let info = make_as_info(alloc, &values, width)?;
     let reach = make_part(alloc, &judged.reach)?;
     let unreach = make_part(alloc, &judged.unreach)?;
-    let others = make_others(alloc, field)?;
     let attrs = Attrs {
         origin: octet(values[ORIGIN as usize]),
         path: info.path,
