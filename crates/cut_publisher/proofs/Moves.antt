@@ -1,5 +1,5 @@
 -- Each step of the cell keeps its rule.
-use Rattle.std.proofs.Common.{◌≡◌, ◌≢◌, ℕ, List, [], ◌∷◌, ◌++◌, set, length, refl, sym, ap, ◌∙◌, subst, ⊎_elim}
+use Rattle.std.proofs.Common.{◌≡◌, ◌≢◌, ℕ, List, [], ◌∷◌, ◌++◌, set, length, refl, sym, ap, ◌∙◌, subst, ⊎_elim, inl, inr}
 use mathlib.Core.Option.{some}
 use lib.ListN.{get_elem?}
 use Rattle.left_right.specs.Register.{Admits, Turns, TurnsAt, Forks, Merges}
@@ -15,7 +15,7 @@ use Rattle.cut_publisher.specs.declared.history.Step.{Step}
 use Rattle.cut_publisher.specs.History.{Site, told}
 use Rattle.cut_publisher.specs.Cuts.{Stands}
 use Rattle.cut_publisher.specs.Logs.{IsLog, IsOpen}
-use Rattle.cut_publisher.specs.Rule.{Ends, Entered, Good, IsAlike, IsLive, Keeps, named, nobody, site_at, site_of}
+use Rattle.cut_publisher.specs.Rule.{Ends, Entered, Good, IsAlike, IsLive, IsReady, Keeps, named, nobody, site_at, site_of}
 
 abbrev pub State : Type 0 → Type 0 → Type 0
 State S E = List (S × ℕ) × Seen (Step E) ℕ LogRule × ℕ
@@ -106,6 +106,12 @@ module _ {S E : Type 0} (stands : S → List E → Type 0) where
   rests seat v x y pending live none is =
       let e = same_shown x y pending none is in
       passes seat v x y (live_alike x y (alike_back y x e) live) (alike_site y x e)
+
+  -- what waits last is shown, or the same again
+  pub ready : (seat : ℕ) (v : Known) (x y : Shown S E) (pending : List (Shown S E)) → IsReady stands x pending → state_of y ≡ fold applied (state_of x) pending
+      → TurnsAt (Keeps stands) seat v x y (λ v x y w. w ≡ v)
+  ready seat v x y pending (inl ends) is = turns seat v x y pending ends is
+  ready seat v x y pending (inr idle) is = rests seat v x y pending idle.0 idle.1 is
 
   -- the same with nothing pending, and the writer then knows the station
   pub names : (seat : ℕ) (v : Known) (x y : Shown S E) (pending : List (Shown S E)) → IsLive stands x → pending ≡ [] → state_of y ≡ fold applied (state_of x) pending

@@ -1,5 +1,5 @@
 -- The rule of the cell, and what its steps tell.
-use Rattle.std.specs.Prelude.{◌≡◌, ℕ, List, [], ◌∷◌, ◌++◌, length, true, false, Option, Some, None}
+use Rattle.std.specs.Prelude.{◌≡◌, ◌⊎◌, ℕ, List, [], ◌∷◌, ◌++◌, length, true, false, Option, Some, None}
 use Rattle.left_right.specs.declared.reader.Reader.{Reader}
 use Rattle.std.specs.Arc.{arc_value}
 use mathlib.Core.Option.{some}
@@ -67,6 +67,10 @@ module _ {S E : Type 0} (stands : S → List E → Type 0) where
   -- what is shown is live, and nothing waits to be shown
   abbrev pub IsIdle : Shown S E → List (Shown S E) → Type 0
   IsIdle x pending = IsLive x × (pending ≡ [])
+
+  -- what a turn shows is live, and of the station of what is shown: the last that waits, or the same again
+  abbrev pub IsReady : Shown S E → List (Shown S E) → Type 0
+  IsReady x pending = Ends (site_of x) pending ⊎ IsIdle x pending
 
   -- what lies under the lock is of this station, no mark stands in its log, and the cell shows it
   pub record IsDesk (b : Site) (head : Named) (cell : Shown S E → Type 0) (shown : Shown S E) : Type 0 where

@@ -1,7 +1,7 @@
 //! How the cell's writer shows a cut: in both copies, one after the other.
 ghost use Rattle.std.specs.Prelude.{◌≡◌, List, ◌∷◌, ◌++◌, [], drop};
 ghost use Rattle.cut_publisher.specs.declared.cell.Shown.{Shown};
-ghost use Rattle.cut_publisher.specs.Rule.{Ends, IsAlike, IsIdle, IsLive, site_of};
+ghost use Rattle.cut_publisher.specs.Rule.{IsAlike, IsIdle, IsLive, IsReady, site_of};
 
 use crate::cell::{CellWriter, Passes, Shown};
 use crate::subject::Subject;
@@ -34,27 +34,13 @@ fn queue<S: Subject + Drop, R: Wait>(rt: &R, writer: &mut CellWriter<S>, shown: 
     unreachable!()
 }
 
-// Shows what was queued last. It waits for the askers that are inside the other copy.
+// Shows what was queued last, or in the other copy the same again where nothing was. It waits for the askers that are
+// inside that copy.
 fn turn<S: Subject + Drop, R: Wait>(rt: &R, writer: CellWriter<S>) -> CellWriter<S>
-    requires { Ends S.stands (site_of writer.desk.shown.value) (drop writer.behind writer.log.items) }
+    requires { IsReady S.stands writer.desk.shown.value (drop writer.behind writer.log.items) }
     ensures shown { (before : List (Shown S S.Entry)) (x : Shown S S.Entry) → drop writer.behind writer.log.items ≡ before ++ x ∷ [] → IsAlike result.desk.shown.value x }
+    ensures again { drop writer.behind writer.log.items ≡ [] → IsAlike result.desk.shown.value writer.desk.shown.value }
     ensures idle { IsIdle S.stands result.desk.shown.value (drop result.behind result.log.items) }
-{
-    let mut writer = writer;
-    for _ in rt.forever() {
-        let (back, done) = writer.publish_as::<Passes, R>(rt);
-        writer = back;
-        if done.is_ok() {
-            return writer;
-        }
-    }
-    unreachable!()
-}
-
-// Lets the other copy show the same, so that neither holds what was shown before.
-fn settle<S: Subject + Drop, R: Wait>(rt: &R, writer: CellWriter<S>) -> CellWriter<S>
-    requires { IsIdle S.stands writer.desk.shown.value (drop writer.behind writer.log.items) }
-    ensures { IsAlike result.desk.shown.value writer.desk.shown.value }
 {
     let mut writer = writer;
     for _ in rt.forever() {
@@ -79,5 +65,5 @@ pub(crate) fn show<S: Subject + Drop, R: Wait>(
 {
     queue(rt, &mut writer, shown);
     let writer = turn(rt, writer);
-    settle(rt, writer)
+    turn(rt, writer)
 }

@@ -1,5 +1,0 @@
-use Rattle.std.proofs.Common.{◌≡◌, drop}
-use Rattle.cut_publisher.proofs.turning.settle.Given as goal
-
-abbrev pub invariant-loop : goal.invariant-loop
-invariant-loop g l = (l.writer.desk.shown.value ≡ l.initial.writer.desk.shown.value) × (drop l.writer.behind l.writer.log.items ≡ drop l.initial.writer.behind l.initial.writer.log.items)
