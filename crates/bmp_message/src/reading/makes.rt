@@ -1,10 +1,10 @@
-ghost use Rattle.std.specs.Prelude.{◌≡◌, ⊤, List, [], ◌∷◌, IfOk, IsErr, IsErrOf, IsOkAnd, MatchResult, Err};
+ghost use Rattle.std.specs.Prelude.{◌≡◌, ⊤, List, IfOk, IsErr, IsErrOf, IsOkAnd, MatchResult, Err};
 ghost use Rattle.bmp_specs.specs.MessageBody.{IsRouteMonitoring};
 ghost use Rattle.bmp_specs.specs.MessageEffects.{effects_of};
 ghost use Rattle.bmp_specs.specs.PeerHeader.{view_of};
 ghost use Rattle.bmp_specs.specs.Values.{EffectValue, UpdateValue, routes as routes_of};
 ghost use Rattle.bmp_message.specs.State.{opens_of};
-ghost use Rattle.rib_model.specs.Effects.{effect_value, effect_values};
+ghost use Rattle.rib_model.specs.Effects.{effect_values, item_values};
 
 use crate::{effects, routes};
 use bgp_open::PeerInfo;
@@ -26,7 +26,7 @@ pub(crate) trait Makes {
 
     // Makes it of one effect.
     fn only(alloc: Global, effect: Effect) -> Result<Self::Made, NoMemory>
-        ensures ok { IfOk result (λ made. is_of made (effect_value effect ∷ [])) }
+        ensures ok { IfOk result (λ made. is_of made (item_values effect)) }
         ensures wants { IsErr result → wants };
 
     // Makes it of the list of the effects.
