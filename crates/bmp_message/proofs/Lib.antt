@@ -3,3 +3,4 @@ pub mod UpdateOf
 pub mod Meanings
 pub mod Reaching
 pub mod Judging
+pub mod Making

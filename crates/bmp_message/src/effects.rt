@@ -1,30 +1,36 @@
-ghost use Rattle.std.specs.Prelude.{◌≡◌, ◌≤◌, [], ◌∷◌, ◌++◌, map, OnOk, IfOk};
+ghost use Rattle.std.specs.Prelude.{◌≡◌, ◌≤◌, [], ◌++◌, map, OnOk, IfOk};
 ghost use Rattle.std.specs.Arc.{arc_value};
 ghost use Rattle.std.specs.Option.{option_copied};
-ghost use Rattle.rib_model.specs.Effects.{effect_value, effect_values};
+ghost use Rattle.rib_model.specs.Effects.{effect_values, item_values};
 ghost use Rattle.bmp_specs.specs.MessageEffects.{effect_of, unread_effect};
 ghost use Rattle.bmp_specs.specs.Values.{announce, mark, statistic, withdraw};
 
+use bgp_update::NlriList;
 use bmp_frames::PeerKey;
 use bmp_specs::{Family, View};
-use ip_prefix::Nlri;
-use path_attrs::Attrs;
-use rib_model::{Effect, EffectList};
+use rib_model::{Effect, EffectList, Route};
 use std::alloc::Global;
-use std::sync::Arc;
 use wire_io::NoMemory;
 use wire_tables::Stat;
 
+// Appends an effect, or those on many routes.
+pub(crate) fn add(effects: &mut EffectList, effect: Effect) -> Result<(), NoMemory>
+    ensures { OnOk result (effect_values effects.new ≡ effect_values effects.old ++ item_values effect) }
+{
+    effects.push(effect)?;
+    Ok(())
+}
+
 // The list of one effect.
 pub(crate) fn only(alloc: Global, effect: Effect) -> Result<EffectList, NoMemory>
-    ensures { IfOk result (λ effects. effect_values effects ≡ effect_value effect ∷ []) }
+    ensures { IfOk result (λ effects. effect_values effects ≡ item_values effect) }
 {
     let mut effects = EffectList::with_capacity(alloc, 1)?;
-    effects.push(effect)?;
+    add(&mut effects, effect)?;
     Ok(effects)
 }
 
-// How many effects a part has that may be there.
+// How many items of an effect list a part takes that may be there.
 pub(crate) fn one_if(there: bool) -> usize
     ensures { result ≤ 1 }
 {
@@ -38,49 +44,50 @@ pub(crate) fn add_unread(effects: &mut EffectList, unread: u32) -> Result<(), No
     if unread == 0 {
         return Ok(());
     }
-    effects.push(Effect::Unread(unread))?;
-    Ok(())
+    add(effects, Effect::Unread(unread))
 }
 
-// Appends the withdrawals of these prefixes.
+// Appends the withdrawals of these prefixes, where there are any, as one item.
 pub(crate) fn add_withdrawals(
     effects: &mut EffectList,
     key: &PeerKey,
     view: View,
-    prefixes: &[Nlri],
+    nlris: NlriList,
 ) -> Result<(), NoMemory>
-    ensures { OnOk result (effect_values effects.new ≡ effect_values effects.old ++ map (λ n. withdraw key.now view n) prefixes.now) }
+    ensures effects { OnOk result (effect_values effects.new ≡ effect_values effects.old ++ map (λ n. withdraw key.now view n) nlris) }
+    ensures none { nlris ≡ [] → effects.new ≡ effects.old }
 {
-    for nlri in prefixes {
-        effects.push(Effect::Withdraw {
-            key: *key,
-            view,
-            nlri: *nlri,
-        })?;
+    if nlris.as_slice().is_empty() {
+        return Ok(());
     }
-    Ok(())
+    let key = *key;
+    add(effects, Effect::Withdraw { key, view, nlris })
 }
 
-// Appends the announcements of these prefixes, which share the attributes.
+// Appends the announcements of these prefixes, where there are any, as one item with the attributes.
 pub(crate) fn add_announcements(
     effects: &mut EffectList,
     key: &PeerKey,
     view: View,
-    prefixes: &[Nlri],
-    attrs: &Arc<Attrs>,
+    nlris: NlriList,
+    route: Route,
 ) -> Result<(), NoMemory>
-    ensures { OnOk result (effect_values effects.new ≡ effect_values effects.old ++ map (λ n. announce key.now view n (arc_value attrs.now)) prefixes.now) }
+    ensures effects { OnOk result (effect_values effects.new ≡ effect_values effects.old ++ map (λ n. announce key.now view n (arc_value route)) nlris) }
+    ensures none { nlris ≡ [] → effects.new ≡ effects.old }
 {
-    for nlri in prefixes {
-        let route = Arc::try_clone(attrs)?;
-        effects.push(Effect::Announce {
-            key: *key,
-            view,
-            nlri: *nlri,
-            route,
-        })?;
+    if nlris.as_slice().is_empty() {
+        return Ok(());
     }
-    Ok(())
+    let key = *key;
+    add(
+        effects,
+        Effect::Announce {
+            key,
+            view,
+            nlris,
+            route,
+        },
+    )
 }
 
 // Appends the End-of-RIB marker of the family, where there is one.
@@ -93,11 +100,8 @@ pub(crate) fn add_mark(
     ensures { OnOk result (effect_values effects.new ≡ effect_values effects.old ++ effect_of (λ f. mark key.now view f) family) }
 {
     if let Some(family) = family {
-        effects.push(Effect::Mark {
-            key: *key,
-            view,
-            family,
-        })?;
+        let key = *key;
+        add(effects, Effect::Mark { key, view, family })?;
     }
     Ok(())
 }
@@ -111,10 +115,11 @@ pub(crate) fn add_statistics(
     ensures { OnOk result (effect_values effects.new ≡ effect_values effects.old ++ map (λ s. statistic key.now s) stats.now) }
 {
     for stat in stats {
-        effects.push(Effect::Statistic {
+        let effect = Effect::Statistic {
             key: *key,
             stat: *stat,
-        })?;
+        };
+        add(effects, effect)?;
     }
     Ok(())
 }

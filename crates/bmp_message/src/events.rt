@@ -10,7 +10,7 @@ ghost use Rattle.bmp_specs.specs.Values.{DownInfoValue, InitiationValue, Statist
 ghost use Rattle.peer_events.specs.Body.{most_body};
 ghost use Rattle.rib_model.specs.Effects.{effect_values};
 
-use crate::effects::{add_statistics, add_unread, one_if, only};
+use crate::effects::{add, add_statistics, add_unread, one_if, only};
 use bgp_open::PeerInfo;
 use bmp_frames::PeerKey;
 use peer_events::{
@@ -26,7 +26,7 @@ fn add_name(effects: &mut EffectList, name: Option<ByteList>) -> Result<(), NoMe
     ensures { OnOk result (effect_values effects.new ≡ effect_values effects.old ++ effect_of named name) }
 {
     if let Some(name) = name {
-        effects.push(Effect::Name(name))?;
+        add(effects, Effect::Name(name))?;
     }
     Ok(())
 }
@@ -36,7 +36,7 @@ fn add_description(effects: &mut EffectList, descr: Option<ByteList>) -> Result<
     ensures { OnOk result (effect_values effects.new ≡ effect_values effects.old ++ effect_of described descr) }
 {
     if let Some(descr) = descr {
-        effects.push(Effect::Descr(descr))?;
+        add(effects, Effect::Descr(descr))?;
     }
     Ok(())
 }
@@ -96,7 +96,7 @@ pub(crate) fn peer_up(
 {
     let mut effects = EffectList::with_capacity(alloc, 1 + one_if(unread > 0))?;
     let info = Arc::try_clone(info)?;
-    effects.push(Effect::Up { key: *key, info })?;
+    add(&mut effects, Effect::Up { key: *key, info })?;
     add_unread(&mut effects, unread)?;
     Ok(effects)
 }
@@ -126,7 +126,7 @@ pub(crate) fn mirroring(alloc: Global, rest: &[u8]) -> Result<EffectList, BodyFa
         return Err(BodyFault::Broken);
     };
     let mut effects = EffectList::with_capacity(alloc, 1 + one_if(unread > 0))?;
-    effects.push(Effect::Mirrored)?;
+    add(&mut effects, Effect::Mirrored)?;
     add_unread(&mut effects, unread)?;
     Ok(effects)
 }

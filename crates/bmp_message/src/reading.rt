@@ -5,19 +5,21 @@ ghost use Rattle.bmp_specs.specs.MessageEffects.{HasViewOfKey, IsMessageEntry};
 ghost use Rattle.bmp_specs.specs.PeerHeader.{HeaderValue};
 ghost use Rattle.bmp_specs.specs.Session.{effects_in};
 ghost use Rattle.bmp_message.specs.State.{reading_state};
-ghost use Rattle.bmp_message.specs.Effects.{HasEffects, MeansNoEntry, MeansNothing};
+ghost use Rattle.bmp_message.specs.Effects.{HasEffects, IsMade, MeansNoEntry, MeansNothing};
 ghost use Rattle.bmp_message.specs.Types.{message_type_of, type_in};
 ghost use Rattle.peer_events.specs.Body.{most_body};
 ghost use Rattle.rib_model.specs.Entries.{entry_value};
 ghost use Rattle.rib_model.specs.Effects.{effect_values};
 
 mod judge;
+mod makes;
 
 use crate::effects::only;
+use crate::events;
 use crate::types::{MessageType, PeerMessage};
-use crate::{events, routes};
 use bgp_open::PeerInfo;
 use bmp_frames::{COMMON_HEADER, PeerHeader, PeerKey};
+use makes::{Makes, WithEffects, made_of};
 use peer_events::read_peer_up;
 use rib_model::{Effect, EffectList, Entry};
 use std::alloc::Global;
@@ -63,14 +65,20 @@ impl Reading {
     }
 
     // Route Monitoring (RFC 7854, section 4.6). Where the peer isn't up nothing of it is read.
-    fn routes(&self, head: &PeerHeader, key: &PeerKey, rest: &[u8]) -> Result<EffectList, BodyFault>
+    fn routes<M: Makes>(
+        &self,
+        head: &PeerHeader,
+        key: &PeerKey,
+        rest: &[u8],
+    ) -> Result<M::Made, BodyFault>
         requires { length rest.now ≤ most_body }
-        ensures ok { IfOk result (λ effects. HasEffects (OfPeer route_monitoring (reading_state self.now) head.now key.now rest.now) (effect_values effects) (reading_state self.now)) }
+        ensures ok { IfOk result (λ made. IsMade M.is_of (OfPeer route_monitoring (reading_state self.now) head.now key.now rest.now) made (reading_state self.now)) }
         ensures broken { IsErrOf result BodyFault.Broken → MeansNothing (OfPeer route_monitoring (reading_state self.now) head.now key.now rest.now) }
+        ensures wants { IsErrOf result BodyFault.NoMemory → M.wants }
     {
         match self.peers.get(key) {
-            Some(peer) => routes::route_monitoring(self.alloc, peer, head, key, rest),
-            None => Ok(only(self.alloc, Effect::Orphan)?),
+            Some(peer) => M::routes(self.alloc, peer, head, key, rest),
+            None => Ok(M::only(self.alloc, Effect::Orphan)?),
         }
     }
 
@@ -118,57 +126,64 @@ impl Reading {
     }
 
     // A message of a peer, from what follows its Per-Peer Header.
-    fn of_peer(
+    fn of_peer<M: Makes>(
         &mut self,
         kind: PeerMessage,
         head: &PeerHeader,
         key: &PeerKey,
         rest: &[u8],
-    ) -> Result<EffectList, BodyFault>
+    ) -> Result<M::Made, BodyFault>
         requires { length rest.now ≤ most_body }
-        ensures ok { IfOk result (λ effects. HasEffects (OfPeer (message_type_of kind) (reading_state self.old) head.now key.now rest.now) (effect_values effects) (reading_state self.new)) }
+        ensures ok { IfOk result (λ made. IsMade M.is_of (OfPeer (message_type_of kind) (reading_state self.old) head.now key.now rest.now) made (reading_state self.new)) }
         ensures broken { IsErrOf result BodyFault.Broken → MeansNothing (OfPeer (message_type_of kind) (reading_state self.old) head.now key.now rest.now) }
         ensures unchanged { OnErr result (self.new ≡ self.old) }
+        ensures wants { message_type_of kind ≡ route_monitoring → IsErrOf result BodyFault.NoMemory → M.wants }
     {
         match kind {
-            PeerMessage::RouteMonitoring => self.routes(head, key, rest),
-            PeerMessage::StatisticsReport => self.statistics(key, rest),
-            PeerMessage::PeerDown => self.peer_down(key, rest),
-            PeerMessage::PeerUp => self.peer_up(head, key, rest),
-            PeerMessage::RouteMirroring => events::mirroring(self.alloc, rest),
+            PeerMessage::RouteMonitoring => self.routes::<M>(head, key, rest),
+            PeerMessage::StatisticsReport => made_of::<M>(self.statistics(key, rest)),
+            PeerMessage::PeerDown => made_of::<M>(self.peer_down(key, rest)),
+            PeerMessage::PeerUp => made_of::<M>(self.peer_up(head, key, rest)),
+            PeerMessage::RouteMirroring => made_of::<M>(events::mirroring(self.alloc, rest)),
         }
     }
 
     // A message with a Per-Peer Header (RFC 7854, section 4.2). Of a peer type that isn't known nothing
     // else is read.
-    fn with_header(&mut self, kind: PeerMessage, body: &[u8]) -> Result<EffectList, BodyFault>
+    fn with_header<M: Makes>(
+        &mut self,
+        kind: PeerMessage,
+        body: &[u8],
+    ) -> Result<M::Made, BodyFault>
         requires { length body.now ≤ most_body }
-        ensures ok { IfOk result (λ effects. HasEffects (HasPeer (message_type_of kind) (reading_state self.old) body.now) (effect_values effects) (reading_state self.new)) }
+        ensures ok { IfOk result (λ made. IsMade M.is_of (HasPeer (message_type_of kind) (reading_state self.old) body.now) made (reading_state self.new)) }
         ensures broken { IsErrOf result BodyFault.Broken → MeansNothing (HasPeer (message_type_of kind) (reading_state self.old) body.now) }
         ensures unchanged { OnErr result (self.new ≡ self.old) }
+        ensures wants { message_type_of kind ≡ route_monitoring → IsErrOf result BodyFault.NoMemory → M.wants }
     {
         let Some((front, rest)) = body.split_first_chunk() else {
             return Err(BodyFault::Broken);
         };
         let head = PeerHeader::read(front);
         match head.key() {
-            Some(key) => self.of_peer(kind, &head, &key, rest),
-            None => Ok(only(self.alloc, Effect::Passed)?),
+            Some(key) => self.of_peer::<M>(kind, &head, &key, rest),
+            None => Ok(M::only(self.alloc, Effect::Passed)?),
         }
     }
 
     // What a message of this type does.
-    fn effects(&mut self, kind: MessageType, body: &[u8]) -> Result<EffectList, BodyFault>
+    fn effects<M: Makes>(&mut self, kind: MessageType, body: &[u8]) -> Result<M::Made, BodyFault>
         requires { length body.now ≤ most_body }
-        ensures ok { IfOk result (λ effects. HasEffects (OfType (type_in kind) (reading_state self.old) body.now) (effect_values effects) (reading_state self.new)) }
+        ensures ok { IfOk result (λ made. IsMade M.is_of (OfType (type_in kind) (reading_state self.old) body.now) made (reading_state self.new)) }
         ensures broken { IsErrOf result BodyFault.Broken → MeansNothing (OfType (type_in kind) (reading_state self.old) body.now) }
         ensures unchanged { OnErr result (self.new ≡ self.old) }
+        ensures wants { type_in kind ≡ route_monitoring → IsErrOf result BodyFault.NoMemory → M.wants }
     {
         match kind {
-            MessageType::OfPeer(kind) => self.with_header(kind, body),
-            MessageType::Initiation => events::initiation(self.alloc, body),
-            MessageType::Termination => events::termination(self.alloc, body),
-            MessageType::Unknown => Ok(only(self.alloc, Effect::Passed)?),
+            MessageType::OfPeer(kind) => self.with_header::<M>(kind, body),
+            MessageType::Initiation => made_of::<M>(events::initiation(self.alloc, body)),
+            MessageType::Termination => made_of::<M>(events::termination(self.alloc, body)),
+            MessageType::Unknown => Ok(M::only(self.alloc, Effect::Passed)?),
         }
     }
 
@@ -187,7 +202,7 @@ impl Reading {
         ensures unchanged { OnErr result (self.new ≡ self.old) }
         ensures views { IfOk result (λ entry. All HasViewOfKey (effects_in (entry_value entry))) }
     {
-        let effects = self.effects(MessageType::of(kind), body)?;
+        let effects = self.effects::<WithEffects>(MessageType::of(kind), body)?;
         Ok(Entry::Message {
             kind,
             length: COMMON_HEADER + body.len() as u32,

@@ -1,4 +1,4 @@
-ghost use Rattle.std.specs.Prelude.{◌≡◌, ◌↔◌, ℕ, List, IsTrue, IfOk, IfSome, IfNone, IsErrOf};
+ghost use Rattle.std.specs.Prelude.{◌≡◌, ◌≤◌, ◌↔◌, ℕ, List, IsTrue, IfOk, IfSome, IfNone, IsErrOf};
 ghost use Rattle.bmp_specs.specs.BgpMessage.{IsBgpMessage, update_type};
 ghost use Rattle.bmp_specs.specs.MessageBody.{IsRouteMonitoring, id_use as ids_of, side_of as side_in, width_of as width_in};
 ghost use Rattle.bmp_specs.specs.MessageEffects.{effects_of};
@@ -94,44 +94,32 @@ pub(crate) fn judge_routes(peer: &PeerInfo, head: &PeerHeader, rest: &[u8]) -> b
     }
 }
 
-// How many effects the UPDATE has.
-fn count(update: &Update) -> usize {
-    let prefixes = update
-        .withdrawn
-        .as_slice()
-        .len()
-        .saturating_add(update.plain.as_slice().len())
-        .saturating_add(update.multi.as_slice().len());
-    prefixes
-        .saturating_add(one_if(update.mark.is_some()))
-        .saturating_add(one_if(update.unread > 0))
+// How many items the effects of the UPDATE are.
+fn count(update: &Update) -> usize
+    ensures { result ≤ 5 }
+{
+    let withdrawn = one_if(!update.withdrawn.as_slice().is_empty());
+    let plain = one_if(!update.plain.as_slice().is_empty());
+    let multi = one_if(!update.multi.as_slice().is_empty());
+    let mark = one_if(update.mark.is_some());
+    let unread = one_if(update.unread > 0);
+    withdrawn + plain + multi + mark + unread
 }
 
-// The effects of the UPDATE: what is withdrawn, what is announced, and the End-of-RIB marker.
+// The effects of the UPDATE: what is withdrawn, what is announced, and the End-of-RIB marker. Its lists of
+// prefixes are handed on as they are.
 fn effects_of_update(
     alloc: Global,
     key: &PeerKey,
     view: View,
-    update: &Update,
+    update: Update,
 ) -> Result<EffectList, NoMemory>
-    ensures { IfOk result (λ effects. effect_values effects ≡ effects_of (routes key.now view update.now)) }
+    ensures { IfOk result (λ effects. effect_values effects ≡ effects_of (routes key.now view update)) }
 {
-    let mut effects = EffectList::with_capacity(alloc, count(update))?;
-    add_withdrawals(&mut effects, key, view, update.withdrawn.as_slice())?;
-    add_announcements(
-        &mut effects,
-        key,
-        view,
-        update.plain.as_slice(),
-        &update.plain_attrs,
-    )?;
-    add_announcements(
-        &mut effects,
-        key,
-        view,
-        update.multi.as_slice(),
-        &update.multi_attrs,
-    )?;
+    let mut effects = EffectList::with_capacity(alloc, count(&update))?;
+    add_withdrawals(&mut effects, key, view, update.withdrawn)?;
+    add_announcements(&mut effects, key, view, update.plain, update.plain_attrs)?;
+    add_announcements(&mut effects, key, view, update.multi, update.multi_attrs)?;
     add_mark(&mut effects, key, view, update.mark)?;
     add_unread(&mut effects, update.unread)?;
     Ok(effects)
@@ -149,6 +137,6 @@ pub(crate) fn route_monitoring(
     ensures broken { IsErrOf result BodyFault.Broken → (u : UpdateValue) → IsRouteMonitoring (opens_of peer.now) head.now rest.now u → ⊥ }
 {
     let update = read_routes(alloc, peer, head, rest)?;
-    let effects = effects_of_update(alloc, key, head.view(), &update)?;
+    let effects = effects_of_update(alloc, key, head.view(), update)?;
     Ok(effects)
 }

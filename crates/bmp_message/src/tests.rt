@@ -360,7 +360,7 @@ fn statistic(alloc: Global, out: &mut Vec<u8>, stat: &Stat) -> Result<(), Fail> 
     number(alloc, out, stat.value)
 }
 
-// Writes an effect in words.
+// Writes an effect in words, one for each route.
 fn describe(alloc: Global, out: &mut Vec<u8>, effect: &Effect) -> Result<(), Fail> {
     match effect {
         Effect::Up { key, info } => {
@@ -376,17 +376,25 @@ fn describe(alloc: Global, out: &mut Vec<u8>, effect: &Effect) -> Result<(), Fai
         Effect::Announce {
             key,
             view,
-            nlri,
+            nlris,
             route,
         } => {
-            word(out, b"announce")?;
-            place(alloc, out, key, *view, nlri)?;
-            number(alloc, out, first_as(route))?;
-            number(alloc, out, hop_length(route))?;
+            for nlri in nlris.as_slice() {
+                word(out, b"announce")?;
+                place(alloc, out, key, *view, nlri)?;
+                number(alloc, out, first_as(route))?;
+                number(alloc, out, hop_length(route))?;
+                out.push(b';')?;
+            }
+            return Ok(());
         }
-        Effect::Withdraw { key, view, nlri } => {
-            word(out, b"withdraw")?;
-            place(alloc, out, key, *view, nlri)?;
+        Effect::Withdraw { key, view, nlris } => {
+            for nlri in nlris.as_slice() {
+                word(out, b"withdraw")?;
+                place(alloc, out, key, *view, nlri)?;
+                out.push(b';')?;
+            }
+            return Ok(());
         }
         Effect::Mark { key, view, family } => {
             word(out, b"mark")?;

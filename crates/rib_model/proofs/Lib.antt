@@ -1,1 +1,2 @@
 mod PathOrder
+pub mod Items

@@ -4,13 +4,15 @@ use bmp_specs::{Family, View};
 use ip_prefix::Nlri;
 use path_attrs::Attrs;
 use std::sync::Arc;
-use wire_io::ByteList;
+use wire_io::{ByteList, List};
 use wire_tables::Stat;
 
 /// The path attributes of a route, shared by all prefixes of its UPDATE message.
 pub type Route = Arc<Attrs>;
 
-/// One thing that a message does to the tables, or a part of it that does nothing to them.
+/// One thing that a message does to the tables, or a part of it that does nothing to them. The routes that an
+/// UPDATE announces with the same attributes are one, and those that it withdraws another: such an item stands
+/// for an effect on each of its prefixes, in their order.
 #[derive(Drop)]
 pub enum Effect {
     /// A Peer Up Notification (RFC 7854, section 4.10): the peer is up, with no route and no marker.
@@ -25,19 +27,19 @@ pub enum Effect {
         info: DownInfo,
     },
 
-    /// A route that is announced (RFC 7854, section 4.6).
+    /// Routes that are announced with these attributes (RFC 7854, section 4.6).
     Announce {
         key: PeerKey,
         view: View,
-        nlri: Nlri,
+        nlris: List<Nlri>,
         route: Route,
     },
 
-    /// A route that is withdrawn.
+    /// Routes that are withdrawn.
     Withdraw {
         key: PeerKey,
         view: View,
-        nlri: Nlri,
+        nlris: List<Nlri>,
     },
 
     /// The End-of-RIB marker of a family (RFC 4724, section 2).

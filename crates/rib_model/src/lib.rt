@@ -3,7 +3,8 @@
 //! `bmp_message` makes them of the messages of a stream, the tables are made of them, and a lane's
 //! history is a list of them. This crate has the plain types: an effect, an entry, where a row
 //! stands, the paths of a prefix, and a step of a lane. The attributes of a route and what a Peer Up
-//! told of a peer stand behind `Arc`s, one for all prefixes of an UPDATE.
+//! told of a peer stand behind `Arc`s. The routes that an UPDATE announces with the same attributes are
+//! one item of an effect list, as the prefixes stood on the wire, and those that it withdraws another.
 //!
 //! Proved: an effect list keeps the order in which it was filled; the paths of a prefix are a map from
 //! path identifiers to routes, in full after every call; a step that is kept has the same value.

@@ -7,7 +7,7 @@ use recent_ring::Keep;
 use std::alloc::Global;
 use std::sync::Arc;
 use std::test::Fail;
-use wire_io::NoMemory;
+use wire_io::{List, NoMemory};
 
 // A route that is told from others by its MULTI_EXIT_DISC.
 fn route(alloc: Global, med: u32) -> Result<Route, NoMemory> {
@@ -78,7 +78,8 @@ fn effects_and_steps_keep_their_order(rt: HostRuntime) -> Result<(), Fail> {
     let nlri = Nlri { prefix, id: None };
     let view = View::InPre;
     let mut effects = EffectList::with_capacity(alloc, 2)?;
-    put(&mut effects, Effect::Withdraw { key, view, nlri })?;
+    let nlris = List::from_slice(alloc, &[nlri])?;
+    put(&mut effects, Effect::Withdraw { key, view, nlris })?;
     put(&mut effects, Effect::Unread(3))?;
     assert!(rt;
         matches!(

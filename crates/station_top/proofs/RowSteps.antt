@@ -1,5 +1,6 @@
 -- What one more effect makes of the peers that are up and of their rows.
-use Rattle.std.proofs.Common.{◌≡◌, ◌↔◌, inl, inr, IsTrue, Bool, true, false, if◌then◌else◌, List, [], ◌∷◌, ◌++◌, Option, None, Some, refl, sym, ap, ◌∙◌, subst}
+use Rattle.std.proofs.Common.{◌≡◌, ◌↔◌, inl, inr, IsTrue, ℕ, ◌+◌, ◌<◌, ◌≤◌, Bool, true, false, if◌then◌else◌, List, [], ◌∷◌, ◌++◌, length, map, take, get_or, Option, None, Some, refl, sym, ap, ◌∙◌, subst, append_assoc}
+use Rattle.std.proofs.lemmas.List.{map-append, take_all, take_more}
 use Rattle.std.specs.Prelude.{is_some}
 use Rattle.std.specs.declared.sync.Arc.{Arc}
 use Rattle.std.specs.declared.alloc.Global.{Global}
@@ -9,14 +10,14 @@ use mathlib.Core.Logic.Iff.{trans as then_iff}
 use Rattle.bmp_specs.specs.Orders.{key_cmp}
 use Rattle.bmp_specs.specs.PeerUp.{Names, IsUp}
 use Rattle.bmp_specs.specs.Rows.{RowKeyValue, ReplacesRow, HasRow}
-use Rattle.bmp_specs.specs.Values.{NlriValue, KeyValue, PeerInfoValue, DownInfoValue, AttrsValue, EffectValue, up, down, announce, withdraw}
+use Rattle.bmp_specs.specs.Values.{NlriValue, KeyValue, PeerInfoValue, DownInfoValue, AttrsValue, EffectValue, up, down, announce, withdraw, mark, statistic, named, described, orphan, mirrored, passed, unread}
 use Rattle.bmp_specs.specs.declared.peers.View.{View}
 use Rattle.bmp_specs.proofs.EffectCases.{names_or_other, replaces_row_or_other}
 use Rattle.bmp_specs.proofs.PeerLaws.{none_up, is_up_kept}
 use Rattle.bmp_specs.proofs.RowLaws.{up_now, up_from, none_row, row_now, row_from, row_kept}
 use Rattle.rib_model.specs.declared.effect.Effect.{Effect}
-use Rattle.rib_model.specs.declared.effect.Effect.TheVariants.{Up, Down, Announce, Withdraw}
-use Rattle.rib_model.specs.Effects.{effect_value}
+use Rattle.rib_model.specs.declared.effect.Effect.TheVariants.{Up, Down, Announce, Withdraw, Mark, Statistic, Name, Descr, Orphan, Mirrored, Passed, Unread}
+use Rattle.rib_model.specs.Effects.{item_values}
 use Rattle.station_top.specs.declared.route_key.RouteKey.{RouteKey}
 use Rattle.station_top.specs.RouteKeys.{row_key_of}
 use Rattle.station_top.specs.Tables.{Peers, has_peer, route_in, route_at, Holds, Puts, Clears}
@@ -115,23 +116,42 @@ follows_other peers e unnamed no_row = record {
   kept = λ p other. refl;
 }
 
+holds_same : (peers : Peers) (e : EffectValue) → ((key : KeyValue) → ¬ (Names key e)) → ((p : RowKeyValue) → ¬ (ReplacesRow p e)) → (es : List EffectValue) → Holds peers es → Holds peers (es ++ e ∷ [])
+holds_same peers e unnamed no_row = holds_step peers peers e (follows_other peers e unnamed no_row)
+
 -- nor do effects of the other kinds
-module _ (peers : Peers) (e : Effect) (not_up : (key : KeyValue) (info : Arc PeerInfoValue Global) → e ≡ Up key info → ⊥) (not_down : (key : KeyValue) (info : DownInfoValue) → e ≡ Down key info → ⊥)
-    (not_announce : (key : KeyValue) (view : View) (nlri : NlriValue) (route : Arc AttrsValue Global) → e ≡ Announce key view nlri route → ⊥) (not_withdraw : (key : KeyValue) (view : View) (nlri : NlriValue) → e ≡ Withdraw key view nlri → ⊥) where
-  names_none : (f : Effect) → e ≡ f → (key : KeyValue) → ¬ (Names key (effect_value f))
-  names_none (Up k info) is key n = not_up k info is
-  names_none (Down k info) is key n = not_down k info is
-  names_none _ is key n = n
+pub holds_other : (peers : Peers) (e : Effect) → ((key : KeyValue) (info : Arc PeerInfoValue Global) → e ≡ Up key info → ⊥) → ((key : KeyValue) (info : DownInfoValue) → e ≡ Down key info → ⊥)
+    → ((key : KeyValue) (view : View) (nlris : List NlriValue) (route : Arc AttrsValue Global) → e ≡ Announce key view nlris route → ⊥)
+    → ((key : KeyValue) (view : View) (nlris : List NlriValue) → e ≡ Withdraw key view nlris → ⊥) → (es : List EffectValue) → Holds peers es → Holds peers (es ++ item_values e)
+holds_other peers (Up k info) not_up not_down not_announce not_withdraw = absurd (not_up k info refl)
+holds_other peers (Down k info) not_up not_down not_announce not_withdraw = absurd (not_down k info refl)
+holds_other peers (Announce k view nlris route) not_up not_down not_announce not_withdraw = absurd (not_announce k view nlris route refl)
+holds_other peers (Withdraw k view nlris) not_up not_down not_announce not_withdraw = absurd (not_withdraw k view nlris refl)
+holds_other peers (Mark k view family) not_up not_down not_announce not_withdraw = holds_same peers (mark k view family) (λ key n. n) (λ p n. n)
+holds_other peers (Statistic k stat) not_up not_down not_announce not_withdraw = holds_same peers (statistic k stat) (λ key n. n) (λ p n. n)
+holds_other peers (Name bytes) not_up not_down not_announce not_withdraw = holds_same peers (named bytes) (λ key n. n) (λ p n. n)
+holds_other peers (Descr bytes) not_up not_down not_announce not_withdraw = holds_same peers (described bytes) (λ key n. n) (λ p n. n)
+holds_other peers Orphan not_up not_down not_announce not_withdraw = holds_same peers orphan (λ key n. n) (λ p n. n)
+holds_other peers Mirrored not_up not_down not_announce not_withdraw = holds_same peers mirrored (λ key n. n) (λ p n. n)
+holds_other peers Passed not_up not_down not_announce not_withdraw = holds_same peers passed (λ key n. n) (λ p n. n)
+holds_other peers (Unread parts) not_up not_down not_announce not_withdraw = holds_same peers (unread parts) (λ key n. n) (λ p n. n)
 
-  replaces_none : (f : Effect) → e ≡ f → (p : RowKeyValue) → ¬ (ReplacesRow p (effect_value f))
-  replaces_none (Up k info) is p n = not_up k info is
-  replaces_none (Down k info) is p n = not_down k info is
-  replaces_none (Announce k view nlri route) is p n = not_announce k view nlri route is
-  replaces_none (Withdraw k view nlri) is p n = not_withdraw k view nlri is
-  replaces_none _ is p n = n
+-- the effects on the first prefixes, and that on one more
+more_effects : (f : NlriValue → EffectValue) (es : List EffectValue) (ns : List NlriValue) (i : ℕ) (n : NlriValue) → i < length ns → n ≡ get_or ns i n
+    → (es ++ map f (take i ns)) ++ f n ∷ [] ≡ es ++ map f (take (i + 1) ns)
+more_effects f es ns i n within is =
+    ap (λ (m : NlriValue). (es ++ map f (take i ns)) ++ f m ∷ []) is
+    ∙ append_assoc es (map f (take i ns)) (f (get_or ns i n) ∷ [])
+    ∙ ap (λ (l : List EffectValue). es ++ l) (sym (map-append f (take i ns) (get_or ns i n ∷ [])))
+    ∙ ap (λ (l : List NlriValue). es ++ map f l) (sym (take_more ns i n within))
 
-  pub holds_other : (es : List EffectValue) → Holds peers es → Holds peers (es ++ effect_value e ∷ [])
-  holds_other = holds_step peers peers (effect_value e) (follows_other peers (effect_value e) (names_none e refl) (replaces_none e refl))
+-- a step over the effects on prefixes, and the end
+pub holds_more : (old new : Peers) (f : NlriValue → EffectValue) (es : List EffectValue) (ns : List NlriValue) (i : ℕ) (n : NlriValue) → i < length ns → n ≡ get_or ns i n → Follows old new (f n)
+    → Holds old (es ++ map f (take i ns)) → Holds new (es ++ map f (take (i + 1) ns))
+holds_more old new f es ns i n within is follows h = subst (λ (l : List EffectValue). Holds new l) (more_effects f es ns i n within is) (holds_step old new (f n) follows (es ++ map f (take i ns)) h)
+
+pub holds_all : (peers : Peers) (f : NlriValue → EffectValue) (es : List EffectValue) (ns : List NlriValue) (i : ℕ) → length ns ≤ i → Holds peers (es ++ map f (take i ns)) → Holds peers (es ++ map f ns)
+holds_all peers f es ns i past h = subst (λ (l : List NlriValue). Holds peers (es ++ map f l)) (take_all i ns past) h
 
 -- without an effect there is no peer
 pub holds_nothing : (peers : Peers) → peers.entries ≡ [] → Holds peers []

@@ -1,7 +1,7 @@
-ghost use Rattle.std.specs.Prelude.{◌≡◌, [], ◌∷◌, ◌++◌, List, OnOk, Some, None, true, false};
+ghost use Rattle.std.specs.Prelude.{◌≡◌, [], ◌∷◌, ◌++◌, List, map, OnOk, Some, None, true, false};
 ghost use Rattle.std.specs.Arc.{arc_value};
-ghost use Rattle.bmp_specs.specs.Values.{EffectValue, EntryValue};
-ghost use Rattle.rib_model.specs.Effects.{effect_value, effect_values};
+ghost use Rattle.bmp_specs.specs.Values.{EffectValue, EntryValue, announce as announced, withdraw as withdrawn};
+ghost use Rattle.rib_model.specs.Effects.{effect_values, item_values};
 ghost use Rattle.rib_model.specs.Entries.{entry_value};
 ghost use Rattle.station_top.specs.Tables.{Holds, StandsFor, Puts, Clears};
 
@@ -10,6 +10,8 @@ use crate::put_table::put_table;
 use crate::route_key::RouteKey;
 use bmp_frames::PeerKey;
 use bmp_message::Entries;
+use bmp_specs::View;
+use ip_prefix::Nlri;
 use query_lang::Select;
 use rib_model::{Effect, Entry, Route};
 use std::alloc::Global;
@@ -71,9 +73,36 @@ fn withdraw(peers: &mut Peers, key: &PeerKey, route_key: RouteKey)
     }
 }
 
-// Takes one effect.
+// Puts the route under each of the prefixes, in their order.
+fn announce_all(
+    peers: &mut Peers,
+    key: &PeerKey,
+    view: View,
+    nlris: &[Nlri],
+    route: &Route,
+) -> Result<(), NoMemory>
+    ensures { OnOk result ((effects : List EffectValue) → Holds peers.old effects → Holds peers.new (effects ++ map (λ n. announced key.now view n (arc_value route.now)) nlris.now)) }
+{
+    for nlri in nlris {
+        let route_key = RouteKey { view, nlri: *nlri };
+        announce(peers, key, route_key, route)?;
+    }
+    Ok(())
+}
+
+// Takes out the route of each of the prefixes.
+fn withdraw_all(peers: &mut Peers, key: &PeerKey, view: View, nlris: &[Nlri])
+    ensures { (effects : List EffectValue) → Holds peers.old effects → Holds peers.new (effects ++ map (λ n. withdrawn key.now view n) nlris.now) }
+{
+    for nlri in nlris {
+        let route_key = RouteKey { view, nlri: *nlri };
+        withdraw(peers, key, route_key);
+    }
+}
+
+// Takes one effect, or those on many routes.
 fn take_effect(peers: &mut Peers, alloc: Global, effect: &Effect) -> Result<(), NoMemory>
-    ensures { OnOk result ((effects : List EffectValue) → Holds peers.old effects → Holds peers.new (effects ++ effect_value effect.now ∷ [])) }
+    ensures { OnOk result ((effects : List EffectValue) → Holds peers.old effects → Holds peers.new (effects ++ item_values effect.now)) }
 {
     match effect {
         Effect::Up { key, .. } => bring_up(peers, alloc, *key),
@@ -84,21 +113,11 @@ fn take_effect(peers: &mut Peers, alloc: Global, effect: &Effect) -> Result<(), 
         Effect::Announce {
             key,
             view,
-            nlri,
+            nlris,
             route,
-        } => {
-            let route_key = RouteKey {
-                view: *view,
-                nlri: *nlri,
-            };
-            announce(peers, key, route_key, route)
-        }
-        Effect::Withdraw { key, view, nlri } => {
-            let route_key = RouteKey {
-                view: *view,
-                nlri: *nlri,
-            };
-            withdraw(peers, key, route_key);
+        } => announce_all(peers, key, *view, nlris.as_slice(), route),
+        Effect::Withdraw { key, view, nlris } => {
+            withdraw_all(peers, key, *view, nlris.as_slice());
             Ok(())
         }
         _ => Ok(()),

@@ -1,27 +1,34 @@
+use Rattle.std.proofs.Common.{◌∷◌, [], refl}
 use Rattle.std.proofs.lemmas.Result.{IfOk-weaker}
-use Rattle.rib_model.specs.Effects.{effect_values}
+use Rattle.bmp_specs.specs.Values.{passed}
 use Rattle.bmp_message.specs.Types.{message_type_of}
 use Rattle.bmp_message.specs.State.{reading_state}
 use Rattle.bmp_message.proofs.Meanings.{no_header, no_meaning, of_unknown, with_key}
 use Rattle.bmp_message.proofs.reading.Reading.with_header.Goals as goal
 
 pub returns-in_default-clause-broken : goal.returns-in_default-clause-broken
-returns-in_default-clause-broken c _ = no_header (message_type_of c.args.kind) (reading_state c.args.self.now) c.args.body.now c.in_default.ensures.cases
+returns-in_default-clause-broken g c _ = no_header (message_type_of c.args.kind) (reading_state c.args.self.now) c.args.body.now c.in_default.ensures.cases
 
 pub returns-in-Some-key-clause-ok : goal.returns-in-Some-key-clause-ok
-returns-in-Some-key-clause-ok c =
+returns-in-Some-key-clause-ok g c =
     let cut = c.in-Some.ensures.cases in
     IfOk-weaker c.of_peer.result _ _
-    (λ effects. with_key (message_type_of c.args.kind) (reading_state c.args.self.now) c.args.body.now c.in-Some.front.now c.in-Some.rest.now c.read-head.result c.in-Some-key.key cut.0 cut.1 c.read-head.ensures c.in-Some-key.ensures (reading_state c.of_peer.new.self) (effect_values effects))
+    (λ made p. (
+      p.0,
+      p.1,
+      with_key (message_type_of c.args.kind) (reading_state c.args.self.now) c.args.body.now c.in-Some.front.now c.in-Some.rest.now c.read-head.result c.in-Some-key.key cut.0 cut.1 c.read-head.ensures c.in-Some-key.ensures (reading_state c.of_peer.new.self) p.0 p.2,
+    ))
     c.of_peer.ensures.ok
 
 pub returns-in-Some-key-clause-broken : goal.returns-in-Some-key-clause-broken
-returns-in-Some-key-clause-broken c broken =
+returns-in-Some-key-clause-broken g c broken =
     let cut = c.in-Some.ensures.cases in
     no_meaning (message_type_of c.args.kind) (reading_state c.args.self.now) c.args.body.now c.in-Some.front.now c.in-Some.rest.now c.read-head.result c.in-Some-key.key cut.0 cut.1 c.read-head.ensures c.in-Some-key.ensures
     (c.of_peer.ensures.broken broken)
 
 pub returns-in_ok-only-in-None-clause-ok : goal.returns-in_ok-only-in-None-clause-ok
-returns-in_ok-only-in-None-clause-ok c =
-    of_unknown (message_type_of c.args.kind) (reading_state c.args.self.now) c.args.body.now c.in-Some.front.now c.read-head.result c.in-Some.ensures.cases.0 c.read-head.ensures c.in-None.ensures
-    (effect_values c.in_ok-only-in-None.field-0) c.in_ok-only-in-None.ensures
+returns-in_ok-only-in-None-clause-ok g c = (
+  passed ∷ [],
+  c.in_ok-only-in-None.ensures.ok,
+  of_unknown (message_type_of c.args.kind) (reading_state c.args.self.now) c.args.body.now c.in-Some.front.now c.read-head.result c.in-Some.ensures.cases.0 c.read-head.ensures c.in-None.ensures (passed ∷ []) refl,
+)
