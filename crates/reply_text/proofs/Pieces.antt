@@ -3,7 +3,7 @@ use Rattle.std.proofs.Common.{◌≡◌, ℕ, zero, suc, ◌<◌, Bool, true, fa
 use Rattle.std.specs.List.{flat_map, join_with_byte}
 use Rattle.std.proofs.lemmas.Grind.{flat_map-append}
 use Rattle.std.proofs.lemmas.List.{take_rest}
-use Rattle.bmp_specs.specs.Lines.{further}
+use Rattle.bmp_specs.specs.Lines.{further, line}
 use Rattle.bmp_specs.specs.NumberText.{number_text}
 use Rattle.bmp_specs.specs.PeerText.{hex_digits, hex_text, key_text, view_text}
 use Rattle.bmp_specs.specs.RouteLine.{joined_pieces, bracketed, segment_pieces, path_text, comma_list, text_or_absent, hop_text, origin_text, yes_or_no, aggregator_text, community_text, others_text, attribute_fields, id_fields, route_fields}
@@ -55,6 +55,10 @@ joined_pieces-more (p ∷ ps) = sym (append-nil (join_with_byte 95 (p ∷ ps)))
 pub further-append : (fields others : List (List ℕ)) → further (fields ++ others) ≡ spaced fields ++ further others
 further-append [] others = refl
 further-append (field ∷ fields) others = ap (λ (l : List ℕ). 32 ∷ (field ++ l)) (further-append fields others) ∙ sym (append_assoc (32 ∷ field) (spaced fields) (further others))
+
+-- a line in two parts
+pub line_parts : (word : List ℕ) (fields others : List (List ℕ)) → line word (fields ++ others) ≡ (word ++ spaced fields) ++ further others
+line_parts word fields others = ap (λ (l : List ℕ). word ++ l) (further-append fields others) ∙ sym (append_assoc word (spaced fields) (further others))
 
 -- a segment within brackets
 pub bracketed_parts : (some : Bool) (before after : ℕ) (numbers : List ℕ) → more_pieces some (bracketed (before ∷ []) numbers (after ∷ []) ∷ []) ≡ (link_of some ++ before ∷ []) ++ (join_with_byte 44 (map number_text numbers) ++ after ∷ [])

@@ -1,9 +1,15 @@
 -- Texts of parts as they are written one after another, in the forms of the route line.
 use Rattle.std.specs.Prelude.{ℕ, Bool, true, false, List, [], ◌∷◌, ◌++◌, map, codes}
 use Rattle.std.specs.List.{flat_map, join_with_byte}
+use Rattle.bmp_specs.specs.declared.wire.Family.TheVariants.{V4}
+use Rattle.bmp_specs.specs.AddressText.{address_text, text_in}
+use Rattle.bmp_specs.specs.Counts.{CountsValue}
+use Rattle.bmp_specs.specs.EscapedText.{escaped_text}
 use Rattle.bmp_specs.specs.NumberText.{number_text}
+use Rattle.bmp_specs.specs.PeerLines.{named_field}
+use Rattle.bmp_specs.specs.PeerText.{key_text}
 use Rattle.bmp_specs.specs.RouteLine.{underscore, text_or_absent, hop_text, origin_text, path_text, yes_or_no, aggregator_text, comma_list, community_text, others_text}
-use Rattle.bmp_specs.specs.Values.{AttrsValue}
+use Rattle.bmp_specs.specs.Values.{AttrsValue, KeyValue, PeerInfoValue}
 
 -- pieces, each behind the mark
 abbrev pub behind : ℕ → List (List ℕ) → List ℕ
@@ -49,3 +55,38 @@ metrics_text a = codes " med=" ++ (text_or_absent number_text a.med ++ (codes " 
 -- the fields of AGGREGATOR, of the communities and of the other attributes
 abbrev pub remaining_text : AttrsValue → List ℕ
 remaining_text a = codes " agg=" ++ (text_or_absent aggregator_text a.aggregator ++ (codes " comm=" ++ (comma_list (map community_text a.communities) ++ (codes " other=" ++ others_text a.others))))
+
+-- the fields of a router with a connection, up to its peers
+abbrev pub peers_fields : ℕ → ℕ → List (List ℕ)
+peers_fields lane up = number_text lane ∷ codes "live" ∷ named_field (codes "peers") (number_text up) ∷ []
+
+-- the fields of the counts of a session
+abbrev pub counts_fields : CountsValue → List (List ℕ)
+counts_fields counts =
+    named_field (codes "messages") (number_text counts.messages)
+    ∷ named_field (codes "bytes") (number_text counts.bytes)
+    ∷ named_field (codes "orphans") (number_text counts.orphans)
+    ∷ named_field (codes "unread") (number_text counts.unread)
+    ∷ named_field (codes "mirrored") (number_text counts.mirrored)
+    ∷ named_field (codes "passed") (number_text counts.passed)
+    ∷ []
+
+-- the fields of sysName and sysDescr
+abbrev pub name_fields : List ℕ → List ℕ → List (List ℕ)
+name_fields name descr = named_field (codes "name") (escaped_text name) ∷ named_field (codes "descr") (escaped_text descr) ∷ []
+
+-- the fields of a peer that is up, up to its ports
+abbrev pub session_fields : ℕ → KeyValue → PeerInfoValue → List (List ℕ)
+session_fields lane key info =
+    number_text lane
+    ∷ key_text key
+    ∷ codes "up"
+    ∷ named_field (codes "asn") (number_text info.asn)
+    ∷ named_field (codes "id") (text_in V4 info.identifier)
+    ∷ named_field (codes "local") (address_text info.local)
+    ∷ named_field (codes "ports") (number_text info.local_port ++ (codes "," ++ number_text info.remote_port))
+    ∷ []
+
+-- the fields of a Loc-RIB Instance Peer
+abbrev pub loc_rib_fields : Bool → List ℕ → List (List ℕ)
+loc_rib_fields filtered table = named_field (codes "filtered") (yes_or_no filtered) ∷ named_field (codes "table") table ∷ []

@@ -9,16 +9,29 @@
 //! Begin with `specs/Lines.antt` and `specs/RouteLine.antt` of `bmp_specs`, then `src/lines.rt`.
 #![tactic(auto)]
 
+mod change;
+mod escaped;
 mod hop;
+#[cfg(test)]
+mod line_tests;
 mod lines;
 mod lists;
+mod mark;
 mod path;
+mod peer;
 mod route;
+mod router;
+mod stat;
 #[cfg(test)]
 mod tests;
 mod values;
 
 pub use bmp_specs::{Cause, Why};
-pub use lines::{put_at, put_end, put_stop};
+pub use change::put_change;
+pub use lines::{put_at, put_count, put_end, put_lane, put_missed, put_steps, put_stop};
+pub use mark::put_mark;
+pub use peer::put_peer;
 pub use route::put_route;
+pub use router::{RouterLine, RouterState, put_router};
+pub use stat::put_stat;
 pub use wire_io::{Failed, Sink};

@@ -1,5 +1,8 @@
-ghost use Rattle.std.specs.Prelude.{◌≡◌};
+ghost use Rattle.std.specs.Prelude.{◌≡◌, ◌++◌, [], ◌∷◌};
+ghost use Rattle.bmp_specs.specs.ChangeLines.{missed_line, steps_line};
 ghost use Rattle.bmp_specs.specs.Lines.{at_line, end_line, further, why_text, cause_fields, stop_line};
+ghost use Rattle.bmp_specs.specs.NumberText.{number_text};
+ghost use Rattle.bmp_specs.specs.PeerLines.{count_line, lane_line};
 ghost use Rattle.wire_io.specs.Writes.{Writes};
 
 use bmp_specs::{Cause, Why};
@@ -25,6 +28,64 @@ pub fn put_end<O: Sink>(out: &mut O, rows: u64) -> Result<(), Failed>
     )
 }
 
+/// Writes the line of `count`: how many rows there are. Where a write fails, a front of the line was
+/// written.
+pub fn put_count<O: Sink>(out: &mut O, rows: u64) -> Result<(), Failed>
+    ensures { Writes O.faults O.told O.aside out.old (count_line rows) result out.new }
+{
+    write_pieces(
+        out,
+        &[b"count ", Buffer::new().format(rows).as_bytes(), b"\n"],
+    )
+}
+
+/// Writes the line of a lane: how many entries it has. Where a write fails, a front of the line was
+/// written.
+pub fn put_lane<O: Sink>(out: &mut O, lane: u32, entries: u64) -> Result<(), Failed>
+    ensures { Writes O.faults O.told O.aside out.old (lane_line lane entries) result out.new }
+{
+    put_lane_number(out, b"lane ", lane, entries)
+}
+
+/// Writes the line of how many steps a lane made. Where a write fails, a front of the line was written.
+pub fn put_steps<O: Sink>(out: &mut O, lane: u32, total: u64) -> Result<(), Failed>
+    ensures { Writes O.faults O.told O.aside out.old (steps_line lane total) result out.new }
+{
+    put_lane_number(out, b"steps ", lane, total)
+}
+
+/// Writes the line of how many of the steps that were asked for are no longer kept. Where a write fails,
+/// a front of the line was written.
+pub fn put_missed<O: Sink>(out: &mut O, steps: u64) -> Result<(), Failed>
+    ensures { Writes O.faults O.told O.aside out.old (missed_line steps) result out.new }
+{
+    write_pieces(
+        out,
+        &[b"missed ", Buffer::new().format(steps).as_bytes(), b"\n"],
+    )
+}
+
+// Writes a lane and a number of it behind the text before them, and the end of the line.
+fn put_lane_number<O: Sink>(
+    out: &mut O,
+    before: &[u8],
+    lane: u32,
+    number: u64,
+) -> Result<(), Failed>
+    ensures { Writes O.faults O.told O.aside out.old (before.now ++ (number_text lane ++ further (number_text number ∷ []))) result out.new }
+{
+    write_pieces(
+        out,
+        &[
+            before,
+            Buffer::new().format(lane).as_bytes(),
+            b" ",
+            Buffer::new().format(number).as_bytes(),
+            b"\n",
+        ],
+    )
+}
+
 /// Writes the stop line: why the stream stopped, and where. Where a write fails, a front of the line was
 /// written.
 pub fn put_stop<O: Sink>(out: &mut O, cause: &Cause) -> Result<(), Failed>
@@ -46,7 +107,7 @@ fn why_word(why: Why) -> &'static [u8]
 }
 
 // Writes the fields of a cause and the end of the line.
-fn put_cause<O: Sink>(out: &mut O, cause: Cause) -> Result<(), Failed>
+pub(crate) fn put_cause<O: Sink>(out: &mut O, cause: Cause) -> Result<(), Failed>
     ensures { Writes O.faults O.told O.aside out.old (further (cause_fields cause)) result out.new }
 {
     let mut buffer = Buffer::new();

@@ -19,7 +19,7 @@ use rib_model::RowKey;
 use wire_io::{Failed, Sink, write_all, write_pieces};
 
 // Writes the fields of where a row stands: its peer, its RIB and its prefix.
-fn put_row_key<O: Sink>(out: &mut O, row: &RowKey) -> Result<(), Failed>
+pub(crate) fn put_row_key<O: Sink>(out: &mut O, row: &RowKey) -> Result<(), Failed>
     ensures { Writes O.faults O.told O.aside out.old (spaced (key_text row.now.key ∷ view_text row.now.view ∷ prefix_text row.now.nlri.prefix ∷ [])) result out.new }
 {
     let key = row.key.text();
@@ -87,7 +87,7 @@ fn put_attributes<O: Sink>(out: &mut O, attrs: &Attrs) -> Result<(), Failed>
 }
 
 // Writes the field of the path identifier, where there is one (RFC 7911, section 3), and the end of the line.
-fn put_id<O: Sink>(out: &mut O, nlri: &Nlri) -> Result<(), Failed>
+pub(crate) fn put_id<O: Sink>(out: &mut O, nlri: &Nlri) -> Result<(), Failed>
     ensures { Writes O.faults O.told O.aside out.old (further (id_fields nlri.now.id)) result out.new }
 {
     match nlri.id {
@@ -97,7 +97,7 @@ fn put_id<O: Sink>(out: &mut O, nlri: &Nlri) -> Result<(), Failed>
 }
 
 // Writes the fields of a route from its peer on, and the end of the line.
-fn put_fields<O: Sink>(out: &mut O, row: &RowKey, attrs: &Attrs) -> Result<(), Failed>
+pub(crate) fn put_fields<O: Sink>(out: &mut O, row: &RowKey, attrs: &Attrs) -> Result<(), Failed>
     ensures { Writes O.faults O.told O.aside out.old (further (route_fields (record { row_key = row.now; route = attrs.now }))) result out.new }
 {
     put_row_key(out, row)?;

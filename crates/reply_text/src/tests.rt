@@ -1,11 +1,11 @@
-use crate::{Cause, Failed, Why, put_at, put_end, put_route, put_stop};
+use crate::{Failed, put_route};
 use bmp_frames::{parse_key, parse_view};
 use ip_prefix::{Nlri, parse_prefix};
 use path_attrs::{Attrs, Width, read_attrs};
 use rib_model::RowKey;
 use std::alloc::Global;
 use std::test::Fail;
-use wire_io::{ByteList, MemSink, NoMemory};
+use wire_io::MemSink;
 
 // A route: its peer, its RIB and its prefix as texts, its path identifier, its path attributes as they stand in an
 // UPDATE, each on a line, and the line that tells of it.
@@ -160,79 +160,6 @@ fn route_lines_tell_each_attribute(rt: HostRuntime) -> Result<(), Fail> {
         let mut out = MemSink::new(rt.alloc(), 1000, &[9])?;
         assert_eq!(rt; put_route(&mut out, 0, &row, &attrs), Err(Failed));
         assert!(rt; route.line.starts_with(out.taken()));
-    }
-    Ok(())
-}
-
-// A line of one number or of a cause.
-#[derive(Clone, Copy)]
-enum Line {
-    At(u64),
-    End(u64),
-    Stop(Cause),
-}
-
-// Whether the line was written, and what was, where the writes with these numbers fail.
-fn written(alloc: Global, line: Line, fails: &[u64]) -> Result<(bool, ByteList), NoMemory> {
-    let mut out = MemSink::new(alloc, 1000, fails)?;
-    let result = match line {
-        Line::At(rev) => put_at(&mut out, rev),
-        Line::End(rows) => put_end(&mut out, rows),
-        Line::Stop(cause) => put_stop(&mut out, &cause),
-    };
-    let mut taken = ByteList::new(alloc);
-    taken.extend(out.taken())?;
-    Ok((result.is_ok(), taken))
-}
-
-// The line of a stream that broke 20 bytes after its start.
-fn broken(why: Why) -> Line {
-    Line::Stop(Cause::Broken { offset: 20, why })
-}
-
-#[test]
-fn lines_of_numbers_and_causes(rt: HostRuntime) -> Result<(), Fail> {
-    // the line, the writes that fail, whether all was written, and what was
-    let table: [(Line, &[u64], bool, &[u8]); 14] = [
-        (Line::At(0), &[], true, b"at 0\n"),
-        (Line::At(u64::MAX), &[], true, b"at 18446744073709551615\n"),
-        (Line::At(12), &[2], false, b"at 12"),
-        (Line::End(10), &[], true, b"end 10\n"),
-        (Line::End(10), &[0], false, b""),
-        (Line::Stop(Cause::Ended), &[], true, b"stop ended\n"),
-        (
-            Line::Stop(Cause::Terminated),
-            &[],
-            true,
-            b"stop terminated\n",
-        ),
-        (
-            Line::Stop(Cause::CutShort { offset: 96 }),
-            &[],
-            true,
-            b"stop cutshort 96\n",
-        ),
-        (
-            Line::Stop(Cause::CutShort { offset: 96 }),
-            &[2],
-            false,
-            b"stop cutshort ",
-        ),
-        (broken(Why::Version), &[], true, b"stop broken 20 version\n"),
-        (broken(Why::Length), &[], true, b"stop broken 20 length\n"),
-        (broken(Why::Body), &[], true, b"stop broken 20 body\n"),
-        (
-            Line::Stop(Cause::ReadFault { offset: 0 }),
-            &[],
-            true,
-            b"stop readfault 0\n",
-        ),
-        (Line::Stop(Cause::Full), &[], true, b"stop full\n"),
-    ];
-    for (line, fails, all, want) in table {
-        let (done, taken) = written(rt.alloc(), line, fails)?;
-        assert_eq!(rt; done, all);
-        assert_eq!(rt; taken.as_slice(), want);
     }
     Ok(())
 }

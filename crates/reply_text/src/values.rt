@@ -52,7 +52,8 @@ fn put_or_absent(text: &mut ShortText, number: Option<u32>)
     }
 }
 
-fn yes_or_no(value: bool) -> &'static [u8]
+// The word for a flag.
+pub(crate) fn yes_or_no(value: bool) -> &'static [u8]
     ensures { result.now ≡ yes_or_no value }
 {
     if value { b"yes" } else { b"no" }
