@@ -12,7 +12,11 @@ one_more n = min (n + 1) (2 ^ 64 - 1)
 
 -- what a port with this plan shows that has answered no call yet
 abbrev pub untouched : Plan → Aside
-untouched plan = record { plan = Some plan; coming = Some plan.connections; rest = Some []; given = Some []; opened = 0; closed = 0; is_open = false; taken = 0; refused = false; open_faults = 0; read_faults = 0; laid = [] }
+untouched plan = record { plan = Some plan; coming = Some plan.connections; rest = Some []; given = Some []; opened = 0; closed = 0; is_open = false; taken = 0; refused = false; open_faults = 0; read_faults = 0; write_faults = None; laid = [] }
+
+-- the same of a link
+abbrev pub untouched_link : Plan → Aside
+untouched_link plan = record (untouched plan) { write_faults = Some [] }
 
 -- The connections to come, and what the present one has left, where they are told: the next connection was opened,
 -- where true, and there was none, where false. A failed call leaves what is to come.
@@ -66,6 +70,13 @@ pub record Opens (old new : Aside) (result : Result Bool Failed) : Type 0 where
   pub calm : new.read_faults ≡ old.read_faults
   pub laid : new.laid ≡ old.laid
 
+-- the counts of faults in writes as each connection was opened, where a further one is opened and the count is this
+abbrev pub noted_writes : ℕ → Option (List ℕ) → Result Bool Failed → Option (List ℕ)
+noted_writes faults None result = None
+noted_writes faults (Some before) (Ok true) = Some (before ++ faults ∷ [])
+noted_writes faults (Some before) (Ok false) = Some before
+noted_writes faults (Some before) (Err e) = Some before
+
 -- the connections given, after the present one gave these bytes
 abbrev pub given_more : List Given → List ℕ → LastRead → List Given
 given_more [] bytes last = []
@@ -82,8 +93,9 @@ GivesBytes None after result buf = after ≡ None
 GivesBytes (Some before) after (Ok n) buf = after ≡ Some (given_more before (take n buf) (read_of n))
 GivesBytes (Some before) after (Err e) buf = after ≡ Some (given_more before [] failed)
 
+-- how many bytes the present connection gave, after a read; the count ends at what 64 bits hold
 abbrev pub taken_by : ℕ → Result ℕ Failed → ℕ
-taken_by taken (Ok n) = taken + n
+taken_by taken (Ok n) = min (taken + n) (2 ^ 64 - 1)
 taken_by taken (Err e) = taken
 
 -- what a read does
@@ -99,6 +111,7 @@ pub record Reads (old new : Aside) (result : Result ℕ Failed) (buf : List ℕ)
   pub refused : new.refused ≡ old.refused
   pub cause : HasCause old.read_faults new.read_faults result
   pub calm : new.open_faults ≡ old.open_faults
+  pub writes : new.write_faults ≡ old.write_faults
   pub laid : new.laid ≡ old.laid
 
 -- what closing the present connection does: it is counted, what the connection has left is no more of interest, and all

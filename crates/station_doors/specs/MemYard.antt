@@ -1,6 +1,7 @@
 -- A yard in memory.
 use Rattle.std.specs.Prelude.{◌≡◌, ℕ, List, [], map, unwrap_or}
 use Rattle.wire_io.specs.Aside.{Plan}
+use Rattle.station_doors.specs.Connections.{no_plan}
 use Rattle.station_doors.specs.MemPort.{MemPortValue}
 use Rattle.station_doors.specs.Doors.{YardValue, Returned, untouched}
 use Rattle.station_doors.specs.declared.mem_yard.Back.{Back}
@@ -10,9 +11,6 @@ pub record MemYardValue : Type 0 where
   pub tells : YardValue
   pub calls : ℕ
   pub faults : ℕ
-
-abbrev pub no_plan : Plan
-no_plan = record { connections = []; fails = [] }
 
 abbrev pub plan_of : MemPortValue → Plan
 plan_of port = unwrap_or port.shows.plan no_plan

@@ -1,10 +1,11 @@
 ghost use Rattle.std.specs.Prelude.{◌≡◌, ℕ, ◌<◌, Option, None, [], IsTrue, IfSome, OnErr, length};
 ghost use Rattle.std.specs.Io.{ReadsAtMost};
+ghost use Rattle.std.specs.Io.KnownBytes.{Keeps};
 ghost use Rattle.wire_io.specs.Aside.{Aside};
 ghost use Rattle.wire_io.specs.Faults.{HasCause};
-ghost use Rattle.station_doors.specs.Doors.{Opens, Reads, Closes, AsPlanned, read_size, YardValue, HandsOut, TakesBack, one_more};
+ghost use Rattle.station_doors.specs.Doors.{Opens, Reads, Closes, AsPlanned, noted_writes, read_size, YardValue, HandsOut, TakesBack, one_more};
 
-use wire_io::Failed;
+use wire_io::{Failed, Sink};
 
 /// The place of one router, which gives one connection after another.
 pub trait Port {
@@ -35,6 +36,42 @@ pub trait Port {
     fn close(&mut self)
         requires { IsTrue (aside self.old).is_open }
         ensures closes { Closes (aside self.old) (aside self.new) }
+        ensures calls { calls self.new ≡ calls self.old };
+}
+
+/// The place of one client, which gives one connection after another and takes what is written to it. Its count
+/// as a `Sink` is that of its writes alone; its other counts stand in what it tells, which no write changes.
+pub trait Link: Sink {
+    /// How many of its calls were made that its plan numbers.
+    ghost calls: { Self → ℕ } = { λ _. 0 };
+
+    /// Opens the next connection, of which no byte was given. False where there is none. It fails only
+    /// where the plan, if it is shown, has a call that fails. The count of faults in writes is noted, so that it is
+    /// told of each connection whether a write failed in it.
+    fn next_connection(&mut self) -> Result<bool, Failed>
+        ensures opens { Opens (Self.aside self.old) (Self.aside self.new) result }
+        ensures writes { (Self.aside self.new).write_faults ≡ noted_writes (Self.faults self.old) (Self.aside self.old).write_faults result }
+        ensures planned { IfSome (Self.aside self.old).plan (λ plan. OnErr result (plan.fails ≡ [] → ⊥)) }
+        ensures told { Keeps (Self.told self.old) (Self.told self.new) }
+        ensures calm { Self.faults self.new ≡ Self.faults self.old }
+        ensures calls { calls self.new ≡ calls self.old };
+
+    /// Gives the next bytes of the present connection, which is open: at least one, or none at its end.
+    fn read(&mut self, buf: &mut [u8]) -> Result<usize, Failed>
+        requires some { 0 < length buf.old }
+        requires is_open { IsTrue (Self.aside self.old).is_open }
+        ensures bound { ReadsAtMost result buf.new }
+        ensures reads { Reads (Self.aside self.old) (Self.aside self.new) result buf.new }
+        ensures planned { AsPlanned (Self.aside self.old).plan (calls self.old) (calls self.new) result }
+        ensures told { Keeps (Self.told self.old) (Self.told self.new) }
+        ensures calm { Self.faults self.new ≡ Self.faults self.old };
+
+    /// Closes the present connection, which is open. Nothing is read of it after that.
+    fn close(&mut self)
+        requires { IsTrue (Self.aside self.old).is_open }
+        ensures closes { Closes (Self.aside self.old) (Self.aside self.new) }
+        ensures told { Keeps (Self.told self.old) (Self.told self.new) }
+        ensures calm { Self.faults self.new ≡ Self.faults self.old }
         ensures calls { calls self.new ≡ calls self.old };
 }
 

@@ -42,7 +42,7 @@ pub struct HostPort<R> {
 }
 
 impl<R: Read + Drop> Port for HostPort<R> {
-    ghost aside = { λ p. record { plan = None; coming = None; rest = R.remaining p.input; given = None; opened = p.opened; closed = p.closed; is_open = p.is_open; taken = p.taken; refused = p.refused; open_faults = 0; read_faults = p.faults; laid = [] } };
+    ghost aside = { λ p. record { plan = None; coming = None; rest = R.remaining p.input; given = None; opened = p.opened; closed = p.closed; is_open = p.is_open; taken = p.taken; refused = p.refused; open_faults = 0; read_faults = p.faults; write_faults = None; laid = [] } };
 
     fn next_connection(&mut self) -> Result<bool, Failed> {
         if self.opened > 0 {

@@ -8,12 +8,19 @@
 //! Begin with `specs/Doors.antt`, which says what each call does to what is told, then `src/doors.rt`.
 #![tactic(auto)]
 
+mod connections;
 mod doors;
 mod host;
+mod mem_link;
 mod mem_port;
 mod mem_yard;
+mod sure_link;
+mod sure_port;
 
-pub use doors::{Port, Yard};
+pub use doors::{Link, Port, Yard};
 pub use host::{HostPort, HostYard};
+pub use mem_link::MemLink;
 pub use mem_port::MemPort;
 pub use mem_yard::{MemYard, PortList};
+pub use sure_link::SureLink;
+pub use sure_port::SurePort;
