@@ -6,3 +6,4 @@ pub mod SurePort
 pub mod MemLink
 pub mod SureLink
 pub mod MemYard
+pub mod Counts
