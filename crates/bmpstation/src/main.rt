@@ -28,11 +28,17 @@ fn words(rt: &HostRuntime) -> Result<Vec<String>, NoMemory> {
     Ok(words)
 }
 
-fn main(rt: HostRuntime) -> ExitCode {
-    let mut yard = HostYard::new(rt.stdin());
+// Hands the station the words, standard input with the network, and standard output.
+fn run(rt: &HostRuntime) -> Result<Status, NoMemory> {
+    let words = words(rt)?;
+    let mut yard = HostYard::new(rt.alloc(), rt.stdin(), rt)?;
     let mut out = StdSink::new(rt.stdout());
-    let status = match words(&rt) {
-        Ok(words) => station(rt.alloc(), words.as_slice(), &mut yard, &mut out),
+    Ok(station(rt.alloc(), words.as_slice(), &mut yard, &mut out))
+}
+
+fn main(rt: HostRuntime) -> ExitCode {
+    let status = match run(&rt) {
+        Ok(status) => status,
         Err(NoMemory) => Status::NoMemory,
     };
     ExitCode::from(status.code())

@@ -1,10 +1,11 @@
 -- What ports and yards tell, and what their calls do to it.
-use Rattle.std.specs.Prelude.{◌≡◌, ℕ, ◌+◌, ◌-◌, ◌^◌, min, Bool, true, false, List, [], ◌∷◌, ◌++◌, take, Option, Some, None, Result, Ok, Err, Contains, ◌⊎◌, nat_eq, if◌then◌else◌}
+use Rattle.std.specs.Prelude.{◌≡◌, ℕ, ◌+◌, ◌-◌, ◌^◌, ◌<◌, min, Bool, true, false, List, [], ◌∷◌, ◌++◌, take, Option, Some, None, Result, Ok, Err, Contains, ◌⊎◌, nat_eq, if◌then◌else◌}
 use Rattle.std.specs.Io.KnownBytes.{ReadConsumes}
 use Rattle.bmp_specs.specs.Life.{LastRead, gave, gave_none, failed, most_taken, most_read}
 use Rattle.wire_io.specs.declared.sink.Failed.{Failed}
 use Rattle.wire_io.specs.Aside.{Aside, Given, Plan, fresh}
 use Rattle.wire_io.specs.Faults.{HasCause}
+use Rattle.station_doors.specs.declared.listening.Listening.{Listening}
 
 -- one more, at most what 64 bits hold
 abbrev pub one_more : ℕ → ℕ
@@ -12,7 +13,11 @@ one_more n = min (n + 1) (2 ^ 64 - 1)
 
 -- what a port with this plan shows that has answered no call yet
 abbrev pub untouched : Plan → Aside
-untouched plan = record { plan = Some plan; coming = Some plan.connections; rest = Some []; given = Some []; opened = 0; closed = 0; is_open = false; taken = 0; refused = false; open_faults = 0; read_faults = 0; laid = [] }
+untouched plan = record { plan = Some plan; coming = Some plan.connections; rest = Some []; given = Some []; opened = 0; closed = 0; is_open = false; taken = 0; refused = false; open_faults = 0; read_faults = 0; write_faults = None; laid = [] }
+
+-- the same of a link
+abbrev pub untouched_link : Plan → Aside
+untouched_link plan = record (untouched plan) { write_faults = Some [] }
 
 -- The connections to come, and what the present one has left, where they are told: the next connection was opened,
 -- where true, and there was none, where false. A failed call leaves what is to come.
@@ -66,6 +71,13 @@ pub record Opens (old new : Aside) (result : Result Bool Failed) : Type 0 where
   pub calm : new.read_faults ≡ old.read_faults
   pub laid : new.laid ≡ old.laid
 
+-- the counts of faults in writes as each connection was opened, where a further one is opened and the count is this
+abbrev pub noted_writes : ℕ → Option (List ℕ) → Result Bool Failed → Option (List ℕ)
+noted_writes faults None result = None
+noted_writes faults (Some before) (Ok true) = Some (before ++ faults ∷ [])
+noted_writes faults (Some before) (Ok false) = Some before
+noted_writes faults (Some before) (Err e) = Some before
+
 -- the connections given, after the present one gave these bytes
 abbrev pub given_more : List Given → List ℕ → LastRead → List Given
 given_more [] bytes last = []
@@ -82,8 +94,9 @@ GivesBytes None after result buf = after ≡ None
 GivesBytes (Some before) after (Ok n) buf = after ≡ Some (given_more before (take n buf) (read_of n))
 GivesBytes (Some before) after (Err e) buf = after ≡ Some (given_more before [] failed)
 
+-- how many bytes the present connection gave, after a read; the count ends at what 64 bits hold
 abbrev pub taken_by : ℕ → Result ℕ Failed → ℕ
-taken_by taken (Ok n) = taken + n
+taken_by taken (Ok n) = min (taken + n) (2 ^ 64 - 1)
 taken_by taken (Err e) = taken
 
 -- what a read does
@@ -99,6 +112,7 @@ pub record Reads (old new : Aside) (result : Result ℕ Failed) (buf : List ℕ)
   pub refused : new.refused ≡ old.refused
   pub cause : HasCause old.read_faults new.read_faults result
   pub calm : new.open_faults ≡ old.open_faults
+  pub writes : new.write_faults ≡ old.write_faults
   pub laid : new.laid ≡ old.laid
 
 -- what closing the present connection does: it is counted, what the connection has left is no more of interest, and all
@@ -121,16 +135,48 @@ pub record Returned : Type 0 where
   pub lane : ℕ
   pub shows : Aside
 
+-- a link that was given back: its number, what it showed, what was written to it, and its count of faults in writes
+pub record ReturnedLink : Type 0 where
+  pub number : ℕ
+  pub shows : Aside
+  pub written : Option (List ℕ)
+  pub faults : ℕ
+
 -- what a yard tells
 pub record YardValue : Type 0 where
   -- the plans of the ports that it will hand out, in order, of which none has answered a call yet
   pub ports : List Plan
+  -- the same of the links
+  pub links : List Plan
   -- the numbers of its calls that fail
   pub fails : List ℕ
   -- under which numbers a port was handed out and not given back since, the last first
   pub out : List ℕ
+  -- the same of the links
+  pub links_out : List ℕ
   -- the ports that were given back
   pub back : List Returned
+  -- the links that were given back
+  pub links_back : List ReturnedLink
+
+-- how many lanes and askers were asked for, where it was asked to listen
+abbrev pub feeds_of : Option Listening → ℕ
+feeds_of None = 0
+feeds_of (Some l) = l.feeds
+
+abbrev pub askers_of : Option Listening → ℕ
+askers_of None = 0
+askers_of (Some l) = l.askers
+
+-- The number of a port: that of the one input connection, or of a lane.
+abbrev pub IsLane : Option Listening → ℕ → Type 0
+IsLane l lane = (lane ≡ 0) ⊎ (lane < feeds_of l)
+
+-- A call of this number that is to listen fails exactly where the plan says so.
+abbrev pub Listens : ℕ → Option YardValue → Option YardValue → Result (Unit {0}) Failed → Type 0
+Listens number None new result = new ≡ None
+Listens number (Some old) new (Ok u) = (Contains old.fails number → ⊥) × (new ≡ Some old)
+Listens number (Some old) new (Err e) = Contains old.fails number × (new ≡ Some old)
 
 -- A call of this number hands out the next port under this number, or fails: exactly where the plan says so, or
 -- nothing is left to hand out. The port has answered no call yet.
@@ -139,6 +185,20 @@ HandsOut shows calls lane number None new result = new ≡ None
 HandsOut shows calls lane number (Some old) new (Ok port) = (Contains old.fails number → ⊥) × (plan : Plan) × (rest : List Plan) × (old.ports ≡ plan ∷ rest)
     × (new ≡ Some (record old { ports = rest; out = lane ∷ old.out })) × (shows port ≡ untouched plan) × (calls port ≡ 0)
 HandsOut shows calls lane number (Some old) new (Err e) = (Contains old.fails number ⊎ (old.ports ≡ [])) × (new ≡ Some old)
+
+-- a link with this plan that has answered no call yet, and to which nothing was written
+pub record IsUnused {L : Type 0} (shows : L → Aside) (told : L → Option (List ℕ)) (faults calls : L → ℕ) (plan : Plan) (link : L) : Type 0 where
+  pub shown : shows link ≡ untouched_link plan
+  pub written : told link ≡ Some []
+  pub calm : faults link ≡ 0
+  pub none : calls link ≡ 0
+
+-- the same of a link
+abbrev pub HandsOutLink : {L : Type 0} → (L → Aside) → (L → Option (List ℕ)) → (L → ℕ) → (L → ℕ) → ℕ → ℕ → Option YardValue → Option YardValue → Result L Failed → Type 0
+HandsOutLink shows told faults calls place number None new result = new ≡ None
+HandsOutLink shows told faults calls place number (Some old) new (Ok link) = (Contains old.fails number → ⊥) × (plan : Plan) × (rest : List Plan) × (old.links ≡ plan ∷ rest)
+    × (new ≡ Some (record old { links = rest; links_out = place ∷ old.links_out })) × IsUnused shows told faults calls plan link
+HandsOutLink shows told faults calls place number (Some old) new (Err e) = (Contains old.fails number ⊎ (old.links ≡ [])) × (new ≡ Some old)
 
 -- the list without the first place of this number
 abbrev pub without : ℕ → List ℕ → List ℕ
@@ -154,3 +214,17 @@ pub record TakesBackTold (lane : ℕ) (shows : Aside) (old : YardValue) (new : O
 abbrev pub TakesBack : ℕ → Aside → Option YardValue → Option YardValue → Type 0
 TakesBack lane shows None new = new ≡ None
 TakesBack lane shows (Some old) new = TakesBackTold lane shows old new
+
+-- the same of a link
+pub record TakesLinkBackTold (link : ReturnedLink) (old : YardValue) (new : Option YardValue) : Type 0 where
+  pub lent : Contains old.links_out link.number → new ≡ Some (record old { links_out = without link.number old.links_out; links_back = old.links_back ++ link ∷ [] })
+  pub dropped : (Contains old.links_out link.number → ⊥) → new ≡ Some old
+
+abbrev pub TakesLinkBack : ReturnedLink → Option YardValue → Option YardValue → Type 0
+TakesLinkBack link None new = new ≡ None
+TakesLinkBack link (Some old) new = TakesLinkBackTold link old new
+
+-- an ending is kept in the place of an earlier one, where the yard tells
+abbrev pub KeepsEnding : {E : Type 0} → Option YardValue → E → Option E → Type 0
+KeepsEnding None ending now = Unit {0}
+KeepsEnding (Some told) ending now = now ≡ Some ending

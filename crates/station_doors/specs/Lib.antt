@@ -1,4 +1,10 @@
 pub mod Doors
 pub mod LastRead
+pub mod Connections
+pub mod LanePort
 pub mod MemPort
+pub mod SurePort
+pub mod MemLink
+pub mod SureLink
 pub mod MemYard
+pub mod Counts

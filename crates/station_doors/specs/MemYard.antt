@@ -1,18 +1,23 @@
 -- A yard in memory.
-use Rattle.std.specs.Prelude.{◌≡◌, ℕ, List, [], map, unwrap_or}
+use Rattle.std.specs.Prelude.{◌≡◌, ℕ, List, [], ◌∷◌, Option, Some, map, unwrap_or, nat_eq, if◌then◌else◌}
 use Rattle.wire_io.specs.Aside.{Plan}
+use Rattle.station_doors.specs.Connections.{no_plan}
 use Rattle.station_doors.specs.MemPort.{MemPortValue}
-use Rattle.station_doors.specs.Doors.{YardValue, Returned, untouched}
+use Rattle.station_doors.specs.MemLink.{MemLinkValue}
+use Rattle.station_doors.specs.Doors.{YardValue, Returned, ReturnedLink, untouched, untouched_link}
+use Rattle.station_doors.specs.declared.listening.Listening.{Listening}
 use Rattle.station_doors.specs.declared.mem_yard.Back.{Back}
+use Rattle.station_doors.specs.declared.mem_yard.LinkBack.{LinkBack}
 
--- what it tells, how many of its calls were made, and its count of faults
-pub record MemYardValue : Type 0 where
+-- what it tells, what it was asked to listen for, how many of its calls were made, its count of faults, the ending that
+-- it took last, and how many it took
+pub record MemYardValue (E : Type 0) : Type 0 where
   pub tells : YardValue
+  pub listened : Option Listening
   pub calls : ℕ
   pub faults : ℕ
-
-abbrev pub no_plan : Plan
-no_plan = record { connections = []; fails = [] }
+  pub ending : Option E
+  pub endings : ℕ
 
 abbrev pub plan_of : MemPortValue → Plan
 plan_of port = unwrap_or port.shows.plan no_plan
@@ -21,9 +26,24 @@ plan_of port = unwrap_or port.shows.plan no_plan
 abbrev pub IsUntouched : MemPortValue → Type 0
 IsUntouched port = (port.shows ≡ untouched (plan_of port)) × (port.reads ≡ 0)
 
+abbrev pub link_plan_of : MemLinkValue → Plan
+link_plan_of link = unwrap_or link.shows.plan no_plan
+
+-- a link that has answered no call yet, and to which nothing was written
+abbrev pub IsIdle : MemLinkValue → Type 0
+IsIdle link = (link.shows ≡ untouched_link (link_plan_of link)) × (link.written ≡ []) × (link.faults ≡ 0) × (link.calls ≡ 0)
+
 abbrev pub returned_of : Back → Returned
 returned_of b = record { lane = b.lane; shows = b.port.shows }
 
--- what it tells with these ports left, these numbers handed out and these ports given back
-abbrev pub tells_of : List MemPortValue → List ℕ → List ℕ → List Back → YardValue
-tells_of ports fails out back = record { ports = map plan_of ports; fails = fails; out = out; back = map returned_of back }
+abbrev pub returned_link_of : LinkBack → ReturnedLink
+returned_link_of b = record { number = b.number; shows = b.link.shows; written = Some b.link.written; faults = b.link.faults }
+
+-- what it tells with these ports and links left, these numbers handed out and these ports and links given back
+abbrev pub tells_of : List MemPortValue → List MemLinkValue → List ℕ → List ℕ → List ℕ → List Back → List LinkBack → YardValue
+tells_of ports links fails out links_out back links_back = record { ports = map plan_of ports; links = map link_plan_of links; fails = fails; out = out; links_out = links_out; back = map returned_of back; links_back = map returned_link_of links_back }
+
+-- what was written to the first link that was given back under this number
+abbrev pub written_by : ℕ → List ReturnedLink → List ℕ
+written_by number [] = []
+written_by number (b ∷ bs) = if nat_eq b.number number then unwrap_or b.written [] else written_by number bs

@@ -1,10 +1,13 @@
-ghost use Rattle.std.specs.Prelude.{◌≡◌, ℕ, ◌<◌, Option, None, [], IsTrue, IfSome, OnErr, length};
+ghost use Rattle.std.specs.Prelude.{◌≡◌, ℕ, ◌<◌, Option, Some, None, [], IsTrue, IfSome, OnErr, length};
 ghost use Rattle.std.specs.Io.{ReadsAtMost};
+ghost use Rattle.std.specs.Io.KnownBytes.{Keeps};
 ghost use Rattle.wire_io.specs.Aside.{Aside};
 ghost use Rattle.wire_io.specs.Faults.{HasCause};
-ghost use Rattle.station_doors.specs.Doors.{Opens, Reads, Closes, AsPlanned, read_size, YardValue, HandsOut, TakesBack, one_more};
+ghost use Rattle.station_doors.specs.Doors.{Opens, Reads, Closes, AsPlanned, noted_writes, read_size, YardValue, IsLane, askers_of, Listens, HandsOut, HandsOutLink, TakesBack, TakesLinkBack, KeepsEnding, one_more};
+ghost use Rattle.station_doors.specs.declared.listening.Listening.{Listening};
 
-use wire_io::Failed;
+use ip_prefix::Addr;
+use wire_io::{Failed, Sink};
 
 /// The place of one router, which gives one connection after another.
 pub trait Port {
@@ -38,12 +41,61 @@ pub trait Port {
         ensures calls { calls self.new ≡ calls self.old };
 }
 
-/// Hands out the ports, and takes them back.
+/// The place of one client, which gives one connection after another and takes what is written to it. Its count
+/// as a `Sink` is that of its writes alone; its other counts stand in what it tells, which no write changes.
+pub trait Link: Sink {
+    /// How many of its calls were made that its plan numbers.
+    ghost calls: { Self → ℕ } = { λ _. 0 };
+
+    /// Opens the next connection, of which no byte was given. False where there is none. It fails only
+    /// where the plan, if it is shown, has a call that fails. The count of faults in writes is noted, so that it is
+    /// told of each connection whether a write failed in it.
+    fn next_connection(&mut self) -> Result<bool, Failed>
+        ensures opens { Opens (Self.aside self.old) (Self.aside self.new) result }
+        ensures writes { (Self.aside self.new).write_faults ≡ noted_writes (Self.faults self.old) (Self.aside self.old).write_faults result }
+        ensures planned { IfSome (Self.aside self.old).plan (λ plan. OnErr result (plan.fails ≡ [] → ⊥)) }
+        ensures told { Keeps (Self.told self.old) (Self.told self.new) }
+        ensures calm { Self.faults self.new ≡ Self.faults self.old }
+        ensures calls { calls self.new ≡ calls self.old };
+
+    /// Gives the next bytes of the present connection, which is open: at least one, or none at its end.
+    fn read(&mut self, buf: &mut [u8]) -> Result<usize, Failed>
+        requires some { 0 < length buf.old }
+        requires is_open { IsTrue (Self.aside self.old).is_open }
+        ensures bound { ReadsAtMost result buf.new }
+        ensures reads { Reads (Self.aside self.old) (Self.aside self.new) result buf.new }
+        ensures planned { AsPlanned (Self.aside self.old).plan (calls self.old) (calls self.new) result }
+        ensures told { Keeps (Self.told self.old) (Self.told self.new) }
+        ensures calm { Self.faults self.new ≡ Self.faults self.old };
+
+    /// Closes the present connection, which is open. Nothing is read of it after that.
+    fn close(&mut self)
+        requires { IsTrue (Self.aside self.old).is_open }
+        ensures closes { Closes (Self.aside self.old) (Self.aside self.new) }
+        ensures told { Keeps (Self.told self.old) (Self.told self.new) }
+        ensures calm { Self.faults self.new ≡ Self.faults self.old }
+        ensures calls { calls self.new ≡ calls self.old };
+}
+
+/// Hands out ports and links by number, takes them back, and takes what a station's end gave.
 pub trait Yard {
-    type Port: Port + Drop;
+    type Port: Port + Send + Drop;
+
+    type Link: Link + Send + Drop;
+
+    type Ending: Drop;
 
     /// What it tells, where it tells anything.
     ghost told: { Self → Option YardValue } = { λ _. None };
+
+    /// The ending that it took last, where it tells anything.
+    ghost last_ending: { Self → Option Self.Ending } = { λ _. None };
+
+    /// How many endings it took.
+    ghost endings: { Self → ℕ };
+
+    /// The values of the last `listen`.
+    ghost listened: { Self → Option Listening };
 
     /// The count of faults. It never falls.
     ghost faults: { Self → ℕ };
@@ -51,16 +103,67 @@ pub trait Yard {
     /// How many of its calls that answer a `Result` were made.
     ghost calls: { Self → ℕ };
 
-    /// Hands out a port under this number. Port 0 is the program's one input connection.
-    fn port(&mut self, lane: u32) -> Result<Self::Port, Failed>
-        requires { lane ≡ 0 }
-        ensures told { HandsOut Self.Port.aside Self.Port.calls lane (calls self.old) (told self.old) (told self.new) result }
+    /// Listens for so many routers and clients: lane n at `feed_port + n`, asker n at `ask_port + n`.
+    fn listen(
+        &mut self,
+        address: &Addr,
+        feed_port: u16,
+        feeds: u32,
+        ask_port: u16,
+        askers: u32,
+    ) -> Result<(), Failed>
+        ensures told { Listens (calls self.old) (told self.old) (told self.new) result }
+        ensures listened { listened self.new ≡ Some (record { address = address.now; feed_port = feed_port; feeds = feeds; ask_port = ask_port; askers = askers }) }
         ensures calls { calls self.new ≡ one_more (calls self.old) }
-        ensures cause { HasCause (faults self.old) (faults self.new) result };
+        ensures cause { HasCause (faults self.old) (faults self.new) result }
+        ensures endings { endings self.new ≡ endings self.old }
+        ensures ending { last_ending self.new ≡ last_ending self.old };
 
-    /// Takes back what was handed out under this number. It raises no count.
+    /// Hands out a port under this number: that of a lane, or 0. Where nothing was asked to listen, port 0 is the
+    /// program's one input connection.
+    fn port(&mut self, lane: u32) -> Result<Self::Port, Failed>
+        requires { IsLane (listened self.old) lane }
+        ensures told { HandsOut Self.Port.aside Self.Port.calls lane (calls self.old) (told self.old) (told self.new) result }
+        ensures listened { listened self.new ≡ listened self.old }
+        ensures calls { calls self.new ≡ one_more (calls self.old) }
+        ensures cause { HasCause (faults self.old) (faults self.new) result }
+        ensures endings { endings self.new ≡ endings self.old }
+        ensures ending { last_ending self.new ≡ last_ending self.old };
+
+    /// Hands out the link of this asker.
+    fn link(&mut self, number: u32) -> Result<Self::Link, Failed>
+        requires { number < askers_of (listened self.old) }
+        ensures told { HandsOutLink Self.Link.aside Self.Link.told Self.Link.faults Self.Link.calls number (calls self.old) (told self.old) (told self.new) result }
+        ensures listened { listened self.new ≡ listened self.old }
+        ensures calls { calls self.new ≡ one_more (calls self.old) }
+        ensures cause { HasCause (faults self.old) (faults self.new) result }
+        ensures endings { endings self.new ≡ endings self.old }
+        ensures ending { last_ending self.new ≡ last_ending self.old };
+
+    /// Takes back the port that was handed out under this number. It raises no count.
     fn take_port(&mut self, lane: u32, port: Self::Port)
         ensures told { TakesBack lane (Self.Port.aside port) (told self.old) (told self.new) }
+        ensures listened { listened self.new ≡ listened self.old }
+        ensures calls { calls self.new ≡ calls self.old }
+        ensures calm { faults self.new ≡ faults self.old }
+        ensures endings { endings self.new ≡ endings self.old }
+        ensures ending { last_ending self.new ≡ last_ending self.old };
+
+    /// Takes back the link that was handed out under this number. It raises no count.
+    fn take_link(&mut self, number: u32, link: Self::Link)
+        ensures told { TakesLinkBack (record { number = number; shows = Self.Link.aside link; written = Self.Link.told link; faults = Self.Link.faults link }) (told self.old) (told self.new) }
+        ensures listened { listened self.new ≡ listened self.old }
+        ensures calls { calls self.new ≡ calls self.old }
+        ensures calm { faults self.new ≡ faults self.old }
+        ensures endings { endings self.new ≡ endings self.old }
+        ensures ending { last_ending self.new ≡ last_ending self.old };
+
+    /// Takes what the end of a station gave, in the place of an earlier ending. It raises no count.
+    fn take_ending(&mut self, ending: Self::Ending)
+        ensures ending { KeepsEnding (told self.old) ending (last_ending self.new) }
+        ensures endings { endings self.new ≡ one_more (endings self.old) }
+        ensures told { told self.new ≡ told self.old }
+        ensures listened { listened self.new ≡ listened self.old }
         ensures calls { calls self.new ≡ calls self.old }
         ensures calm { faults self.new ≡ faults self.old };
 }

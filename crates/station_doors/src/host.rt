@@ -2,104 +2,122 @@ ghost use Rattle.std.specs.Prelude.{◌≡◌, ◌↔◌, ℕ, [], None, Some, I
 ghost use Rattle.wire_io.specs.Faults.{HasCause};
 ghost use Rattle.station_doors.specs.Doors.{one_more};
 
-use crate::{Port, Yard};
+use crate::sockets::{MOST, listen_at, take_listener};
+use crate::{HostLink, HostPort, Listening, Yard};
+use ip_prefix::Addr;
+use std::alloc::Global;
 use std::io::Read;
-use wire_io::Failed;
+use std::net::{Net, TcpListener, TcpStream};
+use wire_io::{Failed, NoMemory};
 
-/// The real yard: its one port gives what a reader gives, as one connection. It tells nothing of content.
+/// The real yard: standard input, and TCP listeners. It tells nothing of content.
+///
+/// Where it was asked to listen, lane n listens at `feed_port + n` and asker n at `ask_port + n`. Else port 0 gives
+/// what the reader gives, as one connection.
 #[derive(Drop)]
-pub struct HostYard<R> {
+pub struct HostYard<'a, R, N> {
     input: Option<R>,
+    net: &'a N,
+    feeds: Vec<Option<TcpListener>>,
+    askers: Vec<Option<TcpListener>>,
+    listened: Option<Listening>,
     calls: u64,
     faults: u64,
+    endings: u64,
 }
 
-impl<R: Read + Drop> HostYard<R> {
-    /// A yard over this input, of which no call was made.
-    pub fn new(input: R) -> HostYard<R>
-        ensures input { result.input ≡ Some input }
-        ensures calls { result.calls ≡ 0 }
-        ensures calm { result.faults ≡ 0 }
+impl<'a, R: Read + Drop, N: Net<Listener = TcpListener, Stream = TcpStream>> HostYard<'a, R, N> {
+    /// A yard over this input and this network, of which no call was made. It takes the memory for all its listeners
+    /// at once.
+    pub fn new(alloc: Global, input: R, net: &'a N) -> Result<HostYard<'a, R, N>, NoMemory>
+        ensures input { IfOk result (λ y. y.input ≡ Some input) }
+        ensures calls { IfOk result (λ y. y.calls ≡ 0) }
+        ensures calm { IfOk result (λ y. y.faults ≡ 0) }
+        ensures listened { IfOk result (λ y. y.listened ≡ None) }
     {
-        HostYard {
+        let feeds = Vec::with_capacity(alloc, MOST as usize)?;
+        let askers = Vec::with_capacity(alloc, MOST as usize)?;
+        Ok(HostYard {
             input: Some(input),
+            net,
+            feeds,
+            askers,
+            listened: None,
             calls: 0,
             faults: 0,
-        }
+            endings: 0,
+        })
     }
 }
 
-/// A port over a reader of std. It has one connection, and tells what the reader tells.
-#[derive(Drop)]
-pub struct HostPort<R> {
-    input: R,
-    opened: u64,
-    closed: u64,
-    is_open: bool,
-    taken: u64,
-    refused: bool,
-    faults: u64,
-}
-
-impl<R: Read + Drop> Port for HostPort<R> {
-    ghost aside = { λ p. record { plan = None; coming = None; rest = R.remaining p.input; given = None; opened = p.opened; closed = p.closed; is_open = p.is_open; taken = p.taken; refused = p.refused; open_faults = 0; read_faults = p.faults; laid = [] } };
-
-    fn next_connection(&mut self) -> Result<bool, Failed> {
-        if self.opened > 0 {
-            self.refused = true;
-            return Ok(false);
-        }
-        self.opened = 1;
-        self.is_open = true;
-        self.taken = 0;
-        self.refused = false;
-        Ok(true)
-    }
-
-    fn read(&mut self, buf: &mut [u8]) -> Result<usize, Failed> {
-        match self.input.read(buf) {
-            Ok(count) => {
-                self.taken += count as u64;
-                Ok(count)
-            }
-            Err(_) => {
-                self.faults = self.faults.saturating_add(1);
-                Err(Failed)
-            }
-        }
-    }
-
-    fn close(&mut self) {
-        self.closed = self.closed.saturating_add(1);
-        self.is_open = false;
-    }
-}
-
-impl<R: Read + Drop> Yard for HostYard<R> {
+impl<'a, R: Read + Drop + Send, N: Net<Listener = TcpListener, Stream = TcpStream>> Yard
+    for HostYard<'a, R, N> {
     type Port = HostPort<R>;
+
+    type Link = HostLink;
+
+    type Ending = ();
+
+    ghost endings = { λ y. y.endings };
+
+    ghost listened = { λ y. y.listened };
 
     ghost faults = { λ y. y.faults };
 
     ghost calls = { λ y. y.calls };
 
-    fn port(&mut self, _lane: u32) -> Result<HostPort<R>, Failed>
-        ensures once { IsOk result ↔ IsSome self.old.input }
-        ensures reader { IfOk result (λ port. self.old.input ≡ Some port.input) }
-        ensures input { self.new.input ≡ None }
+    fn listen(
+        &mut self,
+        address: &Addr,
+        feed_port: u16,
+        feeds: u32,
+        ask_port: u16,
+        askers: u32,
+    ) -> Result<(), Failed> {
+        self.calls = self.calls.saturating_add(1);
+        self.listened = Some(Listening {
+            address: *address,
+            feeds,
+            askers,
+            feed_port,
+            ask_port,
+        });
+        if listen_at(self.net, address, feed_port, feeds, &mut self.feeds)
+            && listen_at(self.net, address, ask_port, askers, &mut self.askers)
+        {
+            Ok(())
+        } else {
+            self.faults = self.faults.saturating_add(1);
+            Err(Failed)
+        }
+    }
+
+    fn port(&mut self, lane: u32) -> Result<HostPort<R>, Failed>
+        ensures once { self.old.listened ≡ None → (IsOk result ↔ IsSome self.old.input) }
+        ensures reader { self.old.listened ≡ None → IfOk result (λ port. self.old.input ≡ port.input) }
+        ensures input { self.old.listened ≡ None → self.new.input ≡ None }
+        ensures listened { self.new.listened ≡ self.old.listened }
         ensures calls { self.new.calls ≡ one_more self.old.calls }
         ensures cause { HasCause self.old.faults self.new.faults result }
+        ensures endings { self.new.endings ≡ self.old.endings }
     {
         self.calls = self.calls.saturating_add(1);
-        match self.input.take() {
-            Some(input) => Ok(HostPort {
-                input,
-                opened: 0,
-                closed: 0,
-                is_open: false,
-                taken: 0,
-                refused: false,
-                faults: 0,
-            }),
+        let (input, listener) = if self.listened.is_some() {
+            (None, take_listener(&mut self.feeds, lane))
+        } else {
+            (self.input.take(), None)
+        };
+        if input.is_some() || listener.is_some() {
+            return Ok(HostPort::over(input, listener));
+        }
+        self.faults = self.faults.saturating_add(1);
+        Err(Failed)
+    }
+
+    fn link(&mut self, number: u32) -> Result<HostLink, Failed> {
+        self.calls = self.calls.saturating_add(1);
+        match take_listener(&mut self.askers, number) {
+            Some(listener) => Ok(HostLink::over(listener)),
             None => {
                 self.faults = self.faults.saturating_add(1);
                 Err(Failed)
@@ -108,4 +126,10 @@ impl<R: Read + Drop> Yard for HostYard<R> {
     }
 
     fn take_port(&mut self, _lane: u32, _port: HostPort<R>) {}
+
+    fn take_link(&mut self, _number: u32, _link: HostLink) {}
+
+    fn take_ending(&mut self, _ending: ()) {
+        self.endings = self.endings.saturating_add(1);
+    }
 }

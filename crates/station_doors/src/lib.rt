@@ -1,19 +1,43 @@
-//! Where connections come from: ports, and the yards that hand them out.
+//! Where connections come from: ports and links, and the yards that hand them out.
 //!
-//! A port is the place of one router and gives one connection after another; a yard hands ports out and
-//! takes them back. Each counts its faults, and answers `Failed` only where its count rose in that call.
-//! `MemPort` and `MemYard` hold everything in memory and tell it to contracts: the plan, each byte that
-//! was given, how the last read went. `HostYard` is standard input, and tells nothing of content.
+//! A port is the place of one router, a link the place of one client; each gives one connection after
+//! another, and a link takes what is written to it. A yard hands them out by number and takes them back. Each
+//! counts its faults, and answers `Failed` only where its count rose in that call.
+//!
+//! `MemPort`, `MemLink` and `MemYard` hold everything in memory and tell it to contracts: the plan, each byte
+//! that was given, how the last read went, what was written and what came back. `SurePort` and `SureLink` are
+//! of the same kind and never fail. `HostYard` is standard input and TCP, and tells counts alone. A lane that
+//! publishes holds its port in a `LanePort`, which gives it bytes only while nothing whole is unpublished.
 //!
 //! Begin with `specs/Doors.antt`, which says what each call does to what is told, then `src/doors.rt`.
 #![tactic(auto)]
 
+mod connections;
+mod counts;
 mod doors;
 mod host;
+mod host_link;
+mod host_port;
+mod lane_port;
+mod listening;
+mod mem_link;
 mod mem_port;
 mod mem_yard;
+mod sockets;
+mod sure_link;
+mod sure_port;
 
-pub use doors::{Port, Yard};
-pub use host::{HostPort, HostYard};
+pub use doors::{Link, Port, Yard};
+pub use host::HostYard;
+pub use host_link::HostLink;
+pub use host_port::HostPort;
+pub use lane_port::{LanePort, Streamed};
+pub use listening::Listening;
+pub use mem_link::MemLink;
 pub use mem_port::MemPort;
-pub use mem_yard::{MemYard, PortList};
+pub use mem_yard::{LinkList, MemYard, PortList};
+pub use sure_link::SureLink;
+pub use sure_port::SurePort;
+
+#[cfg(test)]
+mod tests;

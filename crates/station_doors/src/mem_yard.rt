@@ -1,16 +1,19 @@
-ghost use Rattle.std.specs.Prelude.{◌≡◌, ℕ, ◌≤◌, ◌<◌, ◌+◌, ◌++◌, ◌∷◌, [], Some, map, length, vec_len, All, Contains, IsTrue, ◌↔◌, IfOk, IfErr, IfSome, IfNone, OnErr, OnOk, position, ◌==◌, slice_index};
+ghost use Rattle.std.specs.Prelude.{◌≡◌, ℕ, ◌≤◌, ◌<◌, ◌+◌, ◌++◌, ◌∷◌, [], None, Some, map, length, vec_len, All, Contains, IsTrue, ◌↔◌, IfOk, IfErr, IfSome, IfNone, OnErr, OnOk, position, ◌==◌, slice_index};
 ghost use Rattle.std.specs.Bool.{OnTrue, OnFalse};
 ghost use Rattle.std.specs.Vec.{vec_capacity};
-ghost use Rattle.station_doors.specs.Doors.{untouched, without, one_more};
-ghost use Rattle.station_doors.specs.MemPort.{MemPortValue};
+ghost use Rattle.station_doors.specs.Doors.{without, one_more};
 
-use crate::{MemPort, Port, Yard};
+use crate::{Listening, MemLink, MemPort, Port, Yard};
+use ip_prefix::Addr;
 use std::alloc::Global;
 use std::marker::Model;
 use wire_io::{Failed, List, NoMemory};
 
 /// A list of ports.
 pub type PortList = List<MemPort>;
+
+/// A list of links.
+pub type LinkList = List<MemLink>;
 
 // A port that was given back under this number.
 #[derive(Drop)]
@@ -19,53 +22,111 @@ struct Back {
     port: MemPort,
 }
 
-/// A yard over ports in memory. It tells all that it does.
-///
-/// It hands the ports out in order, each once. A call that answers a `Result` fails exactly where its
-/// number, counted from 0, is among `fails`, or where no port is left to hand out.
+// A link that was given back under this number.
 #[derive(Drop)]
-pub struct MemYard {
+struct LinkBack {
+    number: u32,
+    link: MemLink,
+}
+
+/// A yard over ports and links in memory. It tells all that it does.
+///
+/// It hands the ports out in order, each once, and the links in the same way. A call that answers a `Result`
+/// fails exactly where its number, counted from 0, is among `fails`, or where nothing is left to hand out.
+#[derive(Drop)]
+pub struct MemYard<E> {
     ports: Vec<MemPort>,
+    links: Vec<MemLink>,
     fails: Vec<u64>,
     out: Vec<u32>,
+    links_out: Vec<u32>,
     back: Vec<Back>,
+    links_back: Vec<LinkBack>,
+    listened: Option<Listening>,
+    ending: Option<E>,
     calls: u64,
     faults: u64,
+    endings: u64,
 }
 
-impl Model for MemYard {
+impl<E> Model for MemYard<E> {
     ghost use Rattle.std.specs.Prelude.{◌≡◌, ◌≤◌, ◌+◌, vec_len, All};
     ghost use Rattle.std.specs.Vec.{vec_capacity};
-    ghost use Rattle.station_doors.specs.MemYard.{MemYardValue, tells_of, IsUntouched};
+    ghost use Rattle.station_doors.specs.MemYard.{MemYardValue, tells_of, IsUntouched, IsIdle};
 
-    ghost Value = { MemYardValue };
+    ghost Value = { MemYardValue E };
 
-    ghost view = { λ y. record { tells = tells_of y.ports.items y.fails.items y.out.items y.back.items; calls = y.calls; faults = y.faults } };
+    ghost view = { λ y. record { tells = tells_of y.ports.items y.links.items y.fails.items y.out.items y.links_out.items y.back.items y.links_back.items; listened = y.listened; calls = y.calls; faults = y.faults; ending = y.ending; endings = y.endings } };
 
-    ghost invariant = { λ y. All IsUntouched y.ports.items × (vec_len y.ports + vec_len y.out ≤ vec_capacity y.out) × (vec_len y.ports + vec_len y.out + vec_len y.back ≤ vec_capacity y.back) };
+    ghost invariant = { λ y. All IsUntouched y.ports.items × All IsIdle y.links.items
+        × (vec_len y.ports + vec_len y.out ≤ vec_capacity y.out) × (vec_len y.ports + vec_len y.out + vec_len y.back ≤ vec_capacity y.back)
+        × (vec_len y.links + vec_len y.links_out ≤ vec_capacity y.links_out) × (vec_len y.links + vec_len y.links_out + vec_len y.links_back ≤ vec_capacity y.links_back) };
 }
 
-impl MemYard {
-    ghost use Rattle.station_doors.specs.MemYard.{IsUntouched, plan_of};
+impl<E> MemYard<E> {
+    ghost use Rattle.station_doors.specs.MemYard.{IsUntouched, IsIdle, plan_of, link_plan_of, written_by};
 
-    /// A yard with these ports, of which none has answered a call yet. On want of memory they are dropped.
-    pub fn new(alloc: Global, ports: PortList, fails: &[u64]) -> Result<MemYard, NoMemory>
-        requires { All IsUntouched ports }
-        ensures { IfOk result (λ y. y ≡ record { tells = record { ports = map plan_of ports; fails = fails.now; out = []; back = [] }; calls = 0; faults = 0 }) }
+    /// A yard with these ports and links, of which none has answered a call yet. On want of memory they are dropped.
+    pub fn new(
+        alloc: Global,
+        ports: PortList,
+        links: LinkList,
+        fails: &[u64],
+    ) -> Result<MemYard<E>, NoMemory>
+        requires ports { All IsUntouched ports }
+        requires links { All IsIdle links }
+        ensures { IfOk result (λ y. y ≡ record { tells = record { ports = map plan_of ports; links = map link_plan_of links; fails = fails.now; out = []; links_out = []; back = []; links_back = [] }; listened = None; calls = 0; faults = 0; ending = None; endings = 0 }) }
     {
         let ports = ports.into_vec();
+        let links = links.into_vec();
         let fails = Vec::from_slice(alloc, fails)?;
         let out = Vec::with_capacity(alloc, ports.len())?;
+        let links_out = Vec::with_capacity(alloc, links.len())?;
         let back = Vec::with_capacity(alloc, ports.len())?;
+        let links_back = Vec::with_capacity(alloc, links.len())?;
         Ok(MemYard {
             ports,
+            links,
             fails,
             out,
+            links_out,
             back,
+            links_back,
+            listened: None,
+            ending: None,
             calls: 0,
             faults: 0,
+            endings: 0,
         })
     }
+
+    /// Lends the ending that it took last. `None` exactly where it took none.
+    pub fn ending(&self) -> Option<&E>
+        ensures some { IfSome result (λ e. self.now.ending ≡ Some e.now) }
+        ensures none { IfNone result (self.now.ending ≡ None) }
+    {
+        self.ending.as_ref()
+    }
+
+    /// Lends what was written to the first link that was given back under this number. It is empty where there is
+    /// none.
+    pub fn written(&self, number: u32) -> &[u8]
+        ensures { result.now ≡ written_by number self.now.tells.links_back }
+    {
+        match place_by(self.links_back.as_slice(), number) {
+            Some(place) => self.links_back[place].link.taken(),
+            None => &[],
+        }
+    }
+}
+
+// The first place of this number among those given back.
+fn place_by(back: &[LinkBack], number: u32) -> Option<usize>
+    ensures place { result ≡ position (λ b. b.number == number) back.now }
+    ensures some { IfSome result (λ i. i < length back.now) }
+    ensures none { IfNone result (All (λ b. b.number ≡ number → ⊥) back.now) }
+{
+    back.iter().position(|link| link.number == number)
 }
 
 // The first place of this number.
@@ -94,14 +155,48 @@ fn take_out(out: &mut Vec<u32>, lane: u32) -> bool
     }
 }
 
-impl Yard for MemYard {
+impl<E: Drop> Yard for MemYard<E> {
     type Port = MemPort;
 
+    type Link = MemLink;
+
+    type Ending = E;
+
     ghost told = { λ y. Some y.tells };
+
+    ghost last_ending = { λ y. y.ending };
+
+    ghost endings = { λ y. y.endings };
+
+    ghost listened = { λ y. y.listened };
 
     ghost faults = { λ y. y.faults };
 
     ghost calls = { λ y. y.calls };
+
+    fn listen(
+        &mut self,
+        address: &Addr,
+        feed_port: u16,
+        feeds: u32,
+        ask_port: u16,
+        askers: u32,
+    ) -> Result<(), Failed> {
+        let call = self.calls;
+        self.calls = call.saturating_add(1);
+        self.listened = Some(Listening {
+            address: *address,
+            feeds,
+            askers,
+            feed_port,
+            ask_port,
+        });
+        if self.fails.contains(&call) {
+            self.faults = self.faults.saturating_add(1);
+            return Err(Failed);
+        }
+        Ok(())
+    }
 
     fn port(&mut self, lane: u32) -> Result<MemPort, Failed> {
         let call = self.calls;
@@ -121,11 +216,42 @@ impl Yard for MemYard {
         Ok(port)
     }
 
+    fn link(&mut self, number: u32) -> Result<MemLink, Failed> {
+        let call = self.calls;
+        self.calls = call.saturating_add(1);
+        if self.fails.contains(&call) {
+            self.faults = self.faults.saturating_add(1);
+            return Err(Failed);
+        }
+        if self.links.is_empty() {
+            self.faults = self.faults.saturating_add(1);
+            return Err(Failed);
+        }
+        let link = self.links.remove(0);
+        if self.links_out.insert(0, number).is_err() {
+            unreachable!();
+        }
+        Ok(link)
+    }
+
     fn take_port(&mut self, lane: u32, port: MemPort) {
         if take_out(&mut self.out, lane) {
             if self.back.push(Back { lane, port }).is_err() {
                 unreachable!();
             }
         }
+    }
+
+    fn take_link(&mut self, number: u32, link: MemLink) {
+        if take_out(&mut self.links_out, number) {
+            if self.links_back.push(LinkBack { number, link }).is_err() {
+                unreachable!();
+            }
+        }
+    }
+
+    fn take_ending(&mut self, ending: E) {
+        self.endings = self.endings.saturating_add(1);
+        self.ending = Some(ending);
     }
 }

@@ -1,8 +1,8 @@
 ghost use Rattle.std.specs.Prelude.{IfOk, All};
-ghost use Rattle.station_doors.specs.MemYard.{IsUntouched};
+ghost use Rattle.station_doors.specs.MemYard.{IsUntouched, IsIdle};
 
 use crate::station;
-use station_doors::{MemPort, MemYard, PortList};
+use station_doors::{LinkList, MemPort, MemYard, PortList};
 use std::alloc::Global;
 use std::test::Fail;
 use wire_io::{ByteList, MemSink, NoMemory};
@@ -114,6 +114,13 @@ fn ports(alloc: Global, texts: &[&str], reads: &[u64]) -> Result<PortList, Fail>
     }
 }
 
+// No link.
+fn links(alloc: Global) -> LinkList
+    ensures { All IsIdle result }
+{
+    LinkList::new(alloc)
+}
+
 // What a run over one connection of these bytes writes, and its exit status, where the reads, the calls of the yard
 // and the writes with these numbers fail.
 fn shown(
@@ -124,7 +131,7 @@ fn shown(
 ) -> Result<(u8, ByteList), Fail> {
     let [reads, calls, writes] = fails;
     let ports = ports(alloc, bytes, reads)?;
-    let mut yard = MemYard::new(alloc, ports, calls)?;
+    let mut yard: MemYard<()> = MemYard::new(alloc, ports, links(alloc), calls)?;
     let mut out = MemSink::new(alloc, 4000, writes)?;
     let status = station(alloc, words, &mut yard, &mut out);
     let mut taken = ByteList::new(alloc);

@@ -39,12 +39,14 @@ pub record Aside : Type 0 where
   pub open_faults : ℕ
   -- the count of faults of reads
   pub read_faults : ℕ
+  -- the count of faults in writes as each connection was opened, the present one last, where it is told
+  pub write_faults : Option (List ℕ)
   -- what the sink told as a buffer was laid over it, for each buffer
   pub laid : List (Option (List ℕ))
 
 -- of an object that gives no connections
 abbrev pub nothing_aside : Aside
-nothing_aside = record { plan = None; coming = None; rest = None; given = None; opened = 0; closed = 0; is_open = false; taken = 0; refused = false; open_faults = 0; read_faults = 0; laid = [] }
+nothing_aside = record { plan = None; coming = None; rest = None; given = None; opened = 0; closed = 0; is_open = false; taken = 0; refused = false; open_faults = 0; read_faults = 0; write_faults = None; laid = [] }
 
 -- the same, with a buffer over it
 abbrev pub laid_over : Option (List ℕ) → Aside → Aside

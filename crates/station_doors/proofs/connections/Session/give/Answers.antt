@@ -1,6 +1,6 @@
 use Rattle.std.proofs.Common.{◌≡◌, arith, ap, length}
 use Rattle.station_doors.proofs.Sessions.{gives}
-use Rattle.station_doors.proofs.mem_port.Session.give.Goals as goal
+use Rattle.station_doors.proofs.connections.Session.give.Goals as goal
 
 pub returns-clause-given : goal.returns-clause-given
 returns-clause-given c =

@@ -1,0 +1,101 @@
+ghost use Rattle.std.specs.Prelude.{◌≡◌, ◌+◌, ◌-◌, ◌^◌, ◌<◌, ◌≤◌, min, length, IfOk, IfSome, OnErr};
+ghost use Rattle.wire_io.specs.Faults.{HasCause};
+
+use crate::Link;
+use crate::counts::Counts;
+use crate::sockets::accept_next;
+use std::io::{Read, Write};
+use std::net::{TcpListener, TcpStream};
+use wire_io::{Failed, Sink};
+
+/// A link over a listener. It tells nothing of content. A write to a client that went away is a fault, as any
+/// other write that fails.
+#[derive(Drop)]
+pub struct HostLink {
+    listener: TcpListener,
+    stream: Option<TcpStream>,
+    counts: Counts,
+    faults: u64,
+}
+
+impl HostLink {
+    // A link over this listener, of which no call was made.
+    pub(crate) fn over(listener: TcpListener) -> HostLink
+        ensures { result.faults ≡ 0 }
+    {
+        HostLink {
+            listener,
+            stream: None,
+            counts: Counts::new(),
+            faults: 0,
+        }
+    }
+}
+
+// Reads from the stream. None where that failed, or there is none.
+fn read_from(stream: &mut Option<TcpStream>, buf: &mut [u8]) -> Option<usize>
+    ensures { IfSome result (λ n. n ≤ length buf.new) }
+{
+    match stream {
+        Some(stream) => stream.read(buf).ok(),
+        None => None,
+    }
+}
+
+// Writes to the stream. None where that failed, took nothing, or there is none.
+fn write_to(stream: &mut Option<TcpStream>, piece: &[u8]) -> Option<usize>
+    ensures { IfSome result (λ n. (0 < n) × (n ≤ length piece.now)) }
+{
+    match stream {
+        Some(stream) => match stream.write(piece) {
+            Ok(count) if 0 < count => Some(count),
+            _ => None,
+        },
+        None => None,
+    }
+}
+
+impl Sink for HostLink {
+    ghost faults = { λ k. k.faults };
+
+    ghost aside = { λ k. k.counts };
+
+    fn write(&mut self, piece: &[u8]) -> Result<usize, Failed>
+        requires { 0 < length piece.now }
+        ensures some { IfOk result (λ n. 0 < n) }
+        ensures bound { IfOk result (λ n. n ≤ length piece.now) }
+        ensures aside { self.new.counts ≡ self.old.counts }
+        ensures counted { OnErr result (self.new.faults ≡ min (self.old.faults + 1) (2 ^ 64 - 1)) }
+        ensures cause { HasCause self.old.faults self.new.faults result }
+    {
+        match write_to(&mut self.stream, piece) {
+            Some(count) => Ok(count),
+            None => {
+                self.faults = self.faults.saturating_add(1);
+                Err(Failed)
+            }
+        }
+    }
+}
+
+impl Link for HostLink {
+    fn next_connection(&mut self) -> Result<bool, Failed> {
+        self.stream = accept_next(&self.listener);
+        let came = if self.stream.is_some() {
+            Some(true)
+        } else {
+            None
+        };
+        self.counts.open(came)
+    }
+
+    fn read(&mut self, buf: &mut [u8]) -> Result<usize, Failed> {
+        let came = read_from(&mut self.stream, buf);
+        self.counts.read(came)
+    }
+
+    fn close(&mut self) {
+        self.stream = None;
+        self.counts.close();
+    }
+}

@@ -1,0 +1,84 @@
+ghost use Rattle.std.specs.Prelude.{◌≡◌, ◌≤◌, length, IfSome};
+
+use crate::Port;
+use crate::counts::Counts;
+use crate::sockets::accept_next;
+use std::io::Read;
+use std::net::{TcpListener, TcpStream};
+use wire_io::Failed;
+
+/// A port over a reader, which has one connection, or over a listener, which has one after another. It tells
+/// nothing of content.
+#[derive(Drop)]
+pub struct HostPort<R> {
+    input: Option<R>,
+    listener: Option<TcpListener>,
+    stream: Option<TcpStream>,
+    counts: Counts,
+}
+
+impl<R: Drop> HostPort<R> {
+    // A port over one of these, of which no call was made.
+    pub(crate) fn over(input: Option<R>, listener: Option<TcpListener>) -> HostPort<R>
+        ensures input { result.input ≡ input }
+    {
+        HostPort {
+            input,
+            listener,
+            stream: None,
+            counts: Counts::new(),
+        }
+    }
+}
+
+// The connection that comes next: true with one, false where there is none. None where that failed.
+fn come(
+    listener: &Option<TcpListener>,
+    stream: &mut Option<TcpStream>,
+    is_first: bool,
+) -> Option<bool> {
+    match listener {
+        Some(listener) => {
+            *stream = accept_next(listener);
+            if stream.is_some() { Some(true) } else { None }
+        }
+        None => Some(is_first),
+    }
+}
+
+// Reads from the stream, or else from the input. None where that failed.
+fn read_from<R: Read>(
+    stream: &mut Option<TcpStream>,
+    input: &mut Option<R>,
+    buf: &mut [u8],
+) -> Option<usize>
+    ensures { IfSome result (λ n. n ≤ length buf.new) }
+{
+    if let Some(stream) = stream {
+        return stream.read(buf).ok();
+    }
+    match input {
+        Some(input) => input.read(buf).ok(),
+        None => None,
+    }
+}
+
+impl<R: Read + Drop> Port for HostPort<R> {
+    ghost aside = { λ p. p.counts };
+
+    fn next_connection(&mut self) -> Result<bool, Failed> {
+        let is_first = self.counts.is_unused();
+        let came = come(&self.listener, &mut self.stream, is_first);
+        self.counts.open(came)
+    }
+
+    fn read(&mut self, buf: &mut [u8]) -> Result<usize, Failed> {
+        let came = read_from(&mut self.stream, &mut self.input, buf);
+        self.counts.read(came)
+    }
+
+    fn close(&mut self) {
+        self.stream = None;
+        self.counts.close();
+    }
+}

@@ -1,0 +1,103 @@
+ghost use Rattle.std.specs.Prelude.{◌≡◌, length};
+
+use crate::{HostYard, Link, Port, Yard};
+use ip_prefix::Addr;
+use std::io;
+use std::io::{Read, Write};
+use std::net::{Net, OpenListener, Shutdown, TcpListener, TcpStream};
+use std::test::Fail;
+use std::time::Duration;
+use wire_io::{Failed, NoMemory, Sink};
+
+const LOOPBACK: [u8; 4] = [127, 0, 0, 1];
+
+// A port of the loopback address that nobody listens at.
+fn free_port<N: Net<Listener = TcpListener, Stream = TcpStream>>(net: &N) -> io::Result<u16> {
+    Ok(TcpListener::bind(net, "127.0.0.1:0")?.local_addr()?.port())
+}
+
+// A client of this port, whose reads end after ten seconds.
+fn client<N: Net<Listener = TcpListener, Stream = TcpStream>>(
+    net: &N,
+    port: u16,
+) -> io::Result<TcpStream> {
+    let stream = TcpStream::connect(net, ("127.0.0.1", port))?;
+    stream.set_read_timeout(Some(Duration::from_secs(10)))?;
+    Ok(stream)
+}
+
+// Opens the next connection, reads twice and closes it. It answers how many bytes each read gave.
+fn take_next<P: Port>(port: &mut P, buf: &mut [u8]) -> Result<(usize, usize), Failed>
+    requires { length buf.old ≡ 65536 }
+    ensures { length buf.new ≡ length buf.old }
+{
+    if !port.next_connection()? {
+        return Err(Failed);
+    }
+    let first = port.read(buf)?;
+    let second = port.read(buf)?;
+    port.close();
+    Ok((first, second))
+}
+
+#[test]
+fn lane_takes_one_router_after_another(rt: HostRuntime) -> Result<(), Fail> {
+    let (feed_port, ask_port) = (free_port(&rt)?, free_port(&rt)?);
+    let mut yard = HostYard::new(rt.alloc(), rt.stdin(), &rt)?;
+    let listens = yard.listen(&Addr::v4(LOOPBACK), feed_port, 1, ask_port, 1);
+    assert_eq!(rt; listens, Ok(()));
+    let mut port = match yard.port(0) {
+        Ok(port) => port,
+        Err(Failed) => return Err(Fail::from(NoMemory)),
+    };
+    let mut first = client(&rt, feed_port)?;
+    let mut second = client(&rt, feed_port)?;
+    first.write_all(b"first")?;
+    second.write_all(b"then")?;
+    drop(first);
+    drop(second);
+    for text in ["first", "then"] {
+        let mut buf = vec![in rt.alloc(); 0u8; 65_536]?;
+        assert_eq!(rt; take_next(&mut port, &mut buf), Ok((text.len(), 0)));
+        assert!(rt; buf.as_slice().starts_with(text.as_bytes()));
+    }
+    yard.take_port(0, port);
+    Ok(())
+}
+
+#[test]
+fn asker_takes_one_client_after_another(rt: HostRuntime) -> Result<(), Fail> {
+    let (feed_port, ask_port) = (free_port(&rt)?, free_port(&rt)?);
+    let mut yard = HostYard::new(rt.alloc(), rt.stdin(), &rt)?;
+    let listens = yard.listen(&Addr::v4(LOOPBACK), feed_port, 1, ask_port, 1);
+    assert_eq!(rt; listens, Ok(()));
+    let mut link = match yard.link(0) {
+        Ok(link) => link,
+        Err(Failed) => return Err(Fail::from(NoMemory)),
+    };
+    let mut asking = client(&rt, ask_port)?;
+    asking.write_all(b"cut\n")?;
+    assert_eq!(rt; link.next_connection(), Ok(true));
+    let mut buf = [0u8; 512];
+    assert_eq!(rt; link.read(&mut buf), Ok(4));
+    assert_eq!(rt; &buf[..4], b"cut\n".as_slice());
+    assert_eq!(rt; link.write(b"at 0\n"), Ok(5));
+    link.close();
+    let mut reply = [0u8; 16];
+    assert_eq!(rt; asking.read(&mut reply)?, 5);
+    assert_eq!(rt; &reply[..5], b"at 0\n".as_slice());
+    assert_eq!(rt; asking.read(&mut reply)?, 0);
+    // a client that goes away
+    drop(client(&rt, ask_port)?);
+    assert_eq!(rt; link.next_connection(), Ok(true));
+    let mut is_lost = false;
+    for _ in 0..1000 {
+        if link.write(&buf).is_err() {
+            is_lost = true;
+            break;
+        }
+    }
+    assert!(rt; is_lost);
+    yard.take_link(0, link);
+    Ok(())
+}
