@@ -13,6 +13,7 @@
 //! `specs/Rows.antt`, their merging in `src/weave.rt` and `proofs/Merging.antt`.
 #![tactic(auto)]
 
+mod back;
 mod changes;
 mod cursor;
 mod find;
