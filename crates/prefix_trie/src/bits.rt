@@ -2,7 +2,7 @@ ghost use Rattle.std.specs.Prelude.{◌≡◌, length};
 ghost use Rattle.prefix_trie.specs.Agreement.{AgreesFor};
 
 /// How many first bits the bytes of two addresses share.
-pub(crate) fn shared_bits(a: &[u8], b: &[u8]) -> u8
+pub fn shared_bits(a: &[u8], b: &[u8]) -> u8
     requires a { length a.now ≡ 16 }
     requires b { length b.now ≡ 16 }
     ensures { AgreesFor a.now b.now result }

@@ -21,6 +21,7 @@ mod share;
 mod steps;
 mod trie;
 
+pub use bits::shared_bits;
 pub use share::{NoMemory, Share};
 pub use steps::Steps;
 pub use trie::Trie;

@@ -8,3 +8,5 @@ pub mod Renaming
 pub mod OneSet
 pub mod Hints
 pub mod Left
+pub mod KeptNlri
+pub mod Nearer

@@ -14,7 +14,7 @@ use Rattle.std.proofs.lemmas.Map.Views.{tells_apart}
 use Rattle.route_runs.specs.Rows.{set_at, paired, rows, IsHandle, IsRun}
 use Rattle.route_runs.specs.Message.{IsAllSet, HasSame}
 use Rattle.route_runs.proofs.Overriding.{value-named}
-use Rattle.route_runs.proofs.Searching.{value_found, value_missing, tie, less_is, bools}
+use Rattle.route_runs.proofs.Searching.{value_found, value_missing, has_row, has_rows, tie, less_is, bools}
 
 -- no element is less than the one before it, from k on
 abbrev Chain : {K : Type 0} → (K → K → Ordering) → K → List K → Type 0
@@ -71,6 +71,7 @@ module _ {K A : Type 0} (cmp : K → K → Ordering) (total : IsTotalOrder cmp) 
         value-named cmp q packs (paired ks (replicate (length ks) v))
         ∙ ap (option_map (set_at packs)) (value_found cmp total exact ks (replicate (length ks) v) (length-replicate (length ks) v) ordered c.0 q c.1 c.2 ∙ ap Some (get_or-replicate (length ks) c.0 v 0 c.1))
         ∙ ap Some names;
+    listed = λ q has. members.from q (has_row cmp total exact ks (replicate (length ks) v) q (sym (has_rows cmp total exact packs ks (replicate (length ks) v) run_of_many q) ∙ has));
     no_other = λ q lacks.
         value-named cmp q packs (paired ks (replicate (length ks) v))
         ∙ ap (option_map (set_at packs)) (value_missing cmp total exact ks (replicate (length ks) v) q (λ k d lt. elim (bools (is_at (cmp q) (get_or ks k d))) [

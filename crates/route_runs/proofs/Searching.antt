@@ -15,7 +15,7 @@ use Rattle.std.proofs.lemmas.Map.Views.{tells_apart}
 use Rattle.route_runs.specs.Override.{value_at, or_else}
 use Rattle.route_runs.specs.Rows.{set_at, paired, rows, IsRun}
 use Rattle.route_runs.specs.Runs.{joined, latest, seen}
-use Rattle.route_runs.specs.Places.{is_after, IsAfterPoint, IsNextKey, IsNext, has_key, has_latest, lesser_of, IsPassed, IsFirst, IsFirstPair, is_from}
+use Rattle.route_runs.specs.Places.{is_after, IsAfterPoint, IsNextKey, IsNext, has_key, has_latest, lesser_of, IsPassed, IsFirst, IsFirstPair, IsBeforePoint, turned, is_from}
 use Rattle.route_runs.proofs.Overriding.{value-named}
 use Rattle.route_runs.proofs.Contents.{value-joined, latest-more}
 
@@ -370,6 +370,17 @@ pub first_ext : {K A : Type 0} (cmp : K → K → Ordering) (test : K → Bool) 
 first_ext cmp test v w None e f = λ q beyond. e q ∙ f q beyond
 first_ext cmp test v w (Some x) e f = record { there = e x.0 ∙ f.there; beyond = f.beyond; first = λ q beyond has. f.first q beyond (ap is_some (sym (e q)) ∙ has) }
 
+-- ---- the order turned round
+pub turned_total : {K : Type 0} (cmp : K → K → Ordering) → IsTotalOrder cmp → CmpEqualImpliesEq cmp → IsTotalOrder (turned cmp)
+turned_total cmp total exact = record {
+  antisymm = λ x y. total.antisymm y x;
+  trans = λ x y z a b. total.trans z y x b a;
+  congr = λ x y z e. ap (cmp z) (sym (exact y x e));
+}
+
+pub turned_exact : {K : Type 0} (cmp : K → K → Ordering) → CmpEqualImpliesEq cmp → CmpEqualImpliesEq (turned cmp)
+turned_exact cmp exact x y e = sym (exact y x e)
+
 -- ---- a place itself, or what is after it
 module _ {K A : Type 0} (cmp : K → K → Ordering) (total : IsTotalOrder cmp) (exact : CmpEqualImpliesEq cmp) (value : K → Option A) (place : K) where
   from_true : (b : Bool) → not b ≡ true → b ≡ false
@@ -403,3 +414,53 @@ module _ {K A : Type 0} (cmp : K → K → Ordering) (total : IsTotalOrder cmp) 
     beyond = after_from e.0 f.beyond;
     first = λ q test has. f.first q (nothing_here none q test has) has;
   }
+
+-- ---- where the keys before a place end
+module _ {K : Type 0} (cmp : K → K → Ordering) (total : IsTotalOrder cmp) (exact : CmpEqualImpliesEq cmp) where
+  pub before_none : (ks : List K) → IsBeforePoint cmp None ks (length ks)
+  before_none ks = record { within = omega arith; before = λ k d lt. refl; behind = λ k d le lt. absurd (omega (arith, le, lt)) }
+
+  pub before_found : (ks : List K) → IsStrictlySortedBy cmp ks → (x : K) (at : ℕ) → at < length ks → HoldsAt (λ y. cmp y x ≡ Equal) ks at → IsBeforePoint cmp (Some x) ks at
+  before_found ks s x at lt holds = record {
+    within = omega (arith, lt);
+    before = λ k d less. let e : cmp (get_or ks k d) x ≡ Less = subst (λ y. cmp (get_or ks k d) y ≡ Less) (exact _ x (holds d)) (pair_less cmp ks s k at d less lt) in ap is_lt e;
+    behind = λ k d more less. elim (cases_eq k at) [
+      | inl same ↦ ap (λ k. is_lt (cmp (get_or ks k d) x)) same ∙ ap is_lt (holds d)
+      | inr other ↦ let e : cmp x (get_or ks k d) ≡ Less = subst (λ y. cmp y (get_or ks k d) ≡ Less) (exact _ x (holds d)) (pair_less cmp ks s at k d (omega (arith, more, other)) less) in ap is_lt (turned_is cmp total exact x (get_or ks k d) Less e)
+    ];
+  }
+
+  pub before_missing : (ks : List K) → IsStrictlySortedBy cmp ks → (x : K) (at : ℕ) → at ≤ length ks → (IsNonDecreasingBy (λ y. ordering_index (cmp y x)) ks → IsPartitionPoint (λ y. cmp y x ≡ Less) (λ y. cmp y x ≡ Greater) ks at) → IsBeforePoint cmp (Some x) ks at
+  before_missing ks s x at le point =
+      let p = point (searchable cmp total exact ks s x) in
+      record {
+        within = le;
+        before = λ k d less. ap is_lt (p.0 k d (omega arith) less);
+        behind = λ k d more less. ap is_lt (p.1 k d more less);
+      }
+
+module _ {K A : Type 0} (cmp : K → K → Ordering) (total : IsTotalOrder cmp) (exact : CmpEqualImpliesEq cmp) (packs : List (List A)) (ks : List K) (vs : List ℕ) (run : IsRun cmp packs ks vs) where
+  pub last_at : (place : Option K) (n : ℕ) (k : K) → IsBeforePoint cmp place ks n → 0 < n → k ≡ get_or ks (n - 1) k → IsNext (turned cmp) place (has_key cmp (rows packs ks vs)) (Some k)
+  last_at place n k p some is =
+      let lt : n - 1 < length ks = (let w = p.within in omega (arith, w, some)) in
+      record {
+        listed = has_rows cmp total exact packs ks vs run k ∙ ap is_some (value_found cmp total exact ks vs run.even run.ordered (n - 1) k lt (sym is));
+        beyond = ap (is_after (turned cmp) place) is ∙ p.before (n - 1) k (omega (arith, some));
+        least = λ q has beyond.
+            let r = has_row cmp total exact ks vs q (sym (has_rows cmp total exact packs ks vs run q) ∙ has) in
+            elim (cases_lt r.0 n) [
+              | inr more ↦ absurd (not_both (is_after (turned cmp) place q) beyond (ap (is_after (turned cmp) place) (sym r.2) ∙ p.behind r.0 q more r.1))
+              | inl before ↦ elim (cases_eq r.0 (n - 1)) [
+                | inl same ↦ let e : q ≡ k = sym r.2 ∙ ap (λ i. get_or ks i q) same ∙ get_or_default ks (n - 1) q k lt ∙ sym is in ap (λ y. is_lt (cmp k y)) e ∙ ap is_lt (itself cmp total exact k)
+                | inr other ↦
+                    let l : cmp (get_or ks r.0 q) (get_or ks (n - 1) q) ≡ Less = pair_less cmp ks run.ordered r.0 (n - 1) q (omega (arith, before, other)) lt in
+                    let m : cmp q k ≡ Less = subst (λ y. cmp y k ≡ Less) r.2 (subst (λ y. cmp (get_or ks r.0 q) y ≡ Less) (get_or_default ks (n - 1) q k lt ∙ sym is) l) in
+                    ap is_lt (turned_is cmp total exact q k Less m)
+              ]
+            ];
+      }
+
+  pub last_none : (place : Option K) (n : ℕ) → IsBeforePoint cmp place ks n → n ≡ 0 → IsNext (turned cmp) place (has_key cmp (rows packs ks vs)) None
+  last_none place n p none q has =
+      let r = has_row cmp total exact ks vs q (sym (has_rows cmp total exact packs ks vs run q) ∙ has) in
+      ap (is_after (turned cmp) place) (sym r.2) ∙ p.behind r.0 q (omega (arith, none)) r.1

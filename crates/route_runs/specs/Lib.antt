@@ -8,3 +8,5 @@ pub mod Message
 pub mod Cursor
 pub mod Layers
 pub mod Walk
+pub mod Nlri
+pub mod Longest

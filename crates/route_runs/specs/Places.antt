@@ -33,6 +33,10 @@ abbrev pub is_from : {K : Type 0} → (K → K → Ordering) → K → K → Boo
 is_from cmp place q = not (is_lt (cmp q place))
 
 -- ---- inside
+-- the order turned round: what comes first in it comes last, and what is after a place is before it
+abbrev pub turned : {K : Type 0} → (K → K → Ordering) → K → K → Ordering
+turned cmp x y = cmp y x
+
 -- the keys from a number on are those after the place
 pub record IsAfterPoint {K : Type 0} (cmp : K → K → Ordering) (place : Option K) (ks : List K) (n : ℕ) : Type 0 where
   pub within : n ≤ length ks
@@ -65,3 +69,9 @@ lesser_of cmp (Some a) (Some b) = if is_lt (cmp b a) then Some b else Some a
 pub record IsPassed {K A : Type 0} (cmp : K → K → Ordering) (value : K → Option (Option A)) (place at : Option K) : Type 0 where
   pub passed : (q : K) → is_after cmp place q ≡ true → is_after cmp at q ≡ false → seen (value q) ≡ None
   pub further : (q : K) → is_after cmp at q ≡ true → is_after cmp place q ≡ true
+
+-- the keys below a number are those before the place
+pub record IsBeforePoint {K : Type 0} (cmp : K → K → Ordering) (place : Option K) (ks : List K) (n : ℕ) : Type 0 where
+  pub within : n ≤ length ks
+  pub before : (k : ℕ) (d : K) → k < n → is_after (turned cmp) place (slice_index_or ks k d) ≡ true
+  pub behind : (k : ℕ) (d : K) → n ≤ k → k < length ks → is_after (turned cmp) place (slice_index_or ks k d) ≡ false

@@ -1,11 +1,13 @@
-ghost use Rattle.std.specs.Prelude.{◌≡◌, [], None, Some, OnOk};
+ghost use Rattle.std.specs.Prelude.{◌≡◌, [], None, Some, OnOk, OnErr};
 ghost use Rattle.std.specs.Arc.{arc_value};
 ghost use Rattle.std.specs.Option.{option_map};
 ghost use Rattle.bmp_specs.specs.Orders.{nlri_cmp};
 ghost use Rattle.route_runs.specs.Layers.{AreChangedTo};
+ghost use Rattle.route_runs.specs.Nlri.{AreNlri};
 
 use crate::layers::Layers;
 use crate::run::Run;
+use crate::see::see_all;
 use ip_prefix::Nlri;
 use path_attrs::Attrs;
 use rib_model::Route;
@@ -25,10 +27,13 @@ pub struct Changes {
 impl Model for Changes {
     ghost use Rattle.std.specs.Prelude.{List, Option};
     ghost use Rattle.bmp_specs.specs.Values.{AttrsValue, NlriValue};
+    ghost use Rattle.route_runs.specs.Nlri.{AreNlri};
 
     ghost Value = { List (NlriValue × Option AttrsValue) };
 
     ghost view = { λ c. c.layers };
+
+    ghost invariant = { λ c. AreNlri c.layers };
 }
 
 impl Changes {
@@ -43,28 +48,56 @@ impl Changes {
     }
 
     /// Announces a route for each of these NLRI, those of one UPDATE message (RFC 4271, section 4.3). After want of
-    /// memory the changes may only be dropped.
+    /// memory no change is left.
     pub fn announce(&mut self, nlri: &[Nlri], route: &Route) -> Result<(), NoMemory>
-        ensures { OnOk result (AreChangedTo nlri_cmp nlri.now (Some (arc_value route.now)) self.old self.new) }
+        ensures ok { OnOk result (AreChangedTo nlri_cmp nlri.now (Some (arc_value route.now)) self.old self.new) }
+        ensures err { OnErr result (self.new ≡ []) }
     {
-        let route = Arc::try_clone(route)?;
-        self.change(nlri, Some(route))
+        match Arc::try_clone(route) {
+            Ok(route) => self.change(nlri, Some(route)),
+            Err(_) => {
+                self.layers = Layers::new(self.alloc);
+                Err(NoMemory)
+            }
+        }
     }
 
     /// Withdraws the routes of these NLRI (RFC 4271, section 4.3), whether or not a table has them. After want of
-    /// memory the changes may only be dropped.
+    /// memory no change is left.
     pub fn withdraw(&mut self, nlri: &[Nlri]) -> Result<(), NoMemory>
-        ensures { OnOk result (AreChangedTo nlri_cmp nlri.now None self.old self.new) }
+        ensures ok { OnOk result (AreChangedTo nlri_cmp nlri.now None self.old self.new) }
+        ensures err { OnErr result (self.new ≡ []) }
     {
         self.change(nlri, None)
     }
 
     // Changes each of these NLRI to a route, or to none.
     fn change(&mut self, nlri: &[Nlri], to: Option<Route>) -> Result<(), NoMemory>
-        ensures { OnOk result (AreChangedTo nlri_cmp nlri.now (option_map arc_value to) self.old self.new) }
+        ensures ok { OnOk result (AreChangedTo nlri_cmp nlri.now (option_map arc_value to) self.old self.new) }
+        ensures err { OnErr result (self.new ≡ []) }
     {
-        let keys = Vec::from_slice(self.alloc, nlri)?;
-        let rows = Run::many(self.alloc, keys, to)?;
-        self.layers.push(self.alloc, rows)
+        match add_run(self.alloc, &mut self.layers, nlri, to) {
+            Ok(_) => Ok(()),
+            Err(_) => {
+                self.layers = Layers::new(self.alloc);
+                Err(NoMemory)
+            }
+        }
     }
+}
+
+// Adds changes of these NLRI.
+fn add_run(
+    alloc: Global,
+    layers: &mut Layers<Nlri, Attrs>,
+    nlri: &[Nlri],
+    to: Option<Route>,
+) -> Result<(), NoMemory>
+    ensures changed { OnOk result (AreChangedTo nlri_cmp nlri.now (option_map arc_value to) layers.old layers.new) }
+    ensures nlri { AreNlri layers.old → OnOk result (AreNlri layers.new) }
+{
+    see_all(nlri);
+    let keys = Vec::from_slice(alloc, nlri)?;
+    let rows = Run::many(alloc, keys, to)?;
+    layers.push(alloc, rows)
 }

@@ -66,8 +66,8 @@ fn latest_in<'a, K: RunKey, A>(runs: &'a [Arc<Run<K, A>>], key: &K) -> Option<Op
     None
 }
 
-// The set of a key.
-fn live_in<'a, K: RunKey, A>(runs: &'a [Arc<Run<K, A>>], key: &K) -> Option<&'a Arc<A>>
+/// The set of a key.
+pub(crate) fn live_in<'a, K: RunKey, A>(runs: &'a [Arc<Run<K, A>>], key: &K) -> Option<&'a Arc<A>>
     ensures { option_map shared result ≡ seen (latest K.cmp key.now (map arc_value runs.now)) }
 {
     match latest_in(runs, key) {

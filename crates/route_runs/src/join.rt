@@ -8,8 +8,23 @@ use crate::weave::woven;
 use std::alloc::Global;
 use wire_io::NoMemory;
 
-/// The earlier run overridden by the later one; at the bottom without the keys that are gone. One pass,
-/// for which the memory is taken at once.
+// Whether there are many more packs than the rows need: room for more than two sets a row, and 64 packs.
+fn is_loose<K: RunKey, A>(run: &Run<K, A>) -> bool {
+    run.packs.len() > 64 + run.keys.len() / 2048
+}
+
+// The same run, in few packs.
+fn in_few_packs<K: RunKey, A: Drop>(alloc: Global, run: Run<K, A>) -> Result<Run<K, A>, NoMemory>
+    ensures { IfOk result (λ r. r ≡ run) }
+{
+    if is_loose(&run) {
+        return run.tidy(alloc);
+    }
+    Ok(run)
+}
+
+/// The earlier run overridden by the later one, in few packs; at the bottom without the keys that are gone. One
+/// pass, for which the memory is taken at once.
 pub(crate) fn merge<K: RunKey, A: Drop>(
     alloc: Global,
     earlier: &Run<K, A>,
@@ -34,9 +49,10 @@ pub(crate) fn merge<K: RunKey, A: Drop>(
         shift,
         bottom,
     )?;
-    Ok(Run {
+    let both = Run {
         keys: rows.keys,
         handles: rows.handles,
         packs,
-    })
+    };
+    in_few_packs(alloc, both)
 }

@@ -1,9 +1,9 @@
 ghost use Rattle.std.specs.Prelude.{◌≡◌, [], IfOk, OnOk};
 ghost use Rattle.route_runs.specs.Layers.{IsGathered, IsLayered, SaysTheSame};
 
+use crate::join::merge;
 use crate::key::RunKey;
 use crate::run::Run;
-use crate::runs::merge_tidy;
 use std::alloc::Global;
 use std::marker::Model;
 use wire_io::NoMemory;
@@ -70,7 +70,7 @@ fn gather<K: RunKey, A: Drop>(
     let mut own = run;
     let mut kept = runs.len();
     while kept > 0 && runs[kept - 1].len() / 2 < own.len() {
-        own = merge_tidy(alloc, &runs[kept - 1], &own, false)?;
+        own = merge(alloc, &runs[kept - 1], &own, false)?;
         kept -= 1;
     }
     Ok((own, kept))
@@ -87,7 +87,7 @@ fn gather_all<K: RunKey, A: Drop>(
     let mut all = run;
     let mut kept = runs.len();
     while kept > 0 {
-        all = merge_tidy(alloc, &runs[kept - 1], &all, false)?;
+        all = merge(alloc, &runs[kept - 1], &all, false)?;
         kept -= 1;
     }
     Ok(all)

@@ -13,16 +13,20 @@
 //! `specs/Rows.antt`, their merging in `src/weave.rt` and `proofs/Merging.antt`.
 #![tactic(auto)]
 
+mod back;
 mod changes;
 mod cursor;
 mod find;
 mod join;
 mod key;
 mod layers;
+mod longest;
+mod looks;
 mod many;
 mod packs;
 mod run;
 mod runs;
+mod see;
 mod table;
 mod tidy;
 mod walk;

@@ -1,6 +1,5 @@
 ghost use Rattle.std.specs.Prelude.{◌≡◌, ◌++◌, ◌∷◌, ◌≤◌, [], length, map, take, IfOk, OnOk, OnErr};
 ghost use Rattle.std.specs.Arc.{arc_value};
-ghost use Rattle.route_runs.specs.Override.{IsOverride};
 ghost use Rattle.route_runs.specs.Runs.{IsChanged, IsSettled};
 
 use crate::join::merge;
@@ -80,27 +79,6 @@ impl<K: RunKey, A: Drop> Runs<K, A> {
     }
 }
 
-// Whether there are many more packs than the rows need: room for more than two sets a row, and 64 packs.
-fn is_loose<K: RunKey, A>(run: &Run<K, A>) -> bool {
-    run.packs.len() > 64 + run.keys.len() / 2048
-}
-
-/// Two runs merged, with few packs.
-pub(crate) fn merge_tidy<K: RunKey, A: Drop>(
-    alloc: Global,
-    earlier: &Run<K, A>,
-    later: &Run<K, A>,
-    bottom: bool,
-) -> Result<Run<K, A>, NoMemory>
-    ensures { IfOk result (IsOverride K.cmp bottom earlier.now later.now) }
-{
-    let both = merge(alloc, earlier, later, bottom)?;
-    if is_loose(&both) {
-        return both.tidy(alloc);
-    }
-    Ok(both)
-}
-
 // Merges a run with the last ones that aren't more than twice as long, and says how many runs are left before it.
 fn settle<K: RunKey, A: Drop>(
     alloc: Global,
@@ -112,7 +90,7 @@ fn settle<K: RunKey, A: Drop>(
     let mut own = run;
     let mut kept = runs.len();
     while kept > 0 && runs[kept - 1].len() / 2 < own.len() {
-        own = merge_tidy(alloc, &runs[kept - 1], &own, kept == 1)?;
+        own = merge(alloc, &runs[kept - 1], &own, kept == 1)?;
         kept -= 1;
     }
     Ok((own, kept))

@@ -1,20 +1,27 @@
-ghost use Rattle.std.specs.Prelude.{◌≡◌, [], length, min, IfOk, OnOk};
+ghost use Rattle.std.specs.Prelude.{◌≡◌, ◌+◌, ◌≤◌, [], length, min, IfOk};
 ghost use Rattle.std.specs.List.{filter};
 ghost use Rattle.std.specs.Option.{option_map};
 ghost use Rattle.bmp_specs.specs.Orders.{nlri_cmp};
+ghost use Rattle.bmp_specs.specs.Prefix.{width_of};
+ghost use Rattle.route_runs.specs.Longest.{IsLongest};
 ghost use Rattle.route_runs.specs.Override.{value_at};
 ghost use Rattle.route_runs.specs.Places.{is_after, is_from};
 ghost use Rattle.route_runs.specs.Runs.{shared, IsChanged};
 ghost use Rattle.route_runs.specs.Walk.{pairs_from};
 
 use crate::changes::Changes;
+use crate::layers::Layers;
+use crate::longest::longest_by_looks;
+use crate::looks::Looks;
 use crate::runs::Runs;
 use crate::walk::{Place, Walk};
-use ip_prefix::Nlri;
+use ip_prefix::{Addr, Nlri, Prefix};
 use path_attrs::Attrs;
+use prefix_trie::Steps;
 use rib_model::Route;
 use std::alloc::Global;
 use std::marker::Model;
+use std::sync::ledger::Ledger;
 use wire_io::NoMemory;
 
 /// The routes of one peer in one view. It is never changed in place: `with` makes a new table, and both stay
@@ -28,10 +35,13 @@ pub struct RouteTable {
 impl Model for RouteTable {
     ghost use Rattle.std.specs.Prelude.{List};
     ghost use Rattle.bmp_specs.specs.Values.{AttrsValue, NlriValue};
+    ghost use Rattle.route_runs.specs.Nlri.{AreNlri};
 
     ghost Value = { List (NlriValue × AttrsValue) };
 
     ghost view = { λ t. t.runs };
+
+    ghost invariant = { λ t. AreNlri t.runs };
 }
 
 impl RouteTable {
@@ -45,17 +55,22 @@ impl RouteTable {
         }
     }
 
-    /// The table with these changes made, one after another; they are taken out of the list. After want of memory
-    /// they may only be dropped.
+    /// The table with these changes made, one after another; they are taken out of the list, after want of memory
+    /// too. This table stays as it is.
     pub fn with(&self, changes: &mut Changes) -> Result<RouteTable, NoMemory>
         ensures table { IfOk result (IsChanged nlri_cmp self.now changes.old) }
-        ensures emptied { OnOk result (changes.new ≡ []) }
+        ensures emptied { changes.new ≡ [] }
     {
-        let runs = self.runs.with(self.alloc, &mut changes.layers)?;
-        Ok(RouteTable {
-            alloc: self.alloc,
-            runs,
-        })
+        match self.runs.with(self.alloc, &mut changes.layers) {
+            Ok(runs) => Ok(RouteTable {
+                alloc: self.alloc,
+                runs,
+            }),
+            Err(_) => {
+                changes.layers = Layers::new(self.alloc);
+                Err(NoMemory)
+            }
+        }
     }
 
     /// The route of this NLRI.
@@ -63,6 +78,16 @@ impl RouteTable {
         ensures { option_map shared result ≡ value_at nlri_cmp nlri.now self.now }
     {
         self.runs.get(nlri)
+    }
+
+    /// The longest prefix with a route that holds an address (RFC 1812, section 5.2.4.3), whatever the path
+    /// identifier. At most 33 looks for an IPv4 address and 129 for an IPv6 one, each of as many searches by halving
+    /// as the table has runs. It takes no memory.
+    pub fn longest<L: Ledger>(&self, addr: &Addr, steps: &mut Steps<L>) -> Option<Prefix>
+        ensures longest { IsLongest addr.now self.now result }
+        ensures cost { steps.new ≤ steps.old + width_of addr.now.family + 1 }
+    {
+        longest_by_looks(&Looks::new(&self.runs), addr, steps)
     }
 
     /// The routes from a place on, in the order of NLRI. It takes no memory.

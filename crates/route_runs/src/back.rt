@@ -1,0 +1,101 @@
+ghost use Rattle.std.specs.Prelude.{◌≡◌, length, map, Some};
+ghost use Rattle.std.specs.Arc.{arc_value};
+ghost use Rattle.std.specs.List.Sorted.{IsStrictlySortedBy};
+ghost use Rattle.std.specs.Option.{option_map};
+ghost use Rattle.route_runs.specs.Override.{value_at};
+ghost use Rattle.route_runs.specs.Runs.{latest, seen};
+ghost use Rattle.route_runs.specs.Places.{shown, turned, is_after, is_from, IsBeforePoint, IsFirst, IsNext, has_key, has_latest, lesser_of};
+
+use crate::find::live_in;
+use crate::key::RunKey;
+use crate::run::Run;
+use crate::runs::Runs;
+use std::cmp::Ordering;
+use std::sync::Arc;
+
+// How many keys are before a place.
+fn before_place<K: RunKey>(keys: &[K], place: K) -> usize
+    requires { IsStrictlySortedBy K.cmp keys.now }
+    ensures { IsBeforePoint K.cmp (Some place) keys.now result }
+{
+    match keys.binary_search(&place) {
+        Ok(at) => at,
+        Err(at) => at,
+    }
+}
+
+impl<K: RunKey, A> Run<K, A> {
+    // The last key before a place.
+    fn last_key(&self, place: K) -> Option<K>
+        ensures { IsNext (turned K.cmp) (Some place) (has_key K.cmp self.now) result }
+    {
+        let at = before_place(&self.keys, place);
+        if at > 0 {
+            Some(self.keys[at - 1])
+        } else {
+            None
+        }
+    }
+}
+
+// The greater of two keys.
+fn greater<K: RunKey>(a: Option<K>, b: Option<K>) -> Option<K>
+    ensures { result ≡ lesser_of (turned K.cmp) a b }
+{
+    match a {
+        None => b,
+        Some(first) => match b {
+            None => Some(first),
+            Some(second) => match first.cmp(&second) {
+                Ordering::Less => Some(second),
+                _ => Some(first),
+            },
+        },
+    }
+}
+
+// The last key of any run before a place.
+fn greatest<K: RunKey, A>(runs: &[Arc<Run<K, A>>], place: K) -> Option<K>
+    ensures { IsNext (turned K.cmp) (Some place) (has_latest K.cmp (map arc_value runs.now)) result }
+{
+    let mut best = None;
+    for run in runs {
+        best = greater(best, run.last_key(place));
+    }
+    best
+}
+
+// The last live pair before a place.
+fn last_live<'a, K: RunKey, A>(runs: &'a [Arc<Run<K, A>>], place: K) -> Option<(K, &'a Arc<A>)>
+    ensures { IsFirst (turned K.cmp) (is_after (turned K.cmp) (Some place)) (λ q. seen (latest K.cmp q (map arc_value runs.now))) (option_map shown result) }
+{
+    let mut at = place;
+    loop {
+        let Some(key) = greatest(runs, at) else {
+            return None;
+        };
+        if let Some(set) = live_in(runs, &key) {
+            return Some((key, set));
+        }
+        at = key;
+    }
+}
+
+impl<K: RunKey, A: Drop> Runs<K, A> {
+    // The last pair before a place.
+    fn last_before(&self, place: &K) -> Option<(K, &Arc<A>)>
+        ensures { IsFirst (turned K.cmp) (is_after (turned K.cmp) (Some place.now)) (λ q. value_at K.cmp q self.now) (option_map shown result) }
+    {
+        last_live(self.runs.as_slice(), *place)
+    }
+
+    /// The last pair at a place or before it. It takes no memory.
+    pub(crate) fn at_or_before(&self, place: &K) -> Option<(K, &Arc<A>)>
+        ensures { IsFirst (turned K.cmp) (is_from (turned K.cmp) place.now) (λ q. value_at K.cmp q self.now) (option_map shown result) }
+    {
+        match self.get(place) {
+            Some(set) => Some((*place, set)),
+            None => self.last_before(place),
+        }
+    }
+}
