@@ -4,7 +4,6 @@
 #![tactic(auto)]
 
 mod frames;
-mod origins;
 mod publisher;
 mod tables;
 
@@ -26,14 +25,11 @@ fn main(rt: HostRuntime) -> io::Result<()> {
         Some("shuffled") => tables::trie(&rt, Order::Shuffled, number, times),
         Some("map") => tables::map(&rt, Order::Prefix, number),
         Some("map_shuffled") => tables::map(&rt, Order::Shuffled, number),
-        Some("origins") => origins::index(&rt, number),
-        Some("origins_map") => origins::map(&rt, number),
         _ => {
             println!(rt; "usage: bench frames [PIECE] | publish [N] | snapshot [N]")?;
             println!(rt;
                 "       bench trie [N [TIMES]] | shuffled [N [TIMES]] | map [N] | map_shuffled [N]"
-            )?;
-            println!(rt; "       bench origins [N] | origins_map [N]")
+            )
         }
     }
 }

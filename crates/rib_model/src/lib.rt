@@ -2,19 +2,18 @@
 //!
 //! `bmp_message` makes them of the messages of a stream, the tables are made of them, and a lane's
 //! history is a list of them. This crate has the plain types: an effect, an entry, where a row
-//! stands, the paths of a prefix, and a step of a lane. The attributes of a route and what a Peer Up
-//! told of a peer stand behind `Arc`s. The routes that an UPDATE announces with the same attributes are
-//! one item of an effect list, as the prefixes stood on the wire, and those that it withdraws another.
+//! stands, and a step of a lane. The attributes of a route and what a Peer Up told of a peer stand
+//! behind `Arc`s. The routes that an UPDATE announces with the same attributes are one item of an
+//! effect list, as the prefixes stood on the wire, and those that it withdraws another.
 //!
-//! Proved: an effect list keeps the order in which it was filled; the paths of a prefix are a map from
-//! path identifiers to routes, in full after every call; a step that is kept has the same value.
+//! Proved: an effect list keeps the order in which it was filled; rows are ordered by peer, RIB and NLRI;
+//! a step that is kept has the same value.
 //! Begin with `src/effect.rt` and `specs/Effects.antt`.
 #![tactic(auto)]
 
 mod effect;
 mod entry;
 mod list;
-mod paths;
 mod row;
 mod step;
 
@@ -22,7 +21,6 @@ pub use bmp_specs::{Cause, Why};
 pub use effect::{Effect, Route};
 pub use entry::Entry;
 pub use list::EffectList;
-pub use paths::{PathOf, Paths};
 pub use row::RowKey;
 pub use step::Step;
 

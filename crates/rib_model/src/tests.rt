@@ -1,4 +1,4 @@
-use crate::{Effect, EffectList, PathOf, Paths, Route, Step};
+use crate::{Effect, EffectList, Route, Step};
 use bmp_frames::PeerKey;
 use bmp_specs::View;
 use ip_prefix::{Addr, Nlri, Prefix};
@@ -25,44 +25,8 @@ fn route(alloc: Global, med: u32) -> Result<Route, NoMemory> {
     Ok(Arc::new(alloc, attrs)?)
 }
 
-fn path(alloc: Global, id: Option<u32>, med: u32) -> Result<PathOf, NoMemory> {
-    let route = route(alloc, med)?;
-    Ok(PathOf { id, route })
-}
-
-// Whether the paths have these identifiers and these values of MULTI_EXIT_DISC, in this order.
-fn are(paths: &Paths, wanted: &[(Option<u32>, u32)]) -> bool {
-    if paths.as_slice().len() != wanted.len() {
-        return false;
-    }
-    for (path, (id, med)) in paths.as_slice().iter().zip(wanted.iter()) {
-        if path.id != *id || path.route.med != Some(*med) {
-            return false;
-        }
-    }
-    true
-}
-
 fn put(effects: &mut EffectList, effect: Effect) -> Result<(), NoMemory> {
     effects.push(effect)?;
-    Ok(())
-}
-
-#[test]
-fn paths_stand_by_identifier(rt: HostRuntime) -> Result<(), Fail> {
-    let alloc = rt.alloc();
-    let one = Paths::of(alloc, path(alloc, Some(7), 1)?)?;
-    let two = one.with(path(alloc, Some(9), 2)?)?;
-    let three = two.with(path(alloc, None, 3)?)?;
-    assert!(rt; are(&three, &[(None, 3), (Some(7), 1), (Some(9), 2)]));
-    let again = three.with(path(alloc, Some(7), 4)?)?;
-    assert!(rt; are(&again, &[(None, 3), (Some(7), 4), (Some(9), 2)]));
-    let left = again.without(Some(7))?.ok_or(NoMemory)?;
-    assert!(rt; are(&left, &[(None, 3), (Some(9), 2)]));
-    assert!(rt; are(&one, &[(Some(7), 1)]));
-    assert!(rt; one.without(Some(7))?.is_none());
-    let same = one.without(None)?;
-    assert!(rt; same.is_some_and(|paths| are(&paths, &[(Some(7), 1)])));
     Ok(())
 }
 

@@ -1,3 +1,0 @@
-pub mod Ties
-pub mod Pairs
-pub mod Parts

@@ -1,4 +1,0 @@
-pub mod Parts
-pub mod Likeness
-pub mod Whole
-pub mod Cursor
