@@ -1,0 +1,83 @@
+-- Steps that are kept, by their numbers.
+use Rattle.std.proofs.Common.{◌≡◌, ◌≢◌, ℕ, zero, suc, ◌+◌, ◌-◌, ◌<◌, ◌≤◌, max, List, [], ◌∷◌, length, map, drop, Option, None, Some, refl, sym, ap, ◌∙◌, subst, arith, unwrap_or, option_map, slice_get}
+use Rattle.std.proofs.lemmas.List.{length-map}
+use Rattle.std.proofs.lemmas.Option.{slice_get-map, slice_get_within}
+use Rattle.bmp_specs.specs.Changes.{ChangeValue, Concerns, IsChange, oldest_kept}
+use Rattle.bmp_specs.specs.Values.{PrefixValue, StepValue}
+use Rattle.recent_ring.specs.Recent.{RecentValue}
+use Rattle.rib_model.specs.declared.step.Step.{Step}
+use Rattle.rib_model.specs.Steps.{step_value}
+use Rattle.route_watch.specs.Watch.{AreSteps, IsFirst, IsKeptChange}
+
+pub slice_get-drop : {X : Type 0} (n : ℕ) (xs : List X) (i : ℕ) → slice_get (drop n xs) i ≡ slice_get xs (n + i)
+slice_get-drop zero xs i = let same : i ≡ 0 + i = omega arith in ap (slice_get xs) same
+slice_get-drop (suc n) [] i = refl
+slice_get-drop (suc n) (x ∷ xs) i = let next : suc (n + i) ≡ suc n + i = omega arith in slice_get-drop n xs i ∙ ap (slice_get (x ∷ xs)) next
+
+module _ (recent : RecentValue Step) (from : ℕ) (prefix : PrefixValue) where
+  -- each change that is kept stands at this place or a later one
+  abbrev pub StandsFrom : ℕ → Type 0
+  StandsFrom place = (change : ChangeValue) → IsKeptChange recent from prefix change → oldest_kept recent.total + place ≤ change.number
+
+  pub stands_from_first : StandsFrom (from - oldest_kept recent.total)
+  stands_from_first change is = omega (arith, is.later, is.kept)
+
+  -- the step of a change is the item at its place
+  pub change_there : (place : ℕ) (step : Step) (change : ChangeValue) → slice_get recent.items place ≡ Some step → IsKeptChange recent from prefix change → change.number ≡ oldest_kept recent.total + place → change.step ≡ step_value step
+  change_there place step change at is same =
+      let there : change.number - oldest_kept recent.total ≡ place = omega (arith, same) in
+      let value : slice_get (map step_value recent.items) place ≡ Some (step_value step) = slice_get-map step_value recent.items place ∙ ap (option_map step_value) at in
+      let both : Some change.step ≡ Some (step_value step) = sym is.stands ∙ ap (slice_get (map step_value recent.items)) there ∙ value in
+      ap (λ (o : Option StepValue). unwrap_or o change.step) both
+
+  -- a step that does not concern the prefix is passed over
+  pub stands_from_next : (place : ℕ) (step : Step) → slice_get recent.items place ≡ Some step → (Concerns prefix (step_value step) → ⊥) → StandsFrom place → StandsFrom (place + 1)
+  stands_from_next place step at none from_place change is =
+      let other : change.number ≢ oldest_kept recent.total + place = λ same. none (subst (Concerns prefix) (change_there place step change at is same) is.concerns) in
+      omega (arith, other, from_place change is)
+
+  -- past the last item there is no change
+  pub none_past : (place : ℕ) → length recent.items ≤ place → StandsFrom place → (change : ChangeValue) → IsKeptChange recent from prefix change → ⊥
+  none_past place past from_place change is =
+      let within : change.number - oldest_kept recent.total < length (map step_value recent.items) = slice_get_within (map step_value recent.items) (change.number - oldest_kept recent.total) change.step is.stands in
+      omega (arith, within, length-map recent.items step_value, past, from_place change is, is.kept)
+
+  -- a change that is kept, at its place
+  pub kept_at : (place : ℕ) (step : Step) → slice_get recent.items place ≡ Some step → Concerns prefix (step_value step) → from - oldest_kept recent.total ≤ place → IsKeptChange recent from prefix (record { number = oldest_kept recent.total + place; step = step_value step })
+  kept_at place step at concerns later =
+      let there : oldest_kept recent.total + place - oldest_kept recent.total ≡ place = omega arith in
+      record {
+        later = omega (arith, later);
+        kept = omega arith;
+        stands = ap (slice_get (map step_value recent.items)) there ∙ slice_get-map step_value recent.items place ∙ ap (option_map step_value) at;
+        concerns = concerns;
+      }
+
+  -- what is kept of all steps of a lane is what is asked of them
+  module _ (steps : List StepValue) (all : AreSteps recent steps) where
+    at_number : (n : ℕ) → oldest_kept recent.total ≤ n → slice_get (map step_value recent.items) (n - oldest_kept recent.total) ≡ slice_get steps n
+    at_number n kept =
+        let cut : length steps - 1024 ≡ oldest_kept recent.total = ap (λ (k : ℕ). k - 1024) (sym all.total) in
+        let there : length steps - 1024 + (n - oldest_kept recent.total) ≡ n = omega (arith, cut, kept) in
+        ap (λ (l : List StepValue). slice_get l (n - oldest_kept recent.total)) all.items ∙ slice_get-drop (length steps - 1024) steps (n - oldest_kept recent.total) ∙ ap (slice_get steps) there
+
+    pub change_of_steps : (change : ChangeValue) → IsKeptChange recent from prefix change → IsChange steps (max from (oldest_kept (length steps))) prefix change
+    change_of_steps change is = record {
+      later = omega (arith, is.later, is.kept, all.total);
+      stands = sym (at_number change.number is.kept) ∙ is.stands;
+      concerns = is.concerns;
+    }
+
+    pub kept_of_steps : (change : ChangeValue) → IsChange steps (max from (oldest_kept (length steps))) prefix change → IsKeptChange recent from prefix change
+    kept_of_steps change is =
+        let kept : oldest_kept recent.total ≤ change.number = omega (arith, is.later, all.total) in
+        record {
+          later = omega (arith, is.later);
+          kept = kept;
+          stands = at_number change.number kept ∙ is.stands;
+          concerns = is.concerns;
+        }
+
+    pub first_of_steps : (found : Option ChangeValue) → IsFirst (IsKeptChange recent from prefix) found → IsFirst (IsChange steps (max from (oldest_kept (length steps))) prefix) found
+    first_of_steps None none = λ change is. none change (kept_of_steps change is)
+    first_of_steps (Some first) f = (change_of_steps first f.0, λ change is. f.1 change (kept_of_steps change is))

@@ -1,0 +1,18 @@
+//! The changes of one prefix among the last steps of a lane.
+//!
+//! A step is an opening or a closing of a connection, a peer that comes up or goes down, or a route that is
+//! announced or withdrawn. Who watches a prefix asks for the first change from a number on, and then for
+//! the next, or learns how many of the steps that it asks for are no longer kept. No call takes memory.
+//!
+//! Proved: `poll` gives the first change of the prefix from that step on that is kept, with its number, and
+//! none exactly where there is none; `missed` how many of the steps from there on were dropped. On the last
+//! of all steps of a lane these are the changes that `bmp_specs` defines (clause `changes`).
+//! Begin with `specs/Changes.antt` of `bmp_specs`, then `src/watch.rt`.
+#![tactic(auto)]
+
+mod watch;
+
+pub use watch::{missed, poll};
+
+#[cfg(test)]
+mod tests;

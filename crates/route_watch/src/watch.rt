@@ -1,0 +1,62 @@
+ghost use Rattle.std.specs.Prelude.{◌≡◌, ◌↔◌, ◌-◌, List, [], ◌∷◌, IsTrue, length, max, nat_lt, option_map, if◌then◌else◌};
+ghost use Rattle.bmp_specs.specs.ChangeLines.{missed_line, missed_lines};
+ghost use Rattle.bmp_specs.specs.Changes.{Concerns, IsChange, oldest_kept};
+ghost use Rattle.bmp_specs.specs.Values.{StepValue};
+ghost use Rattle.rib_model.specs.Steps.{step_value};
+ghost use Rattle.route_watch.specs.Watch.{AreSteps, IsFirst, IsKeptChange, change_of};
+
+use ip_prefix::Prefix;
+use recent_ring::Recent;
+use rib_model::Step;
+
+/// The first step of this number or a later one that may change what is known of the prefix, and its
+/// number: a connection that opens or closes, a peer that comes up or goes down, or a route of exactly this
+/// prefix that is announced or withdrawn. Only the steps that are kept are looked at, each once.
+pub fn poll<'a>(recent: &'a Recent<Step>, from: u64, prefix: &Prefix) -> Option<(u64, &'a Step)>
+    ensures kept { IsFirst (IsKeptChange recent.now from prefix.now) (option_map change_of result) }
+    // of the last of all steps of a lane
+    ensures changes { (steps : List StepValue) → AreSteps recent.now steps
+        → IsFirst (IsChange steps (max from (oldest_kept (length steps))) prefix.now) (option_map change_of result) }
+{
+    first_kept(recent, from, prefix)
+}
+
+/// How many of the steps from this number on are no longer kept.
+pub fn missed(recent: &Recent<Step>, from: u64) -> u64
+    ensures missed { result ≡ oldest_kept recent.now.total - from }
+    // the reply tells it exactly where there are some
+    ensures lines { missed_lines from (oldest_kept recent.now.total) ≡ (if nat_lt 0 result then missed_line result ∷ [] else []) }
+{
+    let oldest = recent.total() - recent.len();
+    oldest.saturating_sub(from)
+}
+
+// The first change that is kept, from a step on.
+fn first_kept<'a>(recent: &'a Recent<Step>, from: u64, prefix: &Prefix) -> Option<(u64, &'a Step)>
+    ensures { IsFirst (IsKeptChange recent.now from prefix.now) (option_map change_of result) }
+{
+    let total = recent.total();
+    let oldest = total - recent.len();
+    for place in from.saturating_sub(oldest)..recent.len() {
+        if let Some(step) = recent.get(place) {
+            if concerns(step, prefix) {
+                return Some((oldest + place, step));
+            }
+        }
+    }
+    None
+}
+
+// Whether a step may change what is known of the prefix.
+fn concerns(step: &Step, prefix: &Prefix) -> bool
+    ensures { IsTrue result ↔ Concerns prefix.now (step_value step.now) }
+{
+    match step {
+        Step::Opened => true,
+        Step::Closed(_) => true,
+        Step::Up(_) => true,
+        Step::Down(_) => true,
+        Step::Announce { nlri, .. } => nlri.prefix == *prefix,
+        Step::Withdraw { nlri, .. } => nlri.prefix == *prefix,
+    }
+}
