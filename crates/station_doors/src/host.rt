@@ -1,6 +1,6 @@
-ghost use Rattle.std.specs.Prelude.{◌≡◌, ◌↔◌, ℕ, [], None, Some, IfOk, IsOk, IsSome};
+ghost use Rattle.std.specs.Prelude.{◌≡◌, ◌↔◌, ℕ, [], None, Some, IfOk, IsOk, IsSome, ◌<◌, slice_get};
 ghost use Rattle.wire_io.specs.Faults.{HasCause};
-ghost use Rattle.station_doors.specs.Doors.{one_more};
+ghost use Rattle.station_doors.specs.Doors.{one_more, askers_of};
 
 use crate::sockets::{MOST, listen_at, take_listener};
 use crate::{HostLink, HostPort, Listening, Yard};
@@ -87,6 +87,8 @@ impl<'a, R: Read + Drop + Send, N: Net<Listener = TcpListener, Stream = TcpStrea
         {
             Ok(())
         } else {
+            self.feeds.clear();
+            self.askers.clear();
             self.faults = self.faults.saturating_add(1);
             Err(Failed)
         }
@@ -96,6 +98,7 @@ impl<'a, R: Read + Drop + Send, N: Net<Listener = TcpListener, Stream = TcpStrea
         ensures once { self.old.listened ≡ None → (IsOk result ↔ IsSome self.old.input) }
         ensures reader { self.old.listened ≡ None → IfOk result (λ port. self.old.input ≡ port.input) }
         ensures input { self.old.listened ≡ None → self.new.input ≡ None }
+        ensures lane { IsSome self.old.listened → IfOk result (λ port. (port.input ≡ None) × (slice_get self.old.feeds.items lane ≡ Some port.listener)) }
         ensures listened { self.new.listened ≡ self.old.listened }
         ensures calls { self.new.calls ≡ one_more self.old.calls }
         ensures cause { HasCause self.old.faults self.new.faults result }
@@ -114,7 +117,14 @@ impl<'a, R: Read + Drop + Send, N: Net<Listener = TcpListener, Stream = TcpStrea
         Err(Failed)
     }
 
-    fn link(&mut self, number: u32) -> Result<HostLink, Failed> {
+    fn link(&mut self, number: u32) -> Result<HostLink, Failed>
+        requires { number < askers_of self.old.listened }
+        ensures asker { IfOk result (λ link. slice_get self.old.askers.items number ≡ Some (Some link.listener)) }
+        ensures listened { self.new.listened ≡ self.old.listened }
+        ensures calls { self.new.calls ≡ one_more self.old.calls }
+        ensures cause { HasCause self.old.faults self.new.faults result }
+        ensures endings { self.new.endings ≡ self.old.endings }
+    {
         self.calls = self.calls.saturating_add(1);
         match take_listener(&mut self.askers, number) {
             Some(listener) => Ok(HostLink::over(listener)),

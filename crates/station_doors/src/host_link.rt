@@ -21,7 +21,8 @@ pub struct HostLink {
 impl HostLink {
     // A link over this listener, of which no call was made.
     pub(crate) fn over(listener: TcpListener) -> HostLink
-        ensures { result.faults ≡ 0 }
+        ensures listener { result.listener ≡ listener }
+        ensures calm { result.faults ≡ 0 }
     {
         HostLink {
             listener,

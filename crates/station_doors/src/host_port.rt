@@ -21,6 +21,7 @@ impl<R: Drop> HostPort<R> {
     // A port over one of these, of which no call was made.
     pub(crate) fn over(input: Option<R>, listener: Option<TcpListener>) -> HostPort<R>
         ensures input { result.input ≡ input }
+        ensures listener { result.listener ≡ listener }
     {
         HostPort {
             input,

@@ -1,4 +1,4 @@
-ghost use Rattle.std.specs.Prelude.{◌≤◌, length, IfSome};
+ghost use Rattle.std.specs.Prelude.{◌≡◌, Some, slice_get, IfSome};
 
 use ip_prefix::{Addr, Family};
 use std::io::{ErrorKind, Read};
@@ -8,7 +8,7 @@ use std::net::{IpAddr, Net, SocketAddr, TcpListener, TcpStream};
 pub(crate) const MOST: u32 = 64;
 
 // The address as the network takes it.
-fn ip_of(address: &Addr) -> IpAddr {
+pub(crate) fn ip_of(address: &Addr) -> IpAddr {
     let octets = address.octets();
     match address.family() {
         Family::V4 => IpAddr::from([octets[0], octets[1], octets[2], octets[3]]),
@@ -49,7 +49,9 @@ pub(crate) fn listen_at<N: Net<Listener = TcpListener, Stream = TcpStream>>(
 pub(crate) fn take_listener(
     places: &mut Vec<Option<TcpListener>>,
     number: u32,
-) -> Option<TcpListener> {
+) -> Option<TcpListener>
+    ensures { IfSome result (λ l. slice_get places.old.items number ≡ Some (Some l)) }
+{
     match places.get_mut(number as usize) {
         Some(place) => place.take(),
         None => None,
@@ -70,11 +72,14 @@ fn is_passing(kind: ErrorKind) -> bool {
     )
 }
 
-// Waits for the next connection. None where that failed for a cause that lasts.
+// Waits for the next connection, whose writes go out at once. None where that failed for a cause that lasts.
 pub(crate) fn accept_next(listener: &TcpListener) -> Option<TcpStream> {
     for stream in listener.incoming() {
         match stream {
-            Ok(stream) => return Some(stream),
+            Ok(stream) => {
+                let _ = stream.set_nodelay(true);
+                return Some(stream);
+            }
             Err(error) => {
                 if !is_passing(error.kind()) {
                     return None;

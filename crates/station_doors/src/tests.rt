@@ -1,13 +1,18 @@
-ghost use Rattle.std.specs.Prelude.{◌≡◌, length};
+ghost use Rattle.std.specs.Prelude.{◌≡◌, [], length, All, IfOk};
+ghost use Rattle.station_doors.specs.MemYard.{IsUntouched, IsIdle};
 
-use crate::{HostYard, Link, Port, Yard};
+use crate::sockets::ip_of;
+use crate::{
+    HostYard, LanePort, Link, LinkList, MemLink, MemYard, Port, PortList, SureLink, SurePort, Yard,
+};
 use ip_prefix::Addr;
+use std::alloc::Global;
 use std::io;
 use std::io::{Read, Write};
-use std::net::{Net, OpenListener, Shutdown, TcpListener, TcpStream};
+use std::net::{IpAddr, Net, OpenListener, Shutdown, TcpListener, TcpStream};
 use std::test::Fail;
 use std::time::Duration;
-use wire_io::{Failed, NoMemory, Sink};
+use wire_io::{ByteList, Failed, NoMemory, Sink};
 
 const LOOPBACK: [u8; 4] = [127, 0, 0, 1];
 
@@ -66,6 +71,14 @@ fn lane_takes_one_router_after_another(rt: HostRuntime) -> Result<(), Fail> {
 }
 
 #[test]
+fn addresses_of_both_families_are_handed_on(rt: HostRuntime) -> Result<(), Fail> {
+    let local = Addr::v6([0, 0, 0, 0, 0, 0, 0, 0, 0, 0, 0, 0, 0, 0, 0, 1]);
+    assert_eq!(rt; ip_of(&local), IpAddr::from([0u16, 0, 0, 0, 0, 0, 0, 1]));
+    assert_eq!(rt; ip_of(&Addr::v4(LOOPBACK)), IpAddr::from(LOOPBACK));
+    Ok(())
+}
+
+#[test]
 fn asker_takes_one_client_after_another(rt: HostRuntime) -> Result<(), Fail> {
     let (feed_port, ask_port) = (free_port(&rt)?, free_port(&rt)?);
     let mut yard = HostYard::new(rt.alloc(), rt.stdin(), &rt)?;
@@ -99,5 +112,81 @@ fn asker_takes_one_client_after_another(rt: HostRuntime) -> Result<(), Fail> {
     }
     assert!(rt; is_lost);
     yard.take_link(0, link);
+    Ok(())
+}
+
+// A list of no port.
+fn no_ports(alloc: Global) -> PortList
+    ensures { All IsUntouched result }
+{
+    PortList::new(alloc)
+}
+
+// A link with one connection of this text, whose first read gives three bytes and whose third call fails.
+fn link_of(alloc: Global, text: &str) -> Result<MemLink, Fail>
+    ensures { IfOk result IsIdle }
+{
+    let mut connection = ByteList::new(alloc);
+    connection.extend(text.as_bytes())?;
+    Ok(MemLink::new(alloc, &[connection], &[3, 9], 6, &[2])?)
+}
+
+// A list of that link alone.
+fn one_link(alloc: Global, text: &str) -> Result<LinkList, Fail>
+    ensures { IfOk result (All IsIdle) }
+{
+    let link = link_of(alloc, text)?;
+    let mut links = LinkList::new(alloc);
+    match links.push(link) {
+        Ok(()) => Ok(links),
+        Err(_) => Err(Fail::from(NoMemory)),
+    }
+}
+
+// Opens the next connection of the link, reads once, writes twice and closes it.
+fn talk<K: Link>(link: &mut K, buf: &mut [u8]) -> Result<(usize, bool, usize), Failed>
+    requires { length buf.old ≡ 512 }
+{
+    if !link.next_connection()? {
+        return Err(Failed);
+    }
+    let count = link.read(buf)?;
+    let all = link.write(b"at 0\n")?;
+    let is_lost = link.write(b"end 0\n").is_err();
+    link.close();
+    Ok((count, is_lost, all))
+}
+
+#[test]
+fn yard_in_memory_shows_what_came_back(rt: HostRuntime) -> Result<(), Fail> {
+    let alloc = rt.alloc();
+    let links = one_link(alloc, "cut\n")?;
+    let mut yard: MemYard<u8> = MemYard::new(alloc, no_ports(alloc), links, &[])?;
+    assert_eq!(rt; yard.listen(&Addr::v4(LOOPBACK), 1000, 1, 2000, 1), Ok(()));
+    let mut link = match yard.link(0) {
+        Ok(link) => link,
+        Err(Failed) => return Err(Fail::from(NoMemory)),
+    };
+    assert_eq!(rt; talk(&mut link, &mut [0; 512]), Ok((3, true, 5)));
+    yard.take_link(0, link);
+    yard.take_ending(7);
+    assert_eq!(rt; yard.written(0), b"at 0\n".as_slice());
+    assert_eq!(rt; yard.ending(), Some(&7));
+    Ok(())
+}
+
+#[test]
+fn sure_ones_never_fail(rt: HostRuntime) -> Result<(), Fail> {
+    let alloc = rt.alloc();
+    let mut connection = ByteList::new(alloc);
+    connection.extend(b"seven..")?;
+    let mut link = SureLink::new(alloc, &connection)?;
+    assert_eq!(rt; talk(&mut link, &mut [0; 512]), Ok((7, false, 5)));
+    let mut port = SurePort::new(alloc, &[connection], 4)?;
+    let mut buf = vec![in alloc; 0u8; 65_536]?;
+    assert_eq!(rt; take_next(&mut port, &mut buf), Ok((4, 3)));
+    let mut lane = LanePort::new(port);
+    assert_eq!(rt; lane.next_connection(), Ok(false));
+    assert_eq!(rt; lane.into_port().next_connection(), Ok(false));
     Ok(())
 }
