@@ -10,3 +10,6 @@ pub mod Hints
 pub mod Left
 pub mod KeptNlri
 pub mod Nearer
+pub mod Origins
+pub mod Indexing
+pub mod WithOrigin

@@ -10,3 +10,5 @@ pub mod Layers
 pub mod Walk
 pub mod Nlri
 pub mod Longest
+pub mod Keys
+pub mod Origins

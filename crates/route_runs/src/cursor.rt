@@ -269,6 +269,15 @@ impl<'a, K: RunKey, A: Drop> Cursor<'a, K, A> {
         found
     }
 
+    /// The first pair after a key. The cursor stands there then.
+    pub(crate) fn after(&mut self, key: K) -> Option<(K, &'a Arc<A>)>
+        ensures first { IsFirst K.cmp (is_after K.cmp (Some key)) (λ q. value_at K.cmp q self.old.pairs) (option_map shown result) }
+        ensures pairs { self.new.pairs ≡ self.old.pairs }
+    {
+        self.place = Some(key);
+        self.next()
+    }
+
     /// The pair of a key, or the first one after it. The cursor stands there then.
     pub(crate) fn from(&mut self, key: K) -> Option<(K, &'a Arc<A>)>
         ensures first { IsFirst K.cmp (is_from K.cmp key) (λ q. value_at K.cmp q self.old.pairs) (option_map shown result) }

@@ -13,3 +13,9 @@ impl RunKey for Nlri {
 
     ghost exact = { nlri_exact };
 }
+
+impl<K: RunKey> RunKey for (u32, K) {
+    ghost use Rattle.route_runs.specs.Keys.{pairs_exact};
+
+    ghost exact = { pairs_exact K.cmp K.exact };
+}

@@ -17,12 +17,15 @@ mod back;
 mod changes;
 mod cursor;
 mod find;
+mod index;
 mod join;
 mod key;
 mod layers;
 mod longest;
 mod looks;
 mod many;
+mod origin;
+mod origin_walk;
 mod packs;
 mod run;
 mod runs;
@@ -33,6 +36,7 @@ mod walk;
 mod weave;
 
 pub use changes::Changes;
+pub use origin_walk::OriginWalk;
 pub use table::RouteTable;
 pub use walk::{Place, Walk};
 

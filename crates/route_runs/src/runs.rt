@@ -1,10 +1,11 @@
 ghost use Rattle.std.specs.Prelude.{◌≡◌, ◌++◌, ◌∷◌, ◌≤◌, [], length, map, take, IfOk, OnOk, OnErr};
 ghost use Rattle.std.specs.Arc.{arc_value};
+ghost use Rattle.std.specs.List.Sorted.{IsStrictlySortedBy};
+ghost use Rattle.std.specs.Map.{keys_of};
 ghost use Rattle.route_runs.specs.Runs.{IsChanged, IsSettled};
 
 use crate::join::merge;
 use crate::key::RunKey;
-use crate::layers::Layers;
 use crate::run::Run;
 use std::alloc::Global;
 use std::marker::Model;
@@ -50,24 +51,11 @@ impl<K: RunKey, A: Drop> Runs<K, A> {
         replace(&mut self.runs, own, kept)
     }
 
-    /// The table with changes made; they are taken out of the list.
-    pub(crate) fn with(
-        &self,
-        alloc: Global,
-        changes: &mut Layers<K, A>,
-    ) -> Result<Runs<K, A>, NoMemory>
-        ensures runs { IfOk result (IsChanged K.cmp self.now changes.old) }
-        ensures emptied { OnOk result (changes.new ≡ []) }
+    /// The pairs are in order.
+    pub(crate) fn see_order(&self)
+        ensures { IsStrictlySortedBy K.cmp (keys_of self.now) }
     {
-        let mut runs = self.share(alloc)?;
-        let rows = changes.take(alloc)?;
-        match rows {
-            None => Ok(runs),
-            Some(run) => {
-                runs.push(alloc, run)?;
-                Ok(runs)
-            }
-        }
+        let _runs = self.runs.len();
     }
 
     /// An equal table, at the price of a counter for each run.

@@ -1,18 +1,22 @@
-ghost use Rattle.std.specs.Prelude.{◌≡◌, ◌+◌, ◌≤◌, [], length, min, IfOk};
+ghost use Rattle.std.specs.Prelude.{◌≡◌, ◌+◌, ◌≤◌, [], length, min, Some, IfOk};
 ghost use Rattle.std.specs.List.{filter};
 ghost use Rattle.std.specs.Option.{option_map};
 ghost use Rattle.bmp_specs.specs.Orders.{nlri_cmp};
 ghost use Rattle.bmp_specs.specs.Prefix.{width_of};
 ghost use Rattle.route_runs.specs.Longest.{IsLongest};
+ghost use Rattle.route_runs.specs.Nlri.{AreNlri};
+ghost use Rattle.route_runs.specs.Origins.{when, with_origin};
 ghost use Rattle.route_runs.specs.Override.{value_at};
 ghost use Rattle.route_runs.specs.Places.{is_after, is_from};
 ghost use Rattle.route_runs.specs.Runs.{shared, IsChanged};
-ghost use Rattle.route_runs.specs.Walk.{pairs_from};
+ghost use Rattle.route_runs.specs.Walk.{left, pairs_from};
 
 use crate::changes::Changes;
+use crate::index::with_changes;
 use crate::layers::Layers;
 use crate::longest::longest_by_looks;
 use crate::looks::Looks;
+use crate::origin_walk::{OriginWalk, least};
 use crate::runs::Runs;
 use crate::walk::{Place, Walk};
 use ip_prefix::{Addr, Nlri, Prefix};
@@ -30,18 +34,19 @@ use wire_io::NoMemory;
 pub struct RouteTable {
     alloc: Global,
     runs: Runs<Nlri, Attrs>,
+    index: Runs<(u32, Nlri), ()>,
 }
 
 impl Model for RouteTable {
     ghost use Rattle.std.specs.Prelude.{List};
     ghost use Rattle.bmp_specs.specs.Values.{AttrsValue, NlriValue};
-    ghost use Rattle.route_runs.specs.Nlri.{AreNlri};
+    ghost use Rattle.route_runs.specs.Origins.{IsTable};
 
     ghost Value = { List (NlriValue × AttrsValue) };
 
     ghost view = { λ t. t.runs };
 
-    ghost invariant = { λ t. AreNlri t.runs };
+    ghost invariant = { λ t. IsTable t.runs t.index };
 }
 
 impl RouteTable {
@@ -52,6 +57,7 @@ impl RouteTable {
         RouteTable {
             alloc,
             runs: Runs::new(alloc),
+            index: Runs::new(alloc),
         }
     }
 
@@ -61,10 +67,11 @@ impl RouteTable {
         ensures table { IfOk result (IsChanged nlri_cmp self.now changes.old) }
         ensures emptied { changes.new ≡ [] }
     {
-        match self.runs.with(self.alloc, &mut changes.layers) {
-            Ok(runs) => Ok(RouteTable {
+        match with_changes(self.alloc, &self.runs, &self.index, &mut changes.layers) {
+            Ok((runs, index)) => Ok(RouteTable {
                 alloc: self.alloc,
                 runs,
+                index,
             }),
             Err(_) => {
                 changes.layers = Layers::new(self.alloc);
@@ -121,6 +128,32 @@ impl RouteTable {
         }
     }
 
+    /// The routes whose path has this origin AS (RFC 6811, section 2), from a place on, in the order of NLRI. It
+    /// takes no memory. A step reads the index at the next NLRI of this origin, and the table there.
+    pub fn origin(&self, asn: u32, place: Place) -> OriginWalk<'_>
+        ensures { result ≡ pairs_from place (with_origin asn self.now) }
+    {
+        match place {
+            Place::First => self.origin_walk(asn, least(), true),
+            Place::From(nlri) => self.origin_walk(asn, nlri, true),
+            Place::After(nlri) => self.origin_walk(asn, nlri, false),
+        }
+    }
+
+    // The routes with this origin after an NLRI, or from it on.
+    fn origin_walk(&self, asn: u32, place: Nlri, at: bool) -> OriginWalk<'_>
+        ensures left { result ≡ left nlri_cmp (when at place) (record { pairs = with_origin asn self.now; place = Some place }) }
+        ensures nlri { AreNlri self.now }
+    {
+        OriginWalk {
+            runs: &self.runs,
+            index: self.index.cursor(None),
+            asn,
+            place,
+            at,
+        }
+    }
+
     /// How many routes there are, or 2^64 - 1 where there are more. It walks over all of them.
     pub fn count(&self) -> u64
         ensures { result ≡ min (length self.now) 18446744073709551615 }
@@ -138,9 +171,11 @@ impl RouteTable {
         ensures { IfOk result (λ copy. copy ≡ self.now) }
     {
         let runs = self.runs.share(self.alloc)?;
+        let index = self.index.share(self.alloc)?;
         Ok(RouteTable {
             alloc: self.alloc,
             runs,
+            index,
         })
     }
 }

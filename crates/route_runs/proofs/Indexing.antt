@@ -1,0 +1,93 @@
+-- The pairs of an origin AS and a key of the rows of runs.
+use Rattle.std.proofs.Common.{◌≡◌, Result, Ok, Err, IfOk, ℕ, ◌+◌, ◌<◌, ◌≤◌, inl, inr, true, List, length, take, get_or, Option, None, Some, option_and_then, refl, ap, sym, ◌∙◌, subst, arith}
+use Rattle.std.specs.declared.cmp.Ordering.{Ordering}
+use Rattle.std.specs.Cmp.{IsTotalOrder}
+use Rattle.std.specs.List.{Contains}
+use Rattle.std.specs.Option.{is_some, option_map}
+use Rattle.std.proofs.lemmas.Bool.{cases_lt}
+use Rattle.std.proofs.lemmas.List.{get_or_default, take_all}
+use Rattle.std.proofs.lemmas.Map.Lookups.{CmpEqualImpliesEq}
+use Rattle.route_runs.specs.Keys.{pair_cmp}
+use Rattle.route_runs.specs.Message.{IsAllSet}
+use Rattle.route_runs.specs.Origins.{is_number, of_origin, AreAdded, AreAll, AreNamed, Covers, HasPairs, IsIndexed}
+use Rattle.route_runs.specs.Override.{value_at, or_else}
+use Rattle.route_runs.specs.Rows.{set_at, paired, rows, IsRun}
+use Rattle.route_runs.specs.Runs.{latest, seen, changed, contents, IsChanged}
+use Rattle.route_runs.proofs.Contents.{value-contents}
+use Rattle.route_runs.proofs.Origins.{number_of}
+use Rattle.route_runs.proofs.Overriding.{value-named}
+use Rattle.route_runs.proofs.Searching.{has_row, has_rows, value_found, latest_step}
+
+module _ {K A : Type 0} (origin : A → Option ℕ) (packs : List (List A)) (ks : List K) (vs : List ℕ) where
+  pub named_none : (pairs : List (ℕ × K)) → AreNamed origin packs ks vs 0 pairs
+  named_none pairs k d asn lt h = absurd (omega (arith, lt))
+
+  pub named_more : (n : ℕ) (pairs pairs' : List (ℕ × K)) (key : K) (o : Option ℕ) → n < length ks → key ≡ get_or ks n key → o ≡ option_and_then origin (set_at packs (get_or vs n 0))
+      → ((p : ℕ × K) → Contains pairs p → Contains pairs' p) → ((asn : ℕ) → is_number asn o ≡ true → Contains pairs' (asn, key)) → AreNamed origin packs ks vs n pairs → AreNamed origin packs ks vs (n + 1) pairs'
+  named_more n pairs pairs' key o within is names kept added so_far k d asn lt h = elim (cases_lt k n) [
+    | inl less ↦ kept _ (so_far k d asn less h)
+    | inr more ↦
+        let same : k ≡ n = omega (arith, lt, more) in
+        let at : key ≡ get_or ks k d = is ∙ get_or_default ks n key d within ∙ ap (λ k. get_or ks k d) (sym same) in
+        subst (λ q. Contains pairs' (asn, q)) at (added asn (ap (is_number asn) (names ∙ ap (λ k. option_and_then origin (set_at packs (get_or vs k 0))) (sym same)) ∙ h))
+  ]
+
+  pub named_all : (n : ℕ) (pairs : List (ℕ × K)) → length ks ≤ n → AreNamed origin packs ks vs n pairs → AreNamed origin packs ks vs (length ks) pairs
+  named_all n pairs le so_far k d asn lt h = so_far k d asn (omega (arith, lt, le)) h
+
+module _ {K A : Type 0} (cmp : K → K → Ordering) (total : IsTotalOrder cmp) (exact : CmpEqualImpliesEq cmp) (origin : A → Option ℕ) (packs : List (List A)) (ks : List K) (vs : List ℕ) (run : IsRun cmp packs ks vs) where
+  seen_has : (o : Option (Option A)) (asn : ℕ) → is_some (of_origin origin asn (seen o)) ≡ true → is_some o ≡ true
+  seen_has None asn h = absurd cc
+  seen_has (Some x) asn h = refl
+
+  pub named_rows : (pairs : List (ℕ × K)) → AreNamed origin packs ks vs (length ks) pairs → AreAdded cmp origin (rows packs ks vs) pairs
+  named_rows pairs named q asn h =
+      let r = has_row cmp total exact ks vs q (sym (has_rows cmp total exact packs ks vs run q) ∙ seen_has (value_at cmp q (rows packs ks vs)) asn h) in
+      let value : value_at cmp q (rows packs ks vs) ≡ Some (set_at packs (get_or vs r.0 0)) =
+      value-named cmp q packs (paired ks vs) ∙ ap (option_map (set_at packs)) (value_found cmp total exact ks vs run.even run.ordered r.0 q r.1 r.2) in
+      let number = number_of origin asn (set_at packs (get_or vs r.0 0)) (sym (ap (λ o. is_some (of_origin origin asn (seen o))) value) ∙ h) in
+      subst (λ k. Contains pairs (asn, k)) r.2 (named r.0 q asn r.1 number)
+
+module _ {K A : Type 0} (cmp : K → K → Ordering) (origin : A → Option ℕ) (runs : List (List (K × Option A))) where
+  pub all_none : (pairs : List (ℕ × K)) → AreAll cmp origin (take 0 runs) pairs
+  all_none pairs q asn h = absurd cc
+
+  of_both : (asn : ℕ) (a b : Option (Option A)) (R : Type 0) → (is_some (of_origin origin asn (seen a)) ≡ true → R) → (is_some (of_origin origin asn (seen b)) ≡ true → R) → is_some (of_origin origin asn (seen (or_else a b))) ≡ true → R
+  of_both asn None b R f g h = g h
+  of_both asn (Some x) b R f g h = f h
+
+  pub all_more : (run : List (K × Option A)) (n : ℕ) (pairs pairs' : List (ℕ × K)) → n < length runs → run ≡ get_or runs n run → ((p : ℕ × K) → Contains pairs p → Contains pairs' p) → AreAdded cmp origin run pairs'
+      → AreAll cmp origin (take n runs) pairs → AreAll cmp origin (take (n + 1) runs) pairs'
+  all_more run n pairs pairs' lt at kept added so_far q asn h =
+      of_both asn (value_at cmp q run) (latest cmp q (take n runs)) (Contains pairs' (asn, q)) (added q asn) (λ e. kept _ (so_far q asn e))
+      (sym (ap (λ o. is_some (of_origin origin asn (seen o))) (latest_step cmp q runs run n lt at)) ∙ h)
+
+  pub all_runs : (n : ℕ) (pairs : List (ℕ × K)) → length runs ≤ n → AreAll cmp origin (take n runs) pairs → AreAll cmp origin runs pairs
+  all_runs n pairs le all = subst (λ l. AreAll cmp origin l pairs) (take_all n runs le) all
+
+-- ---- the run of these pairs
+module _ {K U : Type 0} (cmp : K → K → Ordering) (pairs : List (ℕ × K)) (unit : U) (added : List ((ℕ × K) × Option U)) where
+  pub has_pairs : IsAllSet (pair_cmp cmp) pairs (Some unit) added → HasPairs cmp pairs added
+  has_pairs all = record {
+    there = λ p h. ap is_some (all.set_there p h);
+    none_gone = λ p h. ap (λ o. is_some (seen o)) (all.set_there p (all.listed p h));
+  }
+
+module _ {K A U : Type 0} (cmp : K → K → Ordering) (origin : A → Option ℕ) (pairs : List (ℕ × K)) (added : List ((ℕ × K) × Option U)) (has : HasPairs cmp pairs added) where
+  pub covered_by : (run : List (K × Option A)) → AreAdded cmp origin run pairs → Covers cmp origin run added
+  covered_by run all = record { there = λ q asn h. has.there (asn, q) (all q asn h); none_gone = has.none_gone }
+
+  set_there : (a : Option (Option U)) (b : Option U) → is_some (seen a) ≡ true → is_some (changed a b) ≡ true
+  set_there None b h = absurd cc
+  set_there (Some x) b h = h
+
+  pub made_anew : IsTotalOrder cmp → CmpEqualImpliesEq cmp → (runs : List (List (K × Option A))) → AreAll cmp origin runs pairs → (old index : List ((ℕ × K) × U)) → IsChanged (pair_cmp cmp) old added index → IsIndexed cmp origin (contents cmp runs) index
+  made_anew total exact runs all old index set q asn h =
+      let listed = all q asn (sym (ap (λ o. is_some (of_origin origin asn o)) (value-contents cmp total exact q runs)) ∙ h) in
+      ap is_some (set.values (asn, q)) ∙ set_there (value_at (pair_cmp cmp) (asn, q) added) (value_at (pair_cmp cmp) (asn, q) old) (has.none_gone (asn, q) (has.there (asn, q) listed))
+
+-- a table and an index that are shared
+pub same_indexed : {K A U T E : Type 0} (cmp : K → K → Ordering) (origin : A → Option ℕ) (pairs : List (K × A)) (index : List ((ℕ × K) × U)) (r : Result T E) (first : T → List (K × A)) (second : T → List ((ℕ × K) × U))
+    → IfOk r (λ t. first t ≡ pairs) → IfOk r (λ t. second t ≡ index) → IsIndexed cmp origin pairs index → IfOk r (λ t. IsIndexed cmp origin (first t) (second t))
+same_indexed cmp origin pairs index (Ok t) first second a b has = subst (λ l. IsIndexed cmp origin l (second t)) (sym a) (subst (IsIndexed cmp origin pairs) (sym b) has)
+same_indexed cmp origin pairs index (Err e) first second a b has = tt

@@ -1,0 +1,11 @@
+use Rattle.std.proofs.Common.{ℕ}
+use Rattle.std.specs.List.{Contains}
+use Rattle.route_runs.specs.Origins.{attrs_origin, AreNamed}
+use Rattle.route_runs.specs.Rows.{sets_of}
+use Rattle.route_runs.proofs.index.add_rows.Given as goal
+
+abbrev pub invariant-loop-at : goal.invariant-loop-at
+invariant-loop-at g l = record {
+  kept : (p : ℕ × g.row.K.Denot) → Contains l.fn.pairs.items p → Contains l.pairs.items p;
+  added : AreNamed attrs_origin (sets_of l.packs) l.keys l.handles l.at l.pairs.items;
+}

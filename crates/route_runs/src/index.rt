@@ -1,0 +1,184 @@
+ghost use Rattle.std.specs.Prelude.{◌≡◌, [], ℕ, true, length, map, IfOk, OnOk};
+ghost use Rattle.std.specs.Arc.{arc_value};
+ghost use Rattle.std.specs.List.{AllByRecursion, Contains};
+ghost use Rattle.route_runs.specs.Origins.{attrs_origin, is_number, AreAdded, AreAll, AreNamed, Covers, HasPairs, IsIndexed};
+ghost use Rattle.route_runs.specs.Rows.{sets_of, IsHandle};
+ghost use Rattle.route_runs.specs.Runs.{IsChanged};
+
+use crate::find::set_of;
+use crate::key::RunKey;
+use crate::layers::Layers;
+use crate::origin::origin_of;
+use crate::run::{Pack, Run};
+use crate::runs::Runs;
+use path_attrs::Attrs;
+use std::alloc::Global;
+use std::sync::Arc;
+use wire_io::NoMemory;
+
+// Adds a pair, where there is an origin.
+fn add_pair<K: RunKey>(
+    pairs: &mut Vec<(u32, K)>,
+    origin: Option<u32>,
+    key: K,
+) -> Result<(), NoMemory>
+    ensures kept { OnOk result ((p : ℕ × K) → Contains pairs.old.items p → Contains pairs.new.items p) }
+    ensures added { OnOk result ((asn : ℕ) → is_number asn origin ≡ true → Contains pairs.new.items (asn, key)) }
+{
+    let Some(asn) = origin else {
+        return Ok(());
+    };
+    match pairs.push((asn, key)) {
+        Ok(_) => Ok(()),
+        Err(_) => Err(NoMemory),
+    }
+}
+
+// Adds the pairs of rows that have an origin.
+fn add_rows<K: RunKey>(
+    pairs: &mut Vec<(u32, K)>,
+    keys: &[K],
+    handles: &[u32],
+    packs: &[Arc<Pack<Attrs>>],
+) -> Result<(), NoMemory>
+    requires even { length handles.now ≡ length keys.now }
+    requires handles { AllByRecursion (IsHandle (sets_of packs.now)) handles.now }
+    ensures kept { OnOk result ((p : ℕ × K) → Contains pairs.old.items p → Contains pairs.new.items p) }
+    ensures added { OnOk result (AreNamed attrs_origin (sets_of packs.now) keys.now handles.now (length keys.now) pairs.new.items) }
+{
+    for at in 0..keys.len() {
+        let origin = origin_of(set_of(packs, handles[at]));
+        add_pair(pairs, origin, keys[at])?;
+    }
+    Ok(())
+}
+
+// Adds the pairs of the rows of a run that have an origin.
+fn add_pairs<K: RunKey>(pairs: &mut Vec<(u32, K)>, run: &Run<K, Attrs>) -> Result<(), NoMemory>
+    ensures kept { OnOk result ((p : ℕ × K) → Contains pairs.old.items p → Contains pairs.new.items p) }
+    ensures added { OnOk result (AreAdded K.cmp attrs_origin run.now pairs.new.items) }
+{
+    add_rows(pairs, &run.keys, &run.handles, &run.packs)
+}
+
+// The run of these pairs.
+fn run_of<K: RunKey>(alloc: Global, pairs: Vec<(u32, K)>) -> Result<Run<(u32, K), ()>, NoMemory>
+    ensures { IfOk result (HasPairs K.cmp pairs.items) }
+{
+    match Arc::new(alloc, ()) {
+        Ok(unit) => Run::many(alloc, pairs, Some(unit)),
+        Err(_) => Err(NoMemory),
+    }
+}
+
+// The pairs of a run.
+fn pairs_of<K: RunKey>(alloc: Global, run: &Run<K, Attrs>) -> Result<Run<(u32, K), ()>, NoMemory>
+    ensures { IfOk result (Covers K.cmp attrs_origin run.now) }
+{
+    let mut pairs = Vec::new(alloc);
+    add_pairs(&mut pairs, run)?;
+    run_of(alloc, pairs)
+}
+
+// The index of a table, of the rows of its runs alone.
+fn anew<K: RunKey>(alloc: Global, runs: &Runs<K, Attrs>) -> Result<Runs<(u32, K), ()>, NoMemory>
+    ensures { IfOk result (IsIndexed K.cmp attrs_origin runs.now) }
+{
+    let mut pairs = Vec::new(alloc);
+    add_all(&mut pairs, runs.runs.as_slice())?;
+    let rows = run_of(alloc, pairs)?;
+    let mut index = Runs::new(alloc);
+    index.push(alloc, rows)?;
+    Ok(index)
+}
+
+// Adds the pairs of all runs.
+fn add_all<K: RunKey>(
+    pairs: &mut Vec<(u32, K)>,
+    runs: &[Arc<Run<K, Attrs>>],
+) -> Result<(), NoMemory>
+    ensures { OnOk result (AreAll K.cmp attrs_origin (map arc_value runs.now) pairs.new.items) }
+{
+    for run in runs {
+        add_pairs(pairs, run)?;
+    }
+    Ok(())
+}
+
+// How many rows the runs have.
+fn rows_of<K: RunKey, A: Drop>(runs: &Runs<K, A>) -> usize {
+    let mut rows = 0usize;
+    for run in &runs.runs {
+        rows = rows.saturating_add(run.len());
+    }
+    rows
+}
+
+// The index of a table, made anew where it is twice as long as the table.
+fn kept_short<K: RunKey>(
+    alloc: Global,
+    runs: &Runs<K, Attrs>,
+    index: Runs<(u32, K), ()>,
+) -> Result<Runs<(u32, K), ()>, NoMemory>
+    requires { IsIndexed K.cmp attrs_origin runs.now index }
+    ensures { IfOk result (IsIndexed K.cmp attrs_origin runs.now) }
+{
+    if rows_of(&index) / 2 > rows_of(runs) {
+        return anew(alloc, runs);
+    }
+    Ok(index)
+}
+
+// A table with the rows of a run set, and its index.
+fn with_run<K: RunKey>(
+    alloc: Global,
+    runs: &Runs<K, Attrs>,
+    index: &Runs<(u32, K), ()>,
+    run: Run<K, Attrs>,
+) -> Result<(Runs<K, Attrs>, Runs<(u32, K), ()>), NoMemory>
+    requires { IsIndexed K.cmp attrs_origin runs.now index.now }
+    ensures changed { IfOk result (λ r. IsChanged K.cmp runs.now run r.0) }
+    ensures indexed { IfOk result (λ r. IsIndexed K.cmp attrs_origin r.0 r.1) }
+{
+    let pairs = pairs_of(alloc, &run)?;
+    let mut new_index = index.share(alloc)?;
+    new_index.push(alloc, pairs)?;
+    let mut new_runs = runs.share(alloc)?;
+    new_runs.push(alloc, run)?;
+    let short = kept_short(alloc, &new_runs, new_index)?;
+    Ok((new_runs, short))
+}
+
+// The same table, and its index.
+fn share_both<K: RunKey>(
+    alloc: Global,
+    runs: &Runs<K, Attrs>,
+    index: &Runs<(u32, K), ()>,
+) -> Result<(Runs<K, Attrs>, Runs<(u32, K), ()>), NoMemory>
+    ensures runs { IfOk result (λ r. r.0 ≡ runs.now) }
+    ensures index { IfOk result (λ r. r.1 ≡ index.now) }
+{
+    let same_runs = runs.share(alloc)?;
+    let same_index = index.share(alloc)?;
+    Ok((same_runs, same_index))
+}
+
+/// A table with changes made, and its index; they are taken out of the list.
+pub(crate) fn with_changes<K: RunKey>(
+    alloc: Global,
+    runs: &Runs<K, Attrs>,
+    index: &Runs<(u32, K), ()>,
+    changes: &mut Layers<K, Attrs>,
+) -> Result<(Runs<K, Attrs>, Runs<(u32, K), ()>), NoMemory>
+    requires { IsIndexed K.cmp attrs_origin runs.now index.now }
+    ensures changed { IfOk result (λ r. IsChanged K.cmp runs.now changes.old r.0) }
+    ensures indexed { IfOk result (λ r. IsIndexed K.cmp attrs_origin r.0 r.1) }
+    ensures emptied { OnOk result (changes.new ≡ []) }
+{
+    runs.see_order();
+    let rows = changes.take(alloc)?;
+    match rows {
+        Some(run) => with_run(alloc, runs, index, run),
+        None => share_both(alloc, runs, index),
+    }
+}
