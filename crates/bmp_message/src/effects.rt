@@ -1,4 +1,4 @@
-ghost use Rattle.std.specs.Prelude.{◌≡◌, ◌≤◌, [], ◌++◌, map, OnOk, IfOk};
+ghost use Rattle.std.specs.Prelude.{◌≡◌, ◌≤◌, ◌+◌, [], ◌∷◌, ◌++◌, length, map, OnOk, IfOk};
 ghost use Rattle.std.specs.Arc.{arc_value};
 ghost use Rattle.std.specs.Option.{option_copied};
 ghost use Rattle.rib_model.specs.Effects.{effect_values, item_values};
@@ -15,7 +15,8 @@ use wire_tables::Stat;
 
 // Appends an effect, or those on many routes.
 pub(crate) fn add(effects: &mut EffectList, effect: Effect) -> Result<(), NoMemory>
-    ensures { OnOk result (effect_values effects.new ≡ effect_values effects.old ++ item_values effect) }
+    ensures effects { OnOk result (effect_values effects.new ≡ effect_values effects.old ++ item_values effect) }
+    ensures item { OnOk result (effects.new ≡ effects.old ++ effect ∷ []) }
 {
     effects.push(effect)?;
     Ok(())
@@ -39,7 +40,8 @@ pub(crate) fn one_if(there: bool) -> usize
 
 // Appends the effect of the parts that were passed over, where there are any.
 pub(crate) fn add_unread(effects: &mut EffectList, unread: u32) -> Result<(), NoMemory>
-    ensures { OnOk result (effect_values effects.new ≡ effect_values effects.old ++ unread_effect unread) }
+    ensures effects { OnOk result (effect_values effects.new ≡ effect_values effects.old ++ unread_effect unread) }
+    ensures one { OnOk result (length effects.new ≤ length effects.old + 1) }
 {
     if unread == 0 {
         return Ok(());
@@ -55,6 +57,7 @@ pub(crate) fn add_withdrawals(
     nlris: NlriList,
 ) -> Result<(), NoMemory>
     ensures effects { OnOk result (effect_values effects.new ≡ effect_values effects.old ++ map (λ n. withdraw key.now view n) nlris) }
+    ensures one { OnOk result (length effects.new ≤ length effects.old + 1) }
     ensures none { nlris ≡ [] → effects.new ≡ effects.old }
 {
     if nlris.as_slice().is_empty() {
@@ -73,6 +76,7 @@ pub(crate) fn add_announcements(
     route: Route,
 ) -> Result<(), NoMemory>
     ensures effects { OnOk result (effect_values effects.new ≡ effect_values effects.old ++ map (λ n. announce key.now view n (arc_value route)) nlris) }
+    ensures one { OnOk result (length effects.new ≤ length effects.old + 1) }
     ensures none { nlris ≡ [] → effects.new ≡ effects.old }
 {
     if nlris.as_slice().is_empty() {
@@ -97,7 +101,8 @@ pub(crate) fn add_mark(
     view: View,
     family: Option<Family>,
 ) -> Result<(), NoMemory>
-    ensures { OnOk result (effect_values effects.new ≡ effect_values effects.old ++ effect_of (λ f. mark key.now view f) family) }
+    ensures effects { OnOk result (effect_values effects.new ≡ effect_values effects.old ++ effect_of (λ f. mark key.now view f) family) }
+    ensures one { OnOk result (length effects.new ≤ length effects.old + 1) }
 {
     if let Some(family) = family {
         let key = *key;

@@ -1,4 +1,4 @@
-ghost use Rattle.std.specs.Prelude.{◌≡◌, ◌≤◌, ◌↔◌, ℕ, List, IsTrue, IfOk, IfSome, IfNone, IsErrOf};
+ghost use Rattle.std.specs.Prelude.{◌≡◌, ◌≤◌, ◌↔◌, ℕ, List, length, IsTrue, IfOk, IfSome, IfNone, IsErrOf};
 ghost use Rattle.bmp_specs.specs.BgpMessage.{IsBgpMessage, update_type};
 ghost use Rattle.bmp_specs.specs.MessageBody.{IsRouteMonitoring, id_use as ids_of, side_of as side_in, width_of as width_in};
 ghost use Rattle.bmp_specs.specs.MessageEffects.{effects_of};
@@ -114,7 +114,8 @@ fn effects_of_update(
     view: View,
     update: Update,
 ) -> Result<EffectList, NoMemory>
-    ensures { IfOk result (λ effects. effect_values effects ≡ effects_of (routes key.now view update)) }
+    ensures effects { IfOk result (λ effects. effect_values effects ≡ effects_of (routes key.now view update)) }
+    ensures items { IfOk result (λ effects. length effects ≤ 5) }
 {
     let mut effects = EffectList::with_capacity(alloc, count(&update))?;
     add_withdrawals(&mut effects, key, view, update.withdrawn)?;
@@ -125,7 +126,8 @@ fn effects_of_update(
     Ok(effects)
 }
 
-// The effects of a Route Monitoring message (RFC 7854, section 4.6) of a peer that is up.
+// The effects of a Route Monitoring message (RFC 7854, section 4.6) of a peer that is up, in five items at most,
+// however many routes it has.
 pub(crate) fn route_monitoring(
     alloc: Global,
     peer: &PeerInfo,
@@ -134,6 +136,7 @@ pub(crate) fn route_monitoring(
     rest: &[u8],
 ) -> Result<EffectList, BodyFault>
     ensures ok { IfOk result (λ effects. (u : UpdateValue) × IsRouteMonitoring (opens_of peer.now) head.now rest.now u × (effect_values effects ≡ effects_of (routes key.now (view_of head.now) u))) }
+    ensures items { IfOk result (λ effects. length effects ≤ 5) }
     ensures broken { IsErrOf result BodyFault.Broken → (u : UpdateValue) → IsRouteMonitoring (opens_of peer.now) head.now rest.now u → ⊥ }
 {
     let update = read_routes(alloc, peer, head, rest)?;
