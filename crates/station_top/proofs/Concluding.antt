@@ -16,7 +16,7 @@ use Rattle.wire_io.specs.Writes.{Writes}
 use Rattle.wire_io.proofs.Joins.{join, appends_none, keeps_appends}
 use Rattle.station_doors.specs.Doors.{YardValue, HandsOut, TakesBack, one_more, untouched}
 use Rattle.station_top.specs.Account.{RepliesBy}
-use Rattle.station_top.specs.Station.{LendsWhereTold, IsWritten, IsTaken, FromYard, IsReply, refused, replied, starved, commanded, Concludes, Answers}
+use Rattle.station_top.specs.Station.{LendsWhereTold, IsWritten, IsTaken, FromYard, IsReplyTo, refused, replied, starved, commanded, Concludes, Answers}
 use Rattle.station_top.specs.Status.{status_of}
 use Rattle.station_top.specs.Take.{TakesInput, BreaksOff}
 use Rattle.station_top.specs.Words.{IsCommand}
@@ -94,6 +94,6 @@ concludes_unread meaning Stands Replies old new number told ReadFault from = abs
 concludes_unread meaning Stands Replies old new number told WriteFault from = absurd from
 
 -- the words are a command
-pub answers_commanded : (meaning : Meaning) (command : Command) (words : List (List ℕ)) (old new : Option YardValue) (number calls : ℕ) (told0 told1 : Option (List ℕ)) (status : Status) → IsCommand command words → calls ≡ one_more number → Concludes meaning (IsReply command) old new number told0 told1 status
+pub answers_commanded : (meaning : Meaning) (command : Command) (words : List (List ℕ)) (old new : Option YardValue) (number calls : ℕ) (told0 told1 : Option (List ℕ)) (status : Status) → IsCommand command words → calls ≡ one_more number → Concludes meaning (IsReplyTo command) old new number told0 told1 status
     → Answers meaning words old new number calls told0 told1 status
 answers_commanded meaning command words old new number calls told0 told1 status is counted c = rw counted (record { meant = c.meant; text = c.text; means = commanded command c.meant c.text is c.runs; written = c.written })

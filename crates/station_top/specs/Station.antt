@@ -24,9 +24,9 @@ use Rattle.station_top.specs.declared.words.Command.{Command}
 use Rattle.station_top.specs.declared.words.Command.TheVariants.{ReplayTable, Check}
 
 -- the bytes are the reply of a command on these entries
-abbrev pub IsReply : Command → List EntryValue → List ℕ → Type 0
-IsReply (ReplayTable select) entries bytes = query.IsReply (table select) (entries ∷ []) bytes
-IsReply Check entries bytes = bytes ≡ check_lines entries
+abbrev pub IsReplyTo : Command → List EntryValue → List ℕ → Type 0
+IsReplyTo (ReplayTable select) entries bytes = query.IsReply (table select) (entries ∷ []) bytes
+IsReplyTo Check entries bytes = bytes ≡ check_lines entries
 
 -- The yard, whose plan doesn't fail the call of this number, handed out the first port that waits under the number 0,
 -- and took it back: what it showed then stands in this relation to its plan.
@@ -70,7 +70,7 @@ pub data Means (meaning : Meaning) (words : List (List ℕ)) (old new : Option Y
   -- want of memory while the words were read: nothing is written, and the yard is asked for nothing
   unread : TakeMemory words → new ≡ old → Means meaning words old new number number NoMemory []
   -- they are this command
-  commanded : (command : Command) (status : Status) (text : List ℕ) → IsCommand command words → Runs meaning (IsReply command) old new number status text → Means meaning words old new number (one_more number) status text
+  commanded : (command : Command) (status : Status) (text : List ℕ) → IsCommand command words → Runs meaning (IsReplyTo command) old new number status text → Means meaning words old new number (one_more number) status text
 
 -- The text was written and the status is the one that is meant; or a write failed, and a front of the text was written.
 abbrev pub IsWritten : Option (List ℕ) → Option (List ℕ) → List ℕ → Status → Status → Type 0

@@ -9,7 +9,7 @@ ghost use Rattle.wire_io.specs.Writes.{Writes};
 ghost use Rattle.station_doors.specs.Doors.{one_more};
 ghost use Rattle.station_top.specs.Account.{RepliesBy};
 ghost use Rattle.station_top.specs.Status.{status_of};
-ghost use Rattle.station_top.specs.Station.{Answers, Concludes, FromYard, AnswersFault, IsReply};
+ghost use Rattle.station_top.specs.Station.{Answers, Concludes, FromYard, AnswersFault, IsReplyTo};
 
 use crate::Status;
 use crate::account::Account;
@@ -149,7 +149,7 @@ fn run_command<Y: Yard, O: Sink>(
     yard: &mut Y,
     out: &mut O,
 ) -> Status
-    ensures concludes { Concludes strict (IsReply command) (Y.told yard.old) (Y.told yard.new) (Y.calls yard.old) (O.told out.old) (O.told out.new) result }
+    ensures concludes { Concludes strict (IsReplyTo command) (Y.told yard.old) (Y.told yard.new) (Y.calls yard.old) (O.told out.old) (O.told out.new) result }
     ensures calls { Y.calls yard.new ≡ one_more (Y.calls yard.old) }
     ensures out { AnswersFault (O.faults out.old) (O.faults out.new) result Status.WriteFault }
     ensures yard { AnswersFault (Y.faults yard.old) (Y.faults yard.new) result Status.YardFault }
