@@ -1,2 +1,3 @@
 pub mod LastItems
 pub mod Copies
+pub mod TwoParts

@@ -7,27 +7,37 @@ use crate::keep::Keep;
 use circular_buffer::HeapCircularBuffer;
 use std::alloc::Global;
 use std::marker::Model;
+use std::sync::Arc;
 use wire_io::NoMemory;
 
 // How many items are kept.
 const KEPT: usize = 1024;
 
+// How many items a copy takes one by one, past those that it shares. Past that it makes one piece of all.
+const FEW: usize = 64;
+
 /// The last items of a list, oldest first, and how many the list has.
 #[derive(Drop)]
 pub struct Recent<T> {
-    items: HeapCircularBuffer<T>,
+    // what copies share
+    older: Arc<HeapCircularBuffer<T>>,
+
+    // what was pushed since
+    newer: HeapCircularBuffer<T>,
+
     total: u64,
 }
 
 impl<T> Model for Recent<T> {
-    ghost use Rattle.std.specs.Prelude.{◌≡◌, length, min};
-    ghost use Rattle.recent_ring.specs.Recent.{RecentValue};
+    ghost use Rattle.std.specs.Prelude.{◌≡◌, ◌++◌, length, min};
+    ghost use Rattle.std.specs.Arc.{arc_value};
+    ghost use Rattle.recent_ring.specs.Recent.{RecentValue, last_items};
 
     ghost Value = { RecentValue T };
 
-    ghost view = { λ r. record { total = r.total; items = r.items.items } };
+    ghost view = { λ r. record { total = r.total; items = last_items ((arc_value r.older).items ++ r.newer.items) } };
 
-    ghost invariant = { λ r. (r.items.capacity ≡ 1024) × (length r.items.items ≡ min r.total 1024) };
+    ghost invariant = { λ r. (r.newer.capacity ≡ 1024) × (length (last_items ((arc_value r.older).items ++ r.newer.items)) ≡ min r.total 1024) };
 }
 
 impl<T: Drop> Recent<T> {
@@ -35,8 +45,12 @@ impl<T: Drop> Recent<T> {
     pub fn new(alloc: Global) -> Result<Recent<T>, NoMemory>
         ensures { IfOk result (λ ring. ring ≡ recent []) }
     {
-        let items = HeapCircularBuffer::with_capacity(alloc, KEPT)?;
-        Ok(Recent { items, total: 0 })
+        let none = HeapCircularBuffer::with_capacity(alloc, 0)?;
+        Ok(Recent {
+            older: Arc::new(alloc, none)?,
+            newer: HeapCircularBuffer::with_capacity(alloc, KEPT)?,
+            total: 0,
+        })
     }
 
     /// Appends an item, and drops the oldest where 1,024 were kept. The total ends at 2^64 - 1.
@@ -45,7 +59,7 @@ impl<T: Drop> Recent<T> {
         ensures total { self.new.total ≡ min (self.old.total + 1) (2 ^ 64 - 1) }
         ensures list { (all : List T) → self.old ≡ recent all → self.new ≡ recent (all ++ item ∷ []) }
     {
-        self.items.push_back(item);
+        self.newer.push_back(item);
         self.total = self.total.saturating_add(1);
     }
 
@@ -62,27 +76,82 @@ impl<T: Drop> Recent<T> {
         ensures len { result ≡ length self.now.items }
         ensures kept { length self.now.items ≡ min self.now.total 1024 }
     {
-        self.items.len() as u64
+        self.total.min(KEPT as u64)
     }
 
     /// The item at a place, counted from the oldest kept; none where the place isn't below `len`.
     pub fn get(&self, place: u64) -> Option<&T>
         ensures { option_copied result ≡ slice_get self.now.items place }
     {
-        self.items.get(place as usize)
+        let older = self.older.len();
+        let dropped = (older + self.newer.len()).saturating_sub(KEPT);
+        if KEPT <= place as usize {
+            return None;
+        }
+        let index = dropped + place as usize;
+        if index < older {
+            self.older.get(index)
+        } else {
+            self.newer.get(index - older)
+        }
     }
 }
 
 impl<T: Keep + Drop> Recent<T> {
-    /// An equal ring: the same total, and items that are alike.
+    /// An equal ring: the same total, and items that are alike. A ring shares one piece with its copies; past
+    /// that a copy takes the items that were pushed since, each by `keep`, where they are fewer than 64. Where
+    /// they are more it takes all that are kept, and these are the piece that its own copies share: who copies
+    /// often goes on with the copy.
     pub fn copy(&self) -> Result<Recent<T>, NoMemory>
         ensures { IfOk result (IsCopy T.alike self.now) }
     {
-        let items = copy_of(&self.items)?;
+        if self.newer.len() < FEW {
+            self.sharing()
+        } else {
+            self.in_one_piece()
+        }
+    }
+
+    // A copy that shares the older items.
+    fn sharing(&self) -> Result<Recent<T>, NoMemory>
+        ensures { IfOk result (IsCopy T.alike self.now) }
+    {
+        let newer = copy_of(&self.newer)?;
         Ok(Recent {
-            items,
+            older: Arc::try_clone(&self.older)?,
+            newer,
             total: self.total,
         })
+    }
+
+    // A copy with all items in a piece that its copies share.
+    fn in_one_piece(&self) -> Result<Recent<T>, NoMemory>
+        ensures { IfOk result (IsCopy T.alike self.now) }
+    {
+        let alloc = *self.newer.allocator();
+        let all = self.all()?;
+        let older = Arc::new(alloc, all)?;
+        let newer = HeapCircularBuffer::with_capacity(alloc, KEPT)?;
+        let total = self.total;
+        Ok(Recent {
+            older,
+            newer,
+            total,
+        })
+    }
+
+    // A ring with items that are alike.
+    fn all(&self) -> Result<HeapCircularBuffer<T>, NoMemory>
+        ensures { IfOk result (λ copy. AllZip T.alike self.now.items copy.items) }
+    {
+        let mut copy = HeapCircularBuffer::with_capacity(*self.newer.allocator(), KEPT)?;
+        for place in 0..self.len() {
+            if let Some(item) = self.get(place) {
+                let kept = item.keep()?;
+                copy.push_back(kept);
+            }
+        }
+        Ok(copy)
     }
 }
 

@@ -18,12 +18,14 @@ impl Keep for u64 {
     }
 }
 
-// The total, how many are kept, and the oldest and the newest of them.
+// The total, how many are kept, the oldest and the newest of them, and one between.
 fn shows(rt: &impl Abort, ring: &Recent<u64>, total: u64, kept: u64, oldest: u64) {
     assert_eq!(rt; ring.total(), total);
     assert_eq!(rt; ring.len(), kept);
     assert!(rt; ring.get(0) == Some(&oldest));
     assert!(rt; ring.get(kept.saturating_sub(1)) == Some(&total.saturating_sub(1)));
+    let middle = kept / 2;
+    assert!(rt; ring.get(middle) == Some(&oldest.saturating_add(middle)));
     assert!(rt; ring.get(kept).is_none());
 }
 
@@ -46,6 +48,34 @@ fn the_last_items_are_kept(rt: HostRuntime) -> Result<(), Fail> {
         pushed = total;
         shows(&rt, &ring, total, kept, oldest);
         shows(&rt, &ring.copy()?, total, kept, oldest);
+    }
+    Ok(())
+}
+
+// A ring can be sent to other threads and shared by them.
+fn shared<T: Send + Sync>(ring: &T) -> &T {
+    ring
+}
+
+#[test]
+fn copies_go_on_apart(rt: HostRuntime) -> Result<(), Fail> {
+    let mut ring = Recent::new(rt.alloc())?;
+    for place in 0..1000 {
+        ring.push(place);
+    }
+    // copies that share a piece, and copies in one piece
+    for count in [7u64, 70, 7, 7, 70, 63, 64, 65, 1, 0, 1100, 3] {
+        let total = ring.total();
+        let mut copy = ring.copy()?;
+        for place in total..total.saturating_add(count) {
+            copy.push(place);
+        }
+        let more = total.saturating_add(count);
+        let kept = more.min(1024);
+        shows(&rt, shared(&copy), more, kept, more.saturating_sub(kept));
+        let kept = total.min(1024);
+        shows(&rt, &ring, total, kept, total.saturating_sub(kept));
+        ring = copy;
     }
     Ok(())
 }

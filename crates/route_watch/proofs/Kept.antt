@@ -1,29 +1,22 @@
 -- Steps that are kept, by their numbers.
-use Rattle.std.proofs.Common.{◌≡◌, ◌≢◌, ℕ, zero, suc, ◌+◌, ◌-◌, ◌<◌, ◌≤◌, max, List, [], ◌∷◌, length, map, drop, Option, None, Some, refl, sym, ap, ◌∙◌, subst, arith, unwrap_or, option_map, slice_get}
+use Rattle.std.proofs.Common.{◌≡◌, ◌≢◌, ℕ, ◌+◌, ◌-◌, ◌<◌, ◌≤◌, max, List, length, map, Option, None, Some, sym, ap, ◌∙◌, subst, arith, unwrap_or, option_map, slice_get}
 use Rattle.std.proofs.lemmas.List.{length-map}
 use Rattle.std.proofs.lemmas.Option.{slice_get-map, slice_get_within}
 use Rattle.bmp_specs.specs.Changes.{ChangeValue, Concerns, IsChange, oldest_kept}
 use Rattle.bmp_specs.specs.Values.{PrefixValue, StepValue}
 use Rattle.recent_ring.specs.Recent.{RecentValue}
+use Rattle.recent_ring.proofs.TwoParts.{slice_get-drop}
 use Rattle.rib_model.specs.declared.step.Step.{Step}
 use Rattle.rib_model.specs.Steps.{step_value}
 use Rattle.route_watch.specs.Watch.{AreSteps, IsFirst, IsKeptChange}
-
-pub slice_get-drop : {X : Type 0} (n : ℕ) (xs : List X) (i : ℕ) → slice_get (drop n xs) i ≡ slice_get xs (n + i)
-slice_get-drop zero xs i = let same : i ≡ 0 + i = omega arith in ap (slice_get xs) same
-slice_get-drop (suc n) [] i = refl
-slice_get-drop (suc n) (x ∷ xs) i = let next : suc (n + i) ≡ suc n + i = omega arith in slice_get-drop n xs i ∙ ap (slice_get (x ∷ xs)) next
 
 module _ (recent : RecentValue Step) (from : ℕ) (prefix : PrefixValue) where
   -- each change that is kept stands at this place or a later one
   abbrev pub StandsFrom : ℕ → Type 0
   StandsFrom place = (change : ChangeValue) → IsKeptChange recent from prefix change → oldest_kept recent.total + place ≤ change.number
 
-  pub stands_from_first : StandsFrom (from - oldest_kept recent.total)
-  stands_from_first change is = omega (arith, is.later, is.kept)
-
   -- the step of a change is the item at its place
-  pub change_there : (place : ℕ) (step : Step) (change : ChangeValue) → slice_get recent.items place ≡ Some step → IsKeptChange recent from prefix change → change.number ≡ oldest_kept recent.total + place → change.step ≡ step_value step
+  change_there : (place : ℕ) (step : Step) (change : ChangeValue) → slice_get recent.items place ≡ Some step → IsKeptChange recent from prefix change → change.number ≡ oldest_kept recent.total + place → change.step ≡ step_value step
   change_there place step change at is same =
       let there : change.number - oldest_kept recent.total ≡ place = omega (arith, same) in
       let value : slice_get (map step_value recent.items) place ≡ Some (step_value step) = slice_get-map step_value recent.items place ∙ ap (option_map step_value) at in
@@ -61,14 +54,14 @@ module _ (recent : RecentValue Step) (from : ℕ) (prefix : PrefixValue) where
         let there : length steps - 1024 + (n - oldest_kept recent.total) ≡ n = omega (arith, cut, kept) in
         ap (λ (l : List StepValue). slice_get l (n - oldest_kept recent.total)) all.items ∙ slice_get-drop (length steps - 1024) steps (n - oldest_kept recent.total) ∙ ap (slice_get steps) there
 
-    pub change_of_steps : (change : ChangeValue) → IsKeptChange recent from prefix change → IsChange steps (max from (oldest_kept (length steps))) prefix change
+    change_of_steps : (change : ChangeValue) → IsKeptChange recent from prefix change → IsChange steps (max from (oldest_kept (length steps))) prefix change
     change_of_steps change is = record {
       later = omega (arith, is.later, is.kept, all.total);
       stands = sym (at_number change.number is.kept) ∙ is.stands;
       concerns = is.concerns;
     }
 
-    pub kept_of_steps : (change : ChangeValue) → IsChange steps (max from (oldest_kept (length steps))) prefix change → IsKeptChange recent from prefix change
+    kept_of_steps : (change : ChangeValue) → IsChange steps (max from (oldest_kept (length steps))) prefix change → IsKeptChange recent from prefix change
     kept_of_steps change is =
         let kept : oldest_kept recent.total ≤ change.number = omega (arith, is.later, all.total) in
         record {
