@@ -1,5 +1,5 @@
 -- The numbers under which ports were handed out.
-use Rattle.std.proofs.Common.{◌≡◌, ℕ, None, zero, suc, ◌<◌, length, get_or, List, [], ◌∷◌, Some, map, true, false, refl, ap, sym, ◌∙◌, arith, nat_eq, if◌then◌else◌}
+use Rattle.std.proofs.Common.{◌≡◌, ℕ, zero, suc, ◌<◌, length, get_or, List, [], ◌∷◌, Some, map, true, false, refl, ap, sym, ◌∙◌, arith, nat_eq, if◌then◌else◌}
 use Rattle.std.specs.List.{remove, position, All}
 use Rattle.std.proofs.lemmas.List.Quantifiers.{position-Some}
 use Rattle.std.proofs.lemmas.Bool.{ne_eqb}

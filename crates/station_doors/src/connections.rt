@@ -1,4 +1,4 @@
-ghost use Rattle.std.specs.Prelude.{◌≡◌, ℕ, ◌≤◌, ◌<◌, ◌+◌, ◌-◌, ◌++◌, [], min, map, drop, take, length, unwrap_or, IfOk, IsTrue, Ok, Err, List};
+ghost use Rattle.std.specs.Prelude.{◌≡◌, ℕ, ◌≤◌, ◌<◌, ◌+◌, ◌-◌, [], min, map, drop, take, length, unwrap_or, IfOk, IsTrue, Ok, Err, List};
 ghost use Rattle.wire_io.specs.Aside.{Plan};
 ghost use Rattle.wire_io.specs.declared.sink.Failed.{Failed};
 ghost use Rattle.station_doors.specs.Doors.{Opens, Reads, Closes, read_of, noted_writes, untouched_link};

@@ -1,4 +1,4 @@
-ghost use Rattle.std.specs.Prelude.{◌≡◌, false, ℕ, ◌+◌, ◌-◌, ◌^◌, min, List, None, Some, Ok, Err, IsTrue, IfOk, ◌↔◌};
+ghost use Rattle.std.specs.Prelude.{◌≡◌, false, ℕ, ◌-◌, List, None, Some, Ok, Err, IfOk};
 ghost use Rattle.station_doors.specs.Doors.{Opens, Reads, Closes, noted_writes};
 ghost use Rattle.station_doors.specs.Counts.{untold};
 

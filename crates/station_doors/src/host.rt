@@ -1,4 +1,4 @@
-ghost use Rattle.std.specs.Prelude.{◌≡◌, ◌↔◌, ℕ, [], None, Some, IfOk, IsOk, IsSome, ◌<◌, slice_get};
+ghost use Rattle.std.specs.Prelude.{◌≡◌, ◌↔◌, None, Some, IfOk, IsOk, IsSome, ◌<◌, slice_get};
 ghost use Rattle.wire_io.specs.Faults.{HasCause};
 ghost use Rattle.station_doors.specs.Doors.{one_more, askers_of};
 

@@ -1,9 +1,9 @@
-ghost use Rattle.std.specs.Prelude.{◌≡◌, ℕ, ◌≤◌, ◌<◌, ◌+◌, [], Some, length, slice_get, unwrap_or, vec_len, All, IfOk, IsTrue};
+ghost use Rattle.std.specs.Prelude.{◌≡◌, ◌≤◌, ◌<◌, [], Some, length, vec_len, All, IfOk, IsTrue};
 ghost use Rattle.std.specs.Io.{ReadsAtMost};
 ghost use Rattle.std.specs.Io.KnownBytes.{WriteAppends};
 ghost use Rattle.wire_io.specs.Aside.{Plan};
 ghost use Rattle.wire_io.specs.Faults.{HasCause};
-ghost use Rattle.station_doors.specs.Doors.{Reads, AsPlanned, untouched_link, one_more};
+ghost use Rattle.station_doors.specs.Doors.{Reads, AsPlanned, untouched_link};
 
 use crate::Link;
 use crate::connections::Connections;

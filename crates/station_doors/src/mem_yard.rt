@@ -1,7 +1,7 @@
-ghost use Rattle.std.specs.Prelude.{◌≡◌, ℕ, ◌≤◌, ◌<◌, ◌+◌, ◌++◌, ◌∷◌, [], None, Some, map, length, vec_len, All, Contains, IsTrue, ◌↔◌, IfOk, IfErr, IfSome, IfNone, OnErr, OnOk, position, ◌==◌, slice_index};
+ghost use Rattle.std.specs.Prelude.{◌≡◌, ◌≤◌, ◌<◌, ◌+◌, [], None, Some, map, length, vec_len, All, Contains, IsTrue, ◌↔◌, IfOk, IfSome, IfNone, position, ◌==◌, slice_index};
 ghost use Rattle.std.specs.Bool.{OnTrue, OnFalse};
 ghost use Rattle.std.specs.Vec.{vec_capacity};
-ghost use Rattle.station_doors.specs.Doors.{without, one_more};
+ghost use Rattle.station_doors.specs.Doors.{without};
 
 use crate::{Listening, MemLink, MemPort, Port, Yard};
 use ip_prefix::Addr;

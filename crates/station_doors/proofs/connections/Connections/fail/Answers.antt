@@ -1,4 +1,4 @@
-use Rattle.std.proofs.Common.{◌≡◌, arith, ap, ◌-◌, ◌<◌}
+use Rattle.std.proofs.Common.{arith, ap, ◌-◌, ◌<◌}
 use Rattle.station_doors.specs.declared.connections.Last.TheVariants.{Fault}
 use Rattle.station_doors.specs.declared.connections.Session.{Session}
 use Rattle.station_doors.proofs.Sessions.{reads_fault}

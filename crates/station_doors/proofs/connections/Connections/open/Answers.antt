@@ -1,4 +1,4 @@
-use Rattle.std.proofs.Common.{◌≡◌, arith, ap, ◌∙◌, List, ℕ, Some}
+use Rattle.std.proofs.Common.{arith, ap, ◌∙◌, List, ℕ, Some}
 use Rattle.station_doors.specs.declared.connections.Last.TheVariants.{Gave}
 use Rattle.station_doors.specs.declared.connections.Session.{Session}
 use Rattle.station_doors.proofs.Sessions.{opens_next, notes_next}

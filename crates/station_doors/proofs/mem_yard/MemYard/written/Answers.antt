@@ -1,4 +1,4 @@
-use Rattle.std.proofs.Common.{◌∙◌, ap, sym}
+use Rattle.std.proofs.Common.{◌∙◌, ap}
 use Rattle.station_doors.specs.declared.mem_yard.LinkBack.{LinkBack}
 use Rattle.station_doors.proofs.Lent.{wrote, wrote_none}
 use Rattle.station_doors.proofs.mem_yard.MemYard.written.Goals as goal
