@@ -7,10 +7,13 @@
 //! attributes, up to 4,096 of them each, and a merge counts a pack, not a row.
 //!
 //! Proved: `with` gives the table with the last change of each NLRI made, and all others as they were; `get` is
-//! the look-up, `walk` gives the pairs from a place on in the order of NLRI, each once, `count` is their number.
-//! How runs are merged is in no contract of a public call.
-//! Begin with `src/table.rt` and `src/changes.rt`, then `specs/Runs.antt`; the rows of a run are in
-//! `specs/Rows.antt`, their merging in `src/weave.rt` and `proofs/Merging.antt`.
+//! the look-up, `walk` gives the pairs from a place on in the order of NLRI, each once, `count` is their number;
+//! `longest` is the longest prefix that holds an address (RFC 1812, section 5.2.4.3), in at most 33 or 129 looks,
+//! which `Steps` of `prefix_trie` counts; `origin` gives the routes of an origin AS (RFC 6811, section 2) from a
+//! place on. How runs are merged, and how long the index by origin is, is in no contract of a public call.
+//! Begin with `src/table.rt` and `src/changes.rt`, then `specs/Runs.antt`, `specs/Longest.antt` and
+//! `specs/Origins.antt`; the rows of a run are in `specs/Rows.antt`, their merging in `src/weave.rt` and
+//! `proofs/Merging.antt`.
 #![tactic(auto)]
 
 mod back;

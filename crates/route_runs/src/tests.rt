@@ -1,21 +1,41 @@
 //! Changes of routes, beside an ordered map of std.
 
-use crate::{Changes, Place, RouteTable};
+ghost use Rattle.std.specs.Prelude.{◌≡◌, ◌<◌};
+
+use crate::{Changes, OriginWalk, Place, RouteTable};
+use as_path::{AsPath, Segment};
+use bmp_specs::SegmentKind;
 use ip_prefix::{Addr, Nlri, Prefix};
 use path_attrs::{Attrs, Numbers, OtherList};
+use prefix_trie::Steps;
 use rand_core::utils::NextWord;
 use rand_pcg::Lcg64Xsh32;
 use rib_model::Route;
 use std::alloc::Global;
 use std::collections::BTreeMap;
+use std::marker::Brand;
 use std::sync::Arc;
+use std::sync::ledger::{Blank, Ledger};
 use std::test::Fail;
 
-// A route with this MULTI_EXIT_DISC.
+// The path of one AS.
+fn path_of(alloc: Global, asn: u32) -> Option<AsPath> {
+    let mut numbers = Numbers::new(alloc);
+    numbers.push(asn).ok()?;
+    let mut path = AsPath::new(alloc);
+    path.push(Segment {
+        kind: SegmentKind::Sequence,
+        numbers,
+    })
+    .ok()?;
+    Some(path)
+}
+
+// A route with this MULTI_EXIT_DISC, of one of seven origin ASes.
 fn route_of(alloc: Global, med: u32) -> Option<Route> {
     let attrs = Attrs {
         origin: None,
-        path: None,
+        path: path_of(alloc, med % 7),
         hop: None,
         med: Some(med),
         pref: None,
@@ -116,6 +136,102 @@ fn are_same(table: &RouteTable, map: &BTreeMap<Nlri, u32>) -> bool {
         }
     }
     walk.next().is_none() && table.count() == map.len() as u64
+}
+
+// Whether this is the next route of the walk.
+fn is_next(walk: &mut OriginWalk<'_>, nlri: &Nlri, med: u32) -> bool {
+    match walk.next() {
+        Some((found, route)) => found == *nlri && route.med == Some(med),
+        None => false,
+    }
+}
+
+// Whether the routes of an origin AS from an NLRI on are those of the map, in order.
+fn are_origins(table: &RouteTable, map: &BTreeMap<Nlri, u32>, asn: u32, place: Nlri) -> bool {
+    let mut walk = table.origin(asn, Place::From(place));
+    for (nlri, med) in map.range(place..) {
+        if *med % 7 == asn && !is_next(&mut walk, nlri, *med) {
+            return false;
+        }
+    }
+    walk.next().is_none()
+}
+
+// How many routes of an origin AS there are after a place, of the first 200.
+fn count_origins(table: &RouteTable, asn: u32, place: Place) -> u32 {
+    let mut walk = table.origin(asn, place);
+    let mut count = 0u32;
+    for _ in 0..200u32 {
+        if walk.next().is_some() {
+            count = count.saturating_add(1);
+        }
+    }
+    count
+}
+
+// The longer one of two prefixes.
+fn longer(best: Option<Prefix>, other: Prefix) -> Option<Prefix> {
+    match best {
+        Some(prefix) => {
+            if prefix.bits() > other.bits() {
+                best
+            } else {
+                Some(other)
+            }
+        }
+        None => Some(other),
+    }
+}
+
+// The longest prefix of the map that holds an address.
+fn longest_in(map: &BTreeMap<Nlri, u32>, addr: &Addr) -> Option<Prefix> {
+    let mut best = None;
+    for (nlri, _) in map.iter() {
+        if nlri.prefix.holds(addr) {
+            best = longer(best, nlri.prefix);
+        }
+    }
+    best
+}
+
+// Both searches at drawn places.
+fn are_found<L: Ledger>(
+    rng: &mut Lcg64Xsh32,
+    table: &RouteTable,
+    map: &BTreeMap<Nlri, u32>,
+    steps: &mut Steps<L>,
+) -> bool {
+    for number in 0..20u32 {
+        let place = drawn(rng);
+        if !are_origins(table, map, number % 8, place) {
+            return false;
+        }
+        let addr = place.prefix.addr();
+        if table.longest(&addr, steps) != longest_in(map, &addr) {
+            return false;
+        }
+    }
+    true
+}
+
+// A table of 5,000 changes, searched at drawn places.
+fn searches<L: Ledger>(alloc: Global, blank: Blank) -> bool
+    requires name { blank.name ≡ L.name }
+    requires parts { blank.parts ≡ L.parts }
+    requires some { 0 < blank.parts }
+{
+    let mut steps = Steps::<L>::new(blank);
+    let mut rng = Lcg64Xsh32::new(7, 11);
+    let mut map = BTreeMap::new(alloc);
+    match change_many(alloc, &mut rng, RouteTable::new(alloc), &mut map) {
+        Some(table) => are_found(&mut rng, &table, &map, &mut steps),
+        None => false,
+    }
+}
+
+#[test]
+fn searches_against_an_ordered_map(rt: HostRuntime) {
+    assert!(rt; searches::<Brand>(rt.alloc(), Blank::new(1)));
 }
 
 // The tables are compared once all is done, so that a change to a later one would show in an earlier.
@@ -219,6 +335,9 @@ fn later_runs_override_earlier_ones(rt: HostRuntime) -> Result<(), Fail> {
         assert_eq!(rt; next_med(&table, Place::After(numbered(9))), Some(2));
         assert_eq!(rt; next_med(&table, Place::After(numbered(39))), Some(1));
         assert_eq!(rt; next_med(&table, Place::From(numbered(100))), None);
+        assert_eq!(rt; count_origins(&table, 1, Place::First), 60);
+        assert_eq!(rt; count_origins(&table, 2, Place::First), 30);
+        assert_eq!(rt; count_origins(&table, 3, Place::After(numbered(3))), 6);
     }
     Ok(())
 }
