@@ -78,7 +78,7 @@ impl Reading {
     {
         match self.peers.get(key) {
             Some(peer) => M::routes(self.alloc, peer, head, key, rest),
-            None => Ok(M::only(self.alloc, Effect::Orphan)?),
+            None => Ok(M::orphan(self.alloc)?),
         }
     }
 
@@ -167,7 +167,7 @@ impl Reading {
         let head = PeerHeader::read(front);
         match head.key() {
             Some(key) => self.of_peer::<M>(kind, &head, &key, rest),
-            None => Ok(M::only(self.alloc, Effect::Passed)?),
+            None => Ok(M::passed(self.alloc)?),
         }
     }
 
@@ -183,7 +183,7 @@ impl Reading {
             MessageType::OfPeer(kind) => self.with_header::<M>(kind, body),
             MessageType::Initiation => made_of::<M>(events::initiation(self.alloc, body)),
             MessageType::Termination => made_of::<M>(events::termination(self.alloc, body)),
-            MessageType::Unknown => Ok(M::only(self.alloc, Effect::Passed)?),
+            MessageType::Unknown => Ok(M::passed(self.alloc)?),
         }
     }
 

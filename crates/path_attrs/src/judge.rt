@@ -26,6 +26,7 @@ pub struct Judged<'a> {
 /// of one type, or a value isn't of the form of its type.
 ///
 /// Takes no memory. The header of each attribute and of each segment of the AS path is read once.
+#[inline(always)]
 pub fn judge_attrs(field: &[u8], width: Width) -> Option<Judged<'_>>
     ensures some { IfSome result (IsJudged width field.now) }
     ensures none { IfNone result ((read : AttrsReadValue) → AreAttributes width field.now read → ⊥) }

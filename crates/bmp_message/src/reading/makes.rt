@@ -1,12 +1,13 @@
-ghost use Rattle.std.specs.Prelude.{◌≡◌, ⊤, List, IfOk, IsErr, IsErrOf, IsOkAnd, MatchResult, Err};
+ghost use Rattle.std.specs.Prelude.{◌≡◌, ⊤, List, [], ◌∷◌, IfOk, IsErr, IsErrOf, IsOkAnd, MatchResult, Err};
 ghost use Rattle.bmp_specs.specs.MessageBody.{IsRouteMonitoring};
 ghost use Rattle.bmp_specs.specs.MessageEffects.{effects_of};
 ghost use Rattle.bmp_specs.specs.PeerHeader.{view_of};
-ghost use Rattle.bmp_specs.specs.Values.{EffectValue, UpdateValue, routes as routes_of};
+ghost use Rattle.bmp_specs.specs.Values.{EffectValue, UpdateValue, orphan as orphan_value, passed as passed_value, routes as routes_of};
 ghost use Rattle.bmp_message.specs.State.{opens_of};
-ghost use Rattle.rib_model.specs.Effects.{effect_values, item_values};
+ghost use Rattle.rib_model.specs.Effects.{effect_values};
 
-use crate::{effects, routes};
+use crate::effects::only;
+use crate::routes;
 use bgp_open::PeerInfo;
 use bmp_frames::{PeerHeader, PeerKey};
 use rib_model::{Effect, EffectList};
@@ -24,9 +25,14 @@ pub(crate) trait Makes {
     // It may want memory where it isn't made of a list.
     ghost wants: { Type 0 };
 
-    // Makes it of one effect.
-    fn only(alloc: Global, effect: Effect) -> Result<Self::Made, NoMemory>
-        ensures ok { IfOk result (λ made. is_of made (item_values effect)) }
+    // Makes it of a message of a peer that isn't up.
+    fn orphan(alloc: Global) -> Result<Self::Made, NoMemory>
+        ensures ok { IfOk result (λ made. is_of made (orphan_value ∷ [])) }
+        ensures wants { IsErr result → wants };
+
+    // Makes it of a message that is passed over.
+    fn passed(alloc: Global) -> Result<Self::Made, NoMemory>
+        ensures ok { IfOk result (λ made. is_of made (passed_value ∷ [])) }
         ensures wants { IsErr result → wants };
 
     // Makes it of the list of the effects.
@@ -68,8 +74,12 @@ impl Makes for WithEffects {
 
     ghost wants = { ⊤ };
 
-    fn only(alloc: Global, effect: Effect) -> Result<EffectList, NoMemory> {
-        effects::only(alloc, effect)
+    fn orphan(alloc: Global) -> Result<EffectList, NoMemory> {
+        only(alloc, Effect::Orphan)
+    }
+
+    fn passed(alloc: Global) -> Result<EffectList, NoMemory> {
+        only(alloc, Effect::Passed)
     }
 
     fn of(effects: EffectList) -> EffectList {
@@ -97,7 +107,11 @@ impl Makes for WithoutEffects {
 
     ghost wants = { ⊥ };
 
-    fn only(_alloc: Global, _effect: Effect) -> Result<(), NoMemory> {
+    fn orphan(_alloc: Global) -> Result<(), NoMemory> {
+        Ok(())
+    }
+
+    fn passed(_alloc: Global) -> Result<(), NoMemory> {
         Ok(())
     }
 

@@ -41,6 +41,6 @@ returns-in-Termination-clause-ok g c =
     (made_ok g.M.Makes.is_of _ _ c.termination.result c.made_of-in-Termination.result c.made_of-in-Termination.ensures
     (IfOk-weaker c.termination.result _ _ (λ effects. termination_of (reading_state c.args.self.now) c.args.body.now (effect_values effects)) c.termination.ensures.ok))
 
-pub returns-in_ok-only-in-Unknown-clause-ok : goal.returns-in_ok-only-in-Unknown-clause-ok
-returns-in_ok-only-in-Unknown-clause-ok g c =
-    rw c.in-Unknown.is (passed ∷ [], c.in_ok-only-in-Unknown.ensures.ok, of_no_type (reading_state c.args.self.now) c.args.body.now (passed ∷ []) refl)
+pub returns-in_ok-passed-in-Unknown-clause-ok : goal.returns-in_ok-passed-in-Unknown-clause-ok
+returns-in_ok-passed-in-Unknown-clause-ok g c =
+    rw c.in-Unknown.is (passed ∷ [], c.in_ok-passed-in-Unknown.ensures.ok, of_no_type (reading_state c.args.self.now) c.args.body.now (passed ∷ []) refl)

@@ -26,9 +26,9 @@ returns-in-Some-key-clause-broken g c broken =
     no_meaning (message_type_of c.args.kind) (reading_state c.args.self.now) c.args.body.now c.in-Some.front.now c.in-Some.rest.now c.read-head.result c.in-Some-key.key cut.0 cut.1 c.read-head.ensures c.in-Some-key.ensures
     (c.of_peer.ensures.broken broken)
 
-pub returns-in_ok-only-in-None-clause-ok : goal.returns-in_ok-only-in-None-clause-ok
-returns-in_ok-only-in-None-clause-ok g c = (
+pub returns-in_ok-passed-in-None-clause-ok : goal.returns-in_ok-passed-in-None-clause-ok
+returns-in_ok-passed-in-None-clause-ok g c = (
   passed ∷ [],
-  c.in_ok-only-in-None.ensures.ok,
+  c.in_ok-passed-in-None.ensures.ok,
   of_unknown (message_type_of c.args.kind) (reading_state c.args.self.now) c.args.body.now c.in-Some.front.now c.read-head.result c.in-Some.ensures.cases.0 c.read-head.ensures c.in-None.ensures (passed ∷ []) refl,
 )
