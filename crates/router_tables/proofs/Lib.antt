@@ -1,0 +1,2 @@
+pub mod StepCopies
+pub mod Beginnings

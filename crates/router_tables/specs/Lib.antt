@@ -1,0 +1,4 @@
+pub mod State
+pub mod Session
+pub mod Views
+pub mod Tables
