@@ -1,2 +1,5 @@
 pub mod StepCopies
 pub mod Beginnings
+pub mod BookSteps
+pub mod CountSteps
+pub mod SessionSteps

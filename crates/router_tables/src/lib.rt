@@ -8,7 +8,11 @@
 //! Begin with `specs/Tables.antt` and `specs/Session.antt`, then `src/tables.rt`.
 #![tactic(auto)]
 
+mod books;
+mod counting;
 mod session;
+mod shared_peers;
+mod shared_stats;
 mod state;
 mod tables;
 mod views;

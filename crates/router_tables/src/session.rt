@@ -1,41 +1,35 @@
-ghost use Rattle.std.specs.Prelude.{◌≡◌, [], IfOk};
+ghost use Rattle.std.specs.Prelude.{◌≡◌, [], ◌∷◌, ◌++◌, List, IfOk, OnOk};
+ghost use Rattle.bmp_specs.specs.Sums.{no_counts};
+ghost use Rattle.bmp_specs.specs.Values.{EntryValue};
+ghost use Rattle.rib_model.specs.Entries.{entry_value};
+ghost use Rattle.router_tables.specs.Books.{StandsForBooks};
 ghost use Rattle.router_tables.specs.Session.{StandsForSession};
 ghost use Rattle.router_tables.specs.State.{state_value};
 
+use crate::books::{Books, take_effects};
+use crate::counting::count_message;
 use crate::state::LaneState;
-use peer_book::PeerBook;
-use stats_book::{Counts, StatsBook};
+use rib_model::Entry;
+use stats_book::Counts;
 use std::alloc::Global;
 use std::marker::Model;
-use std::sync::Arc;
-use wire_io::{ByteList, NoMemory};
+use wire_io::NoMemory;
 
-// The present session of a lane, without its routes. What seldom changes stands behind an `Arc` of its own.
+// The present session of a lane, without its routes.
 #[derive(Drop)]
 pub(crate) struct Session {
     state: LaneState,
     counts: Counts,
-    name: Arc<ByteList>,
-    description: Arc<ByteList>,
-    peers: Arc<PeerBook>,
-    stats: Arc<StatsBook>,
+    books: Books,
 }
 
 impl Model for Session {
-    ghost use Rattle.std.specs.Arc.{arc_value};
     ghost use Rattle.router_tables.specs.Session.{SessionValue};
     ghost use Rattle.router_tables.specs.State.{state_value};
 
     ghost Value = { SessionValue };
 
-    ghost view = { λ s. record {
-      state = state_value s.state;
-      counts = s.counts;
-      name = arc_value s.name;
-      description = arc_value s.description;
-      peers = arc_value s.peers;
-      stats = arc_value s.stats;
-    } };
+    ghost view = { λ s. record { state = state_value s.state; counts = s.counts; books = s.books } };
 }
 
 impl Session {
@@ -46,10 +40,7 @@ impl Session {
         Ok(Session {
             state: LaneState::Idle,
             counts: Counts::none(),
-            name: Arc::new(alloc, ByteList::new(alloc))?,
-            description: Arc::new(alloc, ByteList::new(alloc))?,
-            peers: Arc::new(alloc, PeerBook::new(alloc))?,
-            stats: Arc::new(alloc, StatsBook::new(alloc))?,
+            books: Books::new(alloc)?,
         })
     }
 
@@ -60,10 +51,7 @@ impl Session {
         Ok(Session {
             state: self.state,
             counts: self.counts,
-            name: Arc::try_clone(&self.name)?,
-            description: Arc::try_clone(&self.description)?,
-            peers: Arc::try_clone(&self.peers)?,
-            stats: Arc::try_clone(&self.stats)?,
+            books: self.books.share()?,
         })
     }
 
@@ -79,27 +67,46 @@ impl Session {
         self.counts
     }
 
-    pub(crate) fn name(&self) -> &[u8]
-        ensures { result.now ≡ self.now.name }
+    pub(crate) fn books(&self) -> &Books
+        ensures { result.now ≡ self.now.books }
     {
-        self.name.as_slice()
+        &self.books
     }
 
-    pub(crate) fn description(&self) -> &[u8]
-        ensures { result.now ≡ self.now.description }
+    // Takes one entry. After want of memory the session may only be dropped.
+    pub(crate) fn take(&mut self, alloc: Global, entry: &Entry) -> Result<(), NoMemory>
+        ensures { OnOk result ((entries : List EntryValue) → StandsForSession self.old entries → StandsForSession self.new (entries ++ entry_value entry.now ∷ [])) }
     {
-        self.description.as_slice()
+        match entry {
+            Entry::Opened => self.start_over(alloc, LaneState::Live),
+            Entry::Message {
+                length,
+                effects,
+                ..
+            } => {
+                if !self.state.is_live() {
+                    return Ok(());
+                }
+                let effects = effects.as_slice();
+                count_message(&mut self.counts, *length, effects);
+                take_effects(&mut self.books, effects)
+            }
+            Entry::Closed(cause) => {
+                let state = self.state.after_closing(*cause);
+                self.start_over(alloc, state)
+            }
+        }
     }
 
-    pub(crate) fn peers(&self) -> &PeerBook
-        ensures { result.now ≡ self.now.peers }
+    // Nothing is told and counted, and the lane is in this state.
+    fn start_over(&mut self, alloc: Global, state: LaneState) -> Result<(), NoMemory>
+        ensures state { OnOk result (self.new.state ≡ state_value state) }
+        ensures counts { OnOk result (self.new.counts ≡ no_counts) }
+        ensures books { OnOk result (StandsForBooks self.new.books []) }
     {
-        &self.peers
-    }
-
-    pub(crate) fn stats(&self) -> &StatsBook
-        ensures { result.now ≡ self.now.stats }
-    {
-        &self.stats
+        self.books = Books::new(alloc)?;
+        self.counts = Counts::none();
+        self.state = state;
+        Ok(())
     }
 }

@@ -77,30 +77,30 @@ impl RouterTables {
 
     /// The last sysName of the present session (RFC 7854, section 4.4), empty where there is none.
     pub fn name(&self) -> &[u8]
-        ensures { result.now ≡ self.now.session.name }
+        ensures { result.now ≡ self.now.session.books.name }
     {
-        self.session.name()
+        self.session.books().name()
     }
 
     /// The last sysDescr of the present session (RFC 7854, section 4.4), empty where there is none.
     pub fn descr(&self) -> &[u8]
-        ensures { result.now ≡ self.now.session.description }
+        ensures { result.now ≡ self.now.session.books.description }
     {
-        self.session.description()
+        self.session.books().description()
     }
 
     /// The peers of the present session (RFC 7854, sections 4.9 and 4.10).
     pub fn peers(&self) -> &PeerBook
-        ensures { result.now ≡ self.now.session.peers }
+        ensures { result.now ≡ self.now.session.books.peers }
     {
-        self.session.peers()
+        self.session.books().peers()
     }
 
     /// The statistics of the present session's peers (RFC 7854, section 4.8).
     pub fn stats(&self) -> &StatsBook
-        ensures { result.now ≡ self.now.session.stats }
+        ensures { result.now ≡ self.now.session.books.stats }
     {
-        self.session.stats()
+        self.session.books().stats()
     }
 
     /// The routes of a peer in a view. `None` only where that table has no row.
