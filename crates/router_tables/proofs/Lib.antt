@@ -3,3 +3,4 @@ pub mod Beginnings
 pub mod BookSteps
 pub mod CountSteps
 pub mod SessionSteps
+pub mod StepSteps

@@ -14,6 +14,7 @@ mod session;
 mod shared_peers;
 mod shared_stats;
 mod state;
+mod steps;
 mod tables;
 mod views;
 
