@@ -4,3 +4,4 @@ pub mod BookSteps
 pub mod CountSteps
 pub mod SessionSteps
 pub mod StepSteps
+pub mod RowSteps

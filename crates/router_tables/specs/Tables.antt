@@ -7,7 +7,7 @@ use Rattle.bmp_specs.specs.Orders.{key_cmp, nlri_cmp}
 use Rattle.bmp_specs.specs.Rows.{RowKeyValue, RowValue, HasRow}
 use Rattle.bmp_specs.specs.Session.{session_effects}
 use Rattle.bmp_specs.specs.Steps.{steps_of}
-use Rattle.bmp_specs.specs.Values.{KeyValue, AttrsValue, EntryValue, StepValue}
+use Rattle.bmp_specs.specs.Values.{KeyValue, AttrsValue, EffectValue, EntryValue, StepValue}
 use Rattle.recent_ring.specs.Recent.{RecentValue, recent}
 use Rattle.rib_model.specs.declared.step.Step.{Step}
 use Rattle.rib_model.specs.Steps.{step_value}
@@ -27,6 +27,10 @@ table_at tables key view = option_and_then (view_table view) (lookup (is_at (key
 abbrev pub route_at : Tables → RowKeyValue → Option AttrsValue
 route_at tables place = option_and_then (value_at nlri_cmp place.nlri) (table_at tables place.key place.view)
 
+-- the tables have exactly the rows that these effects leave
+abbrev pub AreRowsOf : Tables → List EffectValue → Type 0
+AreRowsOf tables effects = (row : RowValue) → (route_at tables row.row_key ≡ Some row.route) ↔ HasRow effects row
+
 -- the last steps, without the place of their parts in memory
 abbrev pub steps_told : RecentValue Step → RecentValue StepValue
 steps_told steps = record { total = steps.total; items = map step_value steps.items }
@@ -40,5 +44,5 @@ pub record TablesValue : Type 0 where
 -- the entries.
 pub record StandsFor (tables : TablesValue) (entries : List EntryValue) : Type 0 where
   pub session : StandsForSession tables.session entries
-  pub rows : (row : RowValue) → (route_at tables.tables row.row_key ≡ Some row.route) ↔ HasRow (session_effects entries) row
+  pub rows : AreRowsOf tables.tables (session_effects entries)
   pub steps : tables.steps ≡ recent (steps_of entries)

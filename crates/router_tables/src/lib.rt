@@ -10,6 +10,7 @@
 
 mod books;
 mod counting;
+mod rows;
 mod session;
 mod shared_peers;
 mod shared_stats;
