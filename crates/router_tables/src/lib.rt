@@ -5,6 +5,8 @@
 //! what its present session counts, the router's name and description, the peers, their statistics, one table
 //! for each peer and RIB, and the last steps of the whole list. Equal tables are had for the price of counters.
 //!
+//! Proved: new tables stand for no entries, and equal tables have the same parts. The present session and the last
+//! steps follow each entry, and a peer that comes up or goes down has no row (`session.rt`, `steps.rt`, `rows.rt`).
 //! Begin with `specs/Tables.antt` and `specs/Session.antt`, then `src/tables.rt`.
 #![tactic(auto)]
 
