@@ -1,4 +1,5 @@
--- What the effects of a session told, without its routes: its router's name and description, its peers and their statistics.
+-- What the effects of a session told, without its routes: its router's name and description, its peers and their
+-- statistics.
 use Rattle.std.specs.Prelude.{◌≡◌, ℕ, List}
 use Rattle.bmp_specs.specs.Session.{name_of, description_of}
 use Rattle.bmp_specs.specs.Values.{EffectValue}

@@ -40,8 +40,8 @@ pub record TablesValue : Type 0 where
   pub tables : Tables
   pub steps : RecentValue StepValue
 
--- They are the present session of these entries, with exactly the rows that it leaves; and they have the last steps of all
--- the entries.
+-- They are the present session of these entries, with exactly the rows that it leaves; and they have the last steps
+-- of all the entries.
 pub record StandsFor (tables : TablesValue) (entries : List EntryValue) : Type 0 where
   pub session : StandsForSession tables.session entries
   pub rows : AreRowsOf tables.tables (session_effects entries)
