@@ -1,0 +1,77 @@
+-- What one more entry makes of the present session.
+use Rattle.std.proofs.Common.{◌≡◌, ℕ, true, false, List, [], ◌∷◌, ◌++◌, Result, Ok, Err, OnOk, refl, sym, ap, ◌∙◌, subst}
+use Rattle.bmp_specs.specs.declared.causes.Cause.{Cause}
+use Rattle.bmp_specs.specs.Counts.{counts_of}
+use Rattle.bmp_specs.specs.Session.{LaneStateValue, idle, live, shut, state_of, session_effects}
+use Rattle.bmp_specs.specs.Sums.{no_counts}
+use Rattle.bmp_specs.specs.Values.{EffectValue, EntryValue, opened, message, closed}
+use Rattle.bmp_specs.proofs.LaneLaws.{counts_after_opening, counts_after_closing, counts_stay}
+use Rattle.bmp_specs.proofs.SessionLaws.{state_after_opening, state_after_closing, state_stays_idle, state_after_message, effects_after_opening, effects_after_closing, effects_after_message, effects_stay}
+use Rattle.router_tables.specs.Books.{StandsForBooks}
+use Rattle.router_tables.specs.Session.{SessionValue, StandsForSession}
+use Rattle.router_tables.specs.State.{is_live, after_closing}
+
+pub live_there : (s : LaneStateValue) → is_live s ≡ true → s ≡ live
+live_there idle is = absurd cc
+live_there live is = refl
+live_there (shut cause) is = absurd cc
+
+pub live_not_there : (s : LaneStateValue) → is_live s ≡ false → s ≡ live → ⊥
+live_not_there s is same = let e : true ≡ false = sym (ap is_live same) ∙ is in cc
+
+closes : (entries : List EntryValue) (cause : Cause) → after_closing (state_of entries) cause ≡ state_of (entries ++ closed cause ∷ [])
+closes entries cause = go (state_of entries) refl
+  where
+    go : (s : LaneStateValue) → state_of entries ≡ s → after_closing s cause ≡ state_of (entries ++ closed cause ∷ [])
+    go idle is = sym (state_stays_idle entries cause is)
+    go live is = sym (state_after_closing entries cause (λ e. let d : live ≡ idle = sym is ∙ e in cc))
+    go (shut was) is = sym (state_after_closing entries cause (λ e. let d : shut was ≡ idle = sym is ∙ e in cc))
+
+-- an opening begins a session
+pub stands_opened : (session : SessionValue) → session.state ≡ live → session.counts ≡ no_counts → StandsForBooks session.books []
+    → (entries : List EntryValue) → StandsForSession session (entries ++ opened ∷ [])
+stands_opened session state counts books entries = record {
+  state = state ∙ sym (state_after_opening entries);
+  counts = counts ∙ sym (counts_after_opening entries);
+  books = subst (StandsForBooks session.books) (sym (effects_after_opening entries)) books;
+}
+
+-- a closing ends it
+pub stands_closed : (old session : SessionValue) (cause : Cause) → session.state ≡ after_closing old.state cause → session.counts ≡ no_counts → StandsForBooks session.books []
+    → (entries : List EntryValue) → StandsForSession old entries → StandsForSession session (entries ++ closed cause ∷ [])
+stands_closed old session cause state counts books entries h = record {
+  state = state ∙ ap (λ (s : LaneStateValue). after_closing s cause) h.state ∙ closes entries cause;
+  counts = counts ∙ sym (counts_after_closing entries cause);
+  books = subst (StandsForBooks session.books) (sym (effects_after_closing entries cause)) books;
+}
+
+-- a message joins it
+pub stands_message : (old new : SessionValue) (kind len : ℕ) (effects : List EffectValue) → is_live old.state ≡ true → new.state ≡ old.state
+    → ((entries : List EntryValue) (kind : ℕ) → state_of entries ≡ live → old.counts ≡ counts_of entries → new.counts ≡ counts_of (entries ++ message kind len effects ∷ []))
+    → ((earlier : List EffectValue) → StandsForBooks old.books earlier → StandsForBooks new.books (earlier ++ effects))
+    → (entries : List EntryValue) → StandsForSession old entries → StandsForSession new (entries ++ message kind len effects ∷ [])
+stands_message old new kind len effects is same counts books entries h =
+    let there : state_of entries ≡ live = sym h.state ∙ live_there old.state is in
+    record {
+      state = same ∙ h.state ∙ sym (state_after_message entries kind len effects);
+      counts = counts entries kind there h.counts;
+      books = subst (StandsForBooks new.books) (sym (effects_after_message entries kind len effects there)) (books (session_effects entries) h.books);
+    }
+
+-- without a session a message goes nowhere
+pub stands_unheard : (session : SessionValue) (kind len : ℕ) (effects : List EffectValue) → is_live session.state ≡ false
+    → (entries : List EntryValue) → StandsForSession session entries → StandsForSession session (entries ++ message kind len effects ∷ [])
+stands_unheard session kind len effects is entries h =
+    let not_there : (state_of entries ≡ live → ⊥) = (λ e. live_not_there session.state is (h.state ∙ e)) in
+    record {
+      state = h.state ∙ sym (state_after_message entries kind len effects);
+      counts = h.counts ∙ sym (counts_stay entries kind len effects not_there);
+      books = subst (StandsForBooks session.books) (sym (effects_stay entries kind len effects not_there)) h.books;
+    }
+
+pub seen : (inside now : SessionValue) → inside ≡ now → (entries : List EntryValue) → StandsForSession now entries → StandsForSession inside entries
+seen inside now is entries h = subst (λ (s : SessionValue). StandsForSession s entries) (sym is) h
+
+pub from_three : {A E P Q R S : Type 0} (r : Result A E) → OnOk r P → OnOk r Q → OnOk r R → (P → Q → R → S) → OnOk r S
+from_three (Ok x) p q r f = f p q r
+from_three (Err e) p q r f = tt

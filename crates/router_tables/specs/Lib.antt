@@ -1,0 +1,5 @@
+pub mod State
+pub mod Books
+pub mod Session
+pub mod Views
+pub mod Tables

@@ -1,0 +1,112 @@
+ghost use Rattle.std.specs.Prelude.{◌≡◌, [], ◌∷◌, ◌++◌, List, IfOk, OnOk};
+ghost use Rattle.bmp_specs.specs.Sums.{no_counts};
+ghost use Rattle.bmp_specs.specs.Values.{EntryValue};
+ghost use Rattle.rib_model.specs.Entries.{entry_value};
+ghost use Rattle.router_tables.specs.Books.{StandsForBooks};
+ghost use Rattle.router_tables.specs.Session.{StandsForSession};
+ghost use Rattle.router_tables.specs.State.{state_value};
+
+use crate::books::{Books, take_effects};
+use crate::counting::count_message;
+use crate::state::LaneState;
+use rib_model::Entry;
+use stats_book::Counts;
+use std::alloc::Global;
+use std::marker::Model;
+use wire_io::NoMemory;
+
+// The present session of a lane, without its routes.
+#[derive(Drop)]
+pub(crate) struct Session {
+    state: LaneState,
+    counts: Counts,
+    books: Books,
+}
+
+impl Model for Session {
+    ghost use Rattle.router_tables.specs.Session.{SessionValue};
+    ghost use Rattle.router_tables.specs.State.{state_value};
+
+    ghost Value = { SessionValue };
+
+    ghost view = { λ s. record { state = state_value s.state; counts = s.counts; books = s.books } };
+}
+
+impl Session {
+    // The session of no entries.
+    pub(crate) fn new(alloc: Global) -> Result<Session, NoMemory>
+        ensures { IfOk result (λ session. StandsForSession session []) }
+    {
+        Ok(Session {
+            state: LaneState::Idle,
+            counts: Counts::none(),
+            books: Books::new(alloc)?,
+        })
+    }
+
+    // An equal session.
+    pub(crate) fn share(&self) -> Result<Session, NoMemory>
+        ensures { IfOk result (λ copy. copy ≡ self.now) }
+    {
+        Ok(Session {
+            state: self.state,
+            counts: self.counts,
+            books: self.books.share()?,
+        })
+    }
+
+    pub(crate) fn state(&self) -> LaneState
+        ensures { state_value result ≡ self.now.state }
+    {
+        self.state
+    }
+
+    pub(crate) fn counts(&self) -> Counts
+        ensures { result ≡ self.now.counts }
+    {
+        self.counts
+    }
+
+    pub(crate) fn books(&self) -> &Books
+        ensures { result.now ≡ self.now.books }
+    {
+        &self.books
+    }
+
+    // Takes one entry. After want of memory the session may only be dropped.
+    pub(crate) fn take(&mut self, alloc: Global, entry: &Entry) -> Result<(), NoMemory>
+        ensures { OnOk result ((entries : List EntryValue) → StandsForSession self.old entries → StandsForSession self.new (entries ++ entry_value entry.now ∷ [])) }
+    {
+        match entry {
+            Entry::Opened => self.start_over(alloc, LaneState::Live),
+            Entry::Message {
+                length,
+                effects,
+                ..
+            } => {
+                if !self.state.is_live() {
+                    return Ok(());
+                }
+                let effects = effects.as_slice();
+                count_message(&mut self.counts, *length, effects);
+                take_effects(&mut self.books, effects)
+            }
+            Entry::Closed(cause) => {
+                let state = self.state.after_closing(*cause);
+                self.start_over(alloc, state)
+            }
+        }
+    }
+
+    // Nothing is told and counted, and the lane is in this state.
+    fn start_over(&mut self, alloc: Global, state: LaneState) -> Result<(), NoMemory>
+        ensures state { OnOk result (self.new.state ≡ state_value state) }
+        ensures counts { OnOk result (self.new.counts ≡ no_counts) }
+        ensures books { OnOk result (StandsForBooks self.new.books []) }
+    {
+        self.books = Books::new(alloc)?;
+        self.counts = Counts::none();
+        self.state = state;
+        Ok(())
+    }
+}

@@ -1,0 +1,124 @@
+ghost use Rattle.std.specs.Prelude.{◌≡◌, [], None, IfOk, IsNone};
+ghost use Rattle.std.specs.Option.{option_copied};
+ghost use Rattle.bmp_specs.specs.Values.{NlriValue};
+ghost use Rattle.router_tables.specs.State.{state_value};
+ghost use Rattle.router_tables.specs.Tables.{StandsFor, table_at, route_at, steps_told};
+
+use crate::session::Session;
+use crate::state::LaneState;
+use crate::views::Views;
+use bmp_frames::PeerKey;
+use bmp_specs::View;
+use peer_book::PeerBook;
+use recent_ring::Recent;
+use rib_model::Step;
+use route_runs::RouteTable;
+use stats_book::{Counts, StatsBook};
+use std::alloc::Global;
+use std::collections::BTreeMap;
+use std::marker::Model;
+use wire_io::NoMemory;
+
+/// The tables of one router, which stand for the entries of its lane (`StandsFor`).
+#[derive(Drop)]
+pub struct RouterTables {
+    alloc: Global,
+    session: Session,
+    tables: BTreeMap<PeerKey, Views>,
+    steps: Recent<Step>,
+}
+
+impl Model for RouterTables {
+    ghost use Rattle.router_tables.specs.Tables.{TablesValue, steps_told};
+
+    ghost Value = { TablesValue };
+
+    ghost view = { λ t. record { session = t.session; tables = t.tables.entries; steps = steps_told t.steps } };
+}
+
+impl RouterTables {
+    /// The tables of no entries. They take the memory for the steps that they will keep.
+    pub fn new(alloc: Global) -> Result<RouterTables, NoMemory>
+        ensures { IfOk result (λ tables. StandsFor tables []) }
+    {
+        Ok(RouterTables {
+            alloc,
+            session: Session::new(alloc)?,
+            tables: BTreeMap::new(alloc),
+            steps: Recent::new(alloc)?,
+        })
+    }
+
+    /// Equal tables, for the price of a counter for each table, and of the last steps as `Recent::copy` says.
+    pub fn share(&self) -> Result<RouterTables, NoMemory>
+        ensures { IfOk result (λ copy. copy ≡ self.now) }
+    {
+        Ok(RouterTables {
+            alloc: self.alloc,
+            session: self.session.share()?,
+            tables: self.tables.clone()?,
+            steps: self.steps.copy()?,
+        })
+    }
+
+    /// The state of the lane.
+    pub fn state(&self) -> LaneState
+        ensures { state_value result ≡ self.now.session.state }
+    {
+        self.session.state()
+    }
+
+    /// What the present session counts, nothing where there is none.
+    pub fn counts(&self) -> Counts
+        ensures { result ≡ self.now.session.counts }
+    {
+        self.session.counts()
+    }
+
+    /// The last sysName of the present session (RFC 7854, section 4.4), empty where there is none.
+    pub fn name(&self) -> &[u8]
+        ensures { result.now ≡ self.now.session.books.name }
+    {
+        self.session.books().name()
+    }
+
+    /// The last sysDescr of the present session (RFC 7854, section 4.4), empty where there is none.
+    pub fn descr(&self) -> &[u8]
+        ensures { result.now ≡ self.now.session.books.description }
+    {
+        self.session.books().description()
+    }
+
+    /// The peers of the present session (RFC 7854, sections 4.9 and 4.10).
+    pub fn peers(&self) -> &PeerBook
+        ensures { result.now ≡ self.now.session.books.peers }
+    {
+        self.session.books().peers()
+    }
+
+    /// The statistics of the present session's peers (RFC 7854, section 4.8).
+    pub fn stats(&self) -> &StatsBook
+        ensures { result.now ≡ self.now.session.books.stats }
+    {
+        self.session.books().stats()
+    }
+
+    /// The routes of a peer in a view. `None` only where that table has no row.
+    pub fn table(&self, key: &PeerKey, view: View) -> Option<&RouteTable>
+        ensures table { option_copied result ≡ table_at self.now.tables key.now view }
+        ensures none { IsNone result → (nlri : NlriValue)
+            → route_at self.now.tables (record { key = key.now; view = view; nlri = nlri }) ≡ None }
+    {
+        match self.tables.get(key) {
+            Some(views) => views.of_view(view),
+            None => None,
+        }
+    }
+
+    /// The last steps of all entries, oldest first, those of earlier sessions too.
+    pub fn recent(&self) -> &Recent<Step>
+        ensures { steps_told result.now ≡ self.now.steps }
+    {
+        &self.steps
+    }
+}

@@ -1,0 +1,86 @@
+ghost use Rattle.std.specs.Prelude.{◌≡◌, IfOk};
+ghost use Rattle.std.specs.Arc.{arc_value};
+ghost use Rattle.std.specs.Option.{option_copied, option_map};
+ghost use Rattle.router_tables.specs.Views.{view_table};
+
+use bmp_specs::View;
+use route_runs::RouteTable;
+use std::alloc::AllocError;
+use std::marker::Model;
+use std::sync::Arc;
+
+// The tables of one peer: one for each RIB in which its routes are seen (RFC 7854, section 4.2; RFC 8671,
+// section 4; RFC 9069, section 4.1), none where it has no row.
+#[derive(Drop)]
+pub(crate) struct Views {
+    in_pre: Option<Arc<RouteTable>>,
+    in_post: Option<Arc<RouteTable>>,
+    out_pre: Option<Arc<RouteTable>>,
+    out_post: Option<Arc<RouteTable>>,
+    loc: Option<Arc<RouteTable>>,
+}
+
+impl Model for Views {
+    ghost use Rattle.std.specs.Arc.{arc_value};
+    ghost use Rattle.std.specs.Option.{option_map};
+    ghost use Rattle.router_tables.specs.Views.{ViewsValue};
+
+    ghost Value = { ViewsValue };
+
+    ghost view = { λ v. record {
+      in_pre = option_map arc_value v.in_pre;
+      in_post = option_map arc_value v.in_post;
+      out_pre = option_map arc_value v.out_pre;
+      out_post = option_map arc_value v.out_post;
+      loc = option_map arc_value v.loc;
+    } };
+}
+
+impl Views {
+    // The table of a view.
+    pub(crate) fn of_view(&self, view: View) -> Option<&RouteTable>
+        ensures { option_copied result ≡ view_table view self.now }
+    {
+        match view {
+            View::InPre => lent(&self.in_pre),
+            View::InPost => lent(&self.in_post),
+            View::OutPre => lent(&self.out_pre),
+            View::OutPost => lent(&self.out_post),
+            View::Loc => lent(&self.loc),
+        }
+    }
+}
+
+// Lends what is shared.
+fn lent(table: &Option<Arc<RouteTable>>) -> Option<&RouteTable>
+    ensures { option_copied result ≡ option_map arc_value table.now }
+{
+    match table {
+        Some(table) => Some(&**table),
+        None => None,
+    }
+}
+
+// Shares what is there.
+fn shared(table: &Option<Arc<RouteTable>>) -> Result<Option<Arc<RouteTable>>, AllocError>
+    ensures { IfOk result (λ copy. option_map arc_value copy ≡ option_map arc_value table.now) }
+{
+    match table {
+        Some(table) => Ok(Some(Arc::try_clone(table)?)),
+        None => Ok(None),
+    }
+}
+
+impl Clone for Views {
+    ghost is_clone = { λ x y. y ≡ x };
+
+    fn clone(&self) -> Result<Views, AllocError> {
+        Ok(Views {
+            in_pre: shared(&self.in_pre)?,
+            in_post: shared(&self.in_post)?,
+            out_pre: shared(&self.out_pre)?,
+            out_post: shared(&self.out_post)?,
+            loc: shared(&self.loc)?,
+        })
+    }
+}
