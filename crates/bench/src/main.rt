@@ -5,6 +5,7 @@
 
 mod frames;
 mod publisher;
+mod routes;
 mod tables;
 
 use publisher::Call;
@@ -25,11 +26,14 @@ fn main(rt: HostRuntime) -> io::Result<()> {
         Some("shuffled") => tables::trie(&rt, Order::Shuffled, number, times),
         Some("map") => tables::map(&rt, Order::Prefix, number),
         Some("map_shuffled") => tables::map(&rt, Order::Shuffled, number),
+        Some("runs") => routes::runs(&rt, Order::Prefix, number),
+        Some("runs_shuffled") => routes::runs(&rt, Order::Shuffled, number),
         _ => {
             println!(rt; "usage: bench frames [PIECE] | publish [N] | snapshot [N]")?;
             println!(rt;
                 "       bench trie [N [TIMES]] | shuffled [N [TIMES]] | map [N] | map_shuffled [N]"
-            )
+            )?;
+            println!(rt; "       bench runs [N] | runs_shuffled [N]")
         }
     }
 }

@@ -25,15 +25,15 @@ pub enum Order {
 
 /// What a table answered, as counts that depend on all of it.
 #[derive(Drop)]
-struct Answers {
-    listed: u64,
+pub struct Answers {
+    pub listed: u64,
     found: u64,
     sum: u64,
     bits: u64,
 }
 
 impl Answers {
-    fn new() -> Answers {
+    pub fn new() -> Answers {
         Answers {
             listed: 0,
             found: 0,
@@ -42,23 +42,23 @@ impl Answers {
         }
     }
 
-    fn add(&mut self, value: Option<u32>) {
+    pub fn add(&mut self, value: Option<u32>) {
         if let Some(value) = value {
             self.found = self.found.saturating_add(1);
             self.sum = self.sum.saturating_add(value as u64);
         }
     }
 
-    fn print(&self, rt: &impl Print) -> io::Result<()> {
+    pub fn print(&self, rt: &impl Print) -> io::Result<()> {
         println!(rt; "listed {}", self.listed)?;
         println!(rt; "found {}", self.found)?;
         println!(rt; "sum {}", self.sum)
     }
 }
 
-// One of the four prefixes of a block of 1,024 addresses, by its place in prefix order: the block, its
-// first half, the first quarter, and the third.
-fn prefix(number: u32) -> Prefix
+/// One of the four prefixes of a block of 1,024 addresses, by its place in prefix order: the block, its
+/// first half, the first quarter, and the third.
+pub fn prefix(number: u32) -> Prefix
     ensures { result.address.family ≡ V4 }
 {
     let block = (number % MOST / 4) << 10;
@@ -79,8 +79,8 @@ fn address(number: u32) -> Addr
     Addr::v4((block + number % 4 * 256 + 1).to_be_bytes())
 }
 
-// The numbers of so many prefixes.
-fn numbers(alloc: Global, count: u32, order: Order) -> io::Result<Vec<u32>> {
+/// The numbers of so many prefixes.
+pub fn numbers(alloc: Global, count: u32, order: Order) -> io::Result<Vec<u32>> {
     let mut numbers = Vec::with_capacity(alloc, count as usize)?;
     for number in 0..count {
         numbers.push(number)?;
@@ -112,8 +112,8 @@ pub fn trie(
     println!(rt; "bits {}", answers.bits)
 }
 
-// The number of prefixes that was asked for, or the usual one.
-fn counted(count: Option<usize>) -> u32 {
+/// The number of prefixes that was asked for, or the usual one.
+pub fn counted(count: Option<usize>) -> u32 {
     count.map_or(USUAL, |count| count.min(MOST as usize) as u32)
 }
 
