@@ -13,3 +13,4 @@ pub mod Nearer
 pub mod Origins
 pub mod Indexing
 pub mod WithOrigin
+pub mod Counting

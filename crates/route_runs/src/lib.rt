@@ -18,6 +18,7 @@
 
 mod back;
 mod changes;
+mod count;
 mod cursor;
 mod find;
 mod index;

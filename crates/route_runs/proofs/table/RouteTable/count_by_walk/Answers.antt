@@ -1,6 +1,6 @@
 use Rattle.std.proofs.Common.{◌≡◌, ◌∙◌, ◌+◌, [], length, min, ap, sym, arith}
 use Rattle.route_runs.proofs.Left.{none_by_test}
-use Rattle.route_runs.proofs.table.RouteTable.count.Goals as goal
+use Rattle.route_runs.proofs.table.RouteTable.count_by_walk.Goals as goal
 
 pub returns : goal.returns
 returns c =

@@ -1,5 +1,5 @@
 use Rattle.std.proofs.Common.{◌≡◌, ◌+◌, ◌≤◌, length, min}
-use Rattle.route_runs.proofs.table.RouteTable.count.Given as goal
+use Rattle.route_runs.proofs.table.RouteTable.count_by_walk.Given as goal
 
 abbrev pub invariant-loop-walk : goal.invariant-loop-walk
 invariant-loop-walk l = record {

@@ -1,0 +1,56 @@
+-- How many pairs one run has.
+use Rattle.std.proofs.Common.{◌≡◌, ℕ, suc, ◌+◌, ◌<◌, Bool, true, false, cond, not, nat_eq, List, [], ◌∷◌, length, take, get_or, Option, None, Some, refl, ap, sym, ◌∙◌, subst, arith, length-append}
+use Rattle.std.specs.declared.cmp.Ordering.{Ordering}
+use Rattle.std.specs.Ordering.{match_ordering}
+use Rattle.std.specs.BTreeMap.{insert_entry}
+use Rattle.std.specs.List.{AllByRecursion, filter}
+use Rattle.std.proofs.lemmas.Bool.Decides.{nat_tests}
+use Rattle.std.proofs.lemmas.List.{take_more}
+use Rattle.std.proofs.lemmas.List.Elements.{filter-append}
+use Rattle.route_runs.specs.Rows.{gone, is_live, set_at, rows, IsHandle}
+use Rattle.route_runs.specs.Runs.{in_order, add_live, live, contents}
+use Rattle.route_runs.proofs.Handles.{set_gone}
+use Rattle.route_runs.proofs.Merging.{Rising, rising_head, rising_tail}
+use Rattle.route_runs.proofs.Overriding.{set_there}
+
+module _ {K X : Type 0} (cmp : K → K → Ordering) where
+  put_first : (e : K × X) (es : List (K × X)) → Rising cmp (e ∷ es) → insert_entry cmp es e.0 e.1 ≡ e ∷ es
+  put_first e [] s = refl
+  put_first e (f ∷ fs) s = ap (λ o. match_ordering o (e ∷ f ∷ fs) ((f.0, e.1) ∷ fs) (f ∷ insert_entry cmp fs e.0 e.1)) (rising_head cmp e (f ∷ fs) s).0
+
+  pub in_order_rising : (es : List (K × X)) → Rising cmp es → in_order cmp es ≡ es
+  in_order_rising [] s = refl
+  in_order_rising (e ∷ es) s = ap (λ l. insert_entry cmp l e.0 e.1) (in_order_rising es (rising_tail cmp e es s)) ∙ put_first e es s
+
+pub one_run : {K A : Type 0} (cmp : K → K → Ordering) (run : List (K × Option A)) → Rising cmp run → contents cmp (run ∷ []) ≡ live run
+one_run cmp run s = ap live (in_order_rising cmp run s)
+
+-- a table of one run
+pub only_run : {K A : Type 0} (cmp : K → K → Ordering) (runs : List (List (K × Option A))) (run : List (K × Option A)) → length runs ≡ 1 → run ≡ get_or runs 0 run → Rising cmp run → contents cmp runs ≡ live run
+only_run cmp [] run e is s = absurd (omega (arith, e))
+only_run cmp (first ∷ []) run e is s = one_run cmp first (subst (Rising cmp) is s) ∙ ap live (sym is)
+only_run cmp (first ∷ next ∷ runs) run e is s = absurd (omega (arith, e))
+
+live_cases : {K A : Type 0} (k : K) (o : Option A) (es : List (K × A)) (v n : ℕ) (vs : List ℕ) (b : Bool) → (b ≡ true → o ≡ None) → (b ≡ false → (x : A) × (o ≡ Some x)) → length es ≡ length vs → length (add_live k o es) ≡ length (cond (not b) (v ∷ vs) vs)
+live_cases k o es v n vs true none some e = ap (λ o. length (add_live k o es)) (none refl) ∙ e
+live_cases k o es v n vs false none some e = let s = some refl in ap (λ o. length (add_live k o es)) s.1 ∙ ap suc e
+
+pub live_count : {K A : Type 0} (packs : List (List A)) (ks : List K) (vs : List ℕ) → length vs ≡ length ks → AllByRecursion (IsHandle packs) vs → length (live (rows packs ks vs)) ≡ length (filter is_live vs)
+live_count packs [] [] e a = refl
+live_count packs [] (v ∷ vs) e a = absurd (omega (arith, e))
+live_count packs (k ∷ ks) [] e a = absurd (omega (arith, e))
+live_count packs (k ∷ ks) (v ∷ vs) e a =
+    live_cases k (set_at packs v) (live (rows packs ks vs)) v 0 (filter is_live vs) (nat_eq v gone) (λ t. set_gone packs v (is_gone v t)) (set_there packs v a.0) (live_count packs ks vs (omega (arith, e)) a.1)
+  where
+    is_gone : (v : ℕ) → nat_eq v gone ≡ true → v ≡ gone
+    is_gone v t = grind (arith, nat_tests, t)
+
+one_more : (hs : List ℕ) (n : ℕ) → n < length hs → length (filter is_live (take (n + 1) hs)) ≡ length (filter is_live (take n hs)) + length (filter is_live (get_or hs n 0 ∷ []))
+one_more hs n lt = ap (λ l. length (filter is_live l)) (take_more hs n 0 lt) ∙ ap length (filter-append is_live (take n hs) (get_or hs n 0 ∷ [])) ∙ length-append (filter is_live (take n hs)) (filter is_live (get_or hs n 0 ∷ []))
+
+pub counts_live : (hs : List ℕ) (n c : ℕ) → n < length hs → c ≡ length (filter is_live (take n hs)) → nat_eq (get_or hs n 0) gone ≡ false → c + 1 ≡ length (filter is_live (take (n + 1) hs))
+counts_live hs n c lt is there = ap (λ m. m + 1) is ∙ ap (λ b. length (filter is_live (take n hs)) + length (cond (not b) (get_or hs n 0 ∷ []) [])) (sym there) ∙ sym (one_more hs n lt)
+
+pub counts_gone : (hs : List ℕ) (n c : ℕ) → n < length hs → c ≡ length (filter is_live (take n hs)) → nat_eq (get_or hs n 0) gone ≡ true → c ≡ length (filter is_live (take (n + 1) hs))
+counts_gone hs n c lt is away =
+    is ∙ (let z : length (filter is_live (take n hs)) ≡ length (filter is_live (take n hs)) + 0 = omega arith in z) ∙ ap (λ b. length (filter is_live (take n hs)) + length (cond (not b) (get_or hs n 0 ∷ []) [])) (sym away) ∙ sym (one_more hs n lt)
