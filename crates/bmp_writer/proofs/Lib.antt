@@ -1,0 +1,4 @@
+pub mod Frames
+pub mod Headers
+pub mod Peers
+pub mod Tlvs

@@ -1,0 +1,2 @@
+pub mod PeerMessage
+pub mod Written

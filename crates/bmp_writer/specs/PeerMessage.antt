@@ -1,0 +1,36 @@
+-- A message with a Per-Peer Header, as it is written (RFC 7854, section 4.2).
+use Rattle.std.specs.Prelude.{◌≡◌, ℕ, List, ◌++◌, length, Some, bit_or}
+use Rattle.bmp_specs.specs.declared.peers.View.{View}
+use Rattle.bmp_specs.specs.declared.peers.View.TheVariants.{InPre, InPost, OutPre, OutPost, Loc}
+use Rattle.bmp_specs.specs.declared.wire.Family.{Family}
+use Rattle.bmp_specs.specs.declared.wire.Family.TheVariants.{V4, V6}
+use Rattle.bmp_specs.specs.Frame.{IsFrame}
+use Rattle.bmp_specs.specs.PeerHeader.{HeaderValue, IsHeader, header_size, key_of, view_of, v_flag, l_flag, o_flag}
+use Rattle.bmp_specs.specs.Values.{KeyValue}
+
+-- the flag of a family
+abbrev pub family_flag : Family → ℕ
+family_flag V4 = 0
+family_flag V6 = v_flag
+
+-- the flags of a view
+abbrev pub view_flags : View → ℕ
+view_flags InPre = 0
+view_flags InPost = l_flag
+view_flags OutPre = o_flag
+view_flags OutPost = bit_or l_flag o_flag
+view_flags Loc = 0
+
+-- a header that names the peer and the view
+pub record IsHeaderOf (key : KeyValue) (view : View) (bytes : List ℕ) : Type 0 where
+  pub header : HeaderValue
+  pub is : IsHeader bytes header
+  pub len : length bytes ≡ header_size
+  pub key_is : key_of header ≡ Some key
+  pub view_is : view_of header ≡ view
+
+-- a whole message of this type with such a header, and with these bytes behind it
+pub record IsPeerMessage (kind : ℕ) (key : KeyValue) (view : View) (rest bytes : List ℕ) : Type 0 where
+  pub head : List ℕ
+  pub is : IsFrame bytes kind (head ++ rest)
+  pub head_is : IsHeaderOf key view head

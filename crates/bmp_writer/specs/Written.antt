@@ -1,0 +1,43 @@
+-- What bytes that were written are: one whole message, and what it does to the tables of whoever reads it.
+use Rattle.std.specs.Prelude.{◌≡◌, ℕ, List, ◌++◌, length, Some, None, ⊤}
+use Rattle.bmp_specs.specs.Frame.{IsFrame}
+use Rattle.bmp_specs.specs.MessageBody.{ReadingState, with_peer}
+use Rattle.bmp_specs.specs.MessageEffects.{IsMessageEntry}
+use Rattle.bmp_specs.specs.Values.{EffectValue, KeyValue, OpensValue, message}
+
+-- "Message Type" (RFC 7854, section 4.1)
+abbrev pub route_monitoring_type : ℕ
+route_monitoring_type = 0
+
+abbrev pub peer_down_type : ℕ
+peer_down_type = 2
+
+abbrev pub initiation_type : ℕ
+initiation_type = 4
+
+-- a piece of this form was put behind the bytes
+abbrev pub Appends : (List ℕ → Type 0) → List ℕ → List ℕ → Type 0
+Appends Is old new = (piece : List ℕ) × (new ≡ old ++ piece) × Is piece
+
+-- One message of this type. Whoever reads it in a state of this kind reads these effects, in this order and no others, and
+-- is then in that state.
+pub record IsWritten (kind : ℕ) (Reads : ReadingState → Type 0) (effects : List EffectValue) (after : ReadingState → ReadingState) (bytes : List ℕ) : Type 0 where
+  pub body : List ℕ
+  pub is : IsFrame bytes kind body
+  pub means : (state : ReadingState) → Reads state → IsMessageEntry state kind body (message kind (length bytes) effects) (after state)
+
+-- any state
+abbrev pub Always : ReadingState → Type 0
+Always state = ⊤
+
+-- the peer is up, with whatever OPEN messages
+abbrev pub HasUp : KeyValue → ReadingState → Type 0
+HasUp key state = (opens : OpensValue) × (state key ≡ Some opens)
+
+-- the same peers are up
+abbrev pub unchanged : ReadingState → ReadingState
+unchanged state = state
+
+-- the peer is down
+abbrev pub without : KeyValue → ReadingState → ReadingState
+without key state = with_peer state key None

@@ -1,0 +1,44 @@
+ghost use Rattle.std.specs.Prelude.{◌≡◌, ℕ, List, ◌+◌, ◌≤◌, [], ◌∷◌, ◌++◌, length, take, OnOk, OnErr};
+ghost use Rattle.bmp_specs.specs.Tlv.{IsTlv};
+ghost use Rattle.bmp_specs.specs.Values.{named, described};
+ghost use Rattle.bmp_writer.specs.Written.{Always, Appends, IsWritten, initiation_type, unchanged};
+
+use crate::common::{common_header, put};
+use bmp_frames::{COMMON_HEADER, INITIATION};
+use wire_io::{ByteList, NoMemory};
+
+/// "Type = 1: sysDescr" and "Type = 2: sysName" (RFC 7854, section 4.4).
+const SYS_DESCR: u16 = 1;
+
+const SYS_NAME: u16 = 2;
+
+/// The bytes of the longest Initiation Message that is written.
+const LONGEST: usize = 131_084;
+
+// Puts a TLV at a place of the frame, and tells where it ends (RFC 7854, section 4.4).
+fn put_tlv(frame: &mut [u8], at: usize, kind: u16, value: &[u8]) -> usize
+    requires short { length value.now ≤ 65535 }
+    requires room { at + 4 + length value.now ≤ length frame.old }
+    ensures end { result ≡ at + 4 + length value.now }
+    ensures size { length frame.new ≡ length frame.old }
+    ensures front { (part : List ℕ) × (take result frame.new ≡ take at frame.old ++ part) × IsTlv part (record { kind = kind; value = value.now }) }
+{
+    let at = put(frame, at, &kind.to_be_bytes());
+    let at = put(frame, at, &(value.len() as u16).to_be_bytes());
+    put(frame, at, value)
+}
+
+/// Appends an Initiation Message with a sysDescr and a sysName (RFC 7854, section 4.3).
+pub fn put_initiation(out: &mut ByteList, name: &[u8], descr: &[u8]) -> Result<(), NoMemory>
+    requires name { length name.now ≤ 65535 }
+    requires descr { length descr.now ≤ 65535 }
+    ensures ok { OnOk result (Appends (IsWritten initiation_type Always (named name.now ∷ described descr.now ∷ []) unchanged) out.old out.new) }
+    ensures err { OnErr result (out.new ≡ out.old) }
+{
+    let mut frame = [0u8; LONGEST];
+    let length = COMMON_HEADER + 8 + descr.len() as u32 + name.len() as u32;
+    let at = put(&mut frame, 0, &common_header(INITIATION, length));
+    let at = put_tlv(&mut frame, at, SYS_DESCR, descr);
+    let at = put_tlv(&mut frame, at, SYS_NAME, name);
+    out.extend(&frame[..at])
+}
