@@ -11,7 +11,7 @@ use Rattle.std.proofs.lemmas.Map.Lookups.{CmpEqualImpliesEq}
 use Rattle.bmp_specs.proofs.SortedPairs.{sorted-insert, lookup-insert}
 use Rattle.route_runs.specs.Override.{value_at, or_else, settled, IsOverride}
 use Rattle.route_runs.specs.Runs.{joined, in_order, add_live, live, contents, changed, IsChanged, latest, seen, IsSettled}
-use Rattle.route_runs.specs.Layers.{last_changes, AreChangedTo, IsLayered, IsGathered}
+use Rattle.route_runs.specs.Layers.{AreChangedTo, IsLayered}
 use Rattle.route_runs.specs.Message.{IsAllSet}
 use Rattle.std.specs.List.Sorted.{IsStrictlySortedBy}
 use Rattle.std.specs.Map.{keys_of}
@@ -140,46 +140,7 @@ map_replaced f [] k y lt = absurd (omega (arith, lt))
 map_replaced f (x ∷ xs) zero y lt = refl
 map_replaced f (x ∷ xs) (suc k) y lt = ap (λ l. f x ∷ l) (map_replaced f xs k y (omega (arith, lt)))
 
--- ---- changes that are gathered
-settled_above : {A : Type 0} (o : Option (Option A)) → settled false o ≡ o
-settled_above None = refl
-settled_above (Some None) = refl
-settled_above (Some (Some x)) = refl
-
-or_none : {X : Type 0} (a : Option X) → or_else a None ≡ a
-or_none None = refl
-or_none (Some x) = refl
-
-module _ {K A : Type 0} (cmp : K → K → Ordering) where
-  -- one more run merged
-  pub gather_more : (runs : List (List (K × Option A))) (run own own' last : List (K × Option A)) (kept : ℕ) → IsGathered cmp runs run own kept → 0 < kept → last ≡ get_or runs (kept - 1) last
-      → IsOverride cmp false last own own' → IsGathered cmp runs run own' (kept - 1)
-  gather_more runs run own own' last kept s some at o =
-      let n : (kept - 1) + 1 ≡ kept = omega (arith, some) in
-      let front : take kept runs ≡ take (kept - 1) runs ++ last ∷ [] = ap (λ n. take n runs) (sym n) ∙ take_more runs (kept - 1) last (omega (arith, s.within, some)) ∙ ap (λ x. take (kept - 1) runs ++ x ∷ []) (sym at) in
-      record {
-        within = omega (arith, s.within);
-        same = λ q.
-            ap (λ v. or_else v (latest cmp q (take (kept - 1) runs))) (o.values q ∙ settled_above (or_else (value_at cmp q own) (value_at cmp q last)))
-            ∙ or_assoc (value_at cmp q own) (value_at cmp q last) (latest cmp q (take (kept - 1) runs))
-            ∙ ap (or_else (value_at cmp q own)) (sym (latest-more cmp q (take (kept - 1) runs) last) ∙ ap (latest cmp q) (sym front))
-            ∙ s.same q;
-      }
-
-  -- all runs merged to one
-  pub all_gathered : (runs : List (List (K × Option A))) (run own : List (K × Option A)) → IsGathered cmp runs run own 0 → (q : K) → value_at cmp q own ≡ latest cmp q (runs ++ run ∷ [])
-  all_gathered runs run own s q = sym (or_none (value_at cmp q own)) ∙ s.same q ∙ sym (latest-more cmp q runs run)
-
-module _ {K A : Type 0} (cmp : K → K → Ordering) (total : IsTotalOrder cmp) where
-  pub value-last_changes : (q : K) (runs : List (List (K × Option A))) → value_at cmp q (last_changes cmp runs) ≡ latest cmp q runs
-  value-last_changes q runs = value-in_order cmp total q (joined runs) ∙ value-joined cmp q runs
-
-  pub layered : (runs new : List (List (K × Option A))) (run own : List (K × Option A)) (kept : ℕ) → IsGathered cmp runs run own kept → new ≡ take kept runs ++ own ∷ [] → IsLayered cmp (last_changes cmp runs) run (last_changes cmp new)
-  layered runs new run own kept s e = record {
-    ordered = rising-in_order cmp total (joined new);
-    values = λ q. value-last_changes q new ∙ ap (latest cmp q) e ∙ latest-more cmp q (take kept runs) own ∙ s.same q ∙ ap (or_else (value_at cmp q run)) (sym (value-last_changes q runs));
-  }
-
+-- ---- changes of a table
 module _ {K A : Type 0} (cmp : K → K → Ordering) where
   pub changed_by : (old new : List (K × A)) (run changes : List (K × Option A)) → ((q : K) → value_at cmp q run ≡ value_at cmp q changes) → IsChanged cmp old run new → IsChanged cmp old changes new
   changed_by old new run changes same c = record { ordered = c.ordered; values = λ q. c.values q ∙ ap (λ o. changed o (value_at cmp q old)) (same q) }

@@ -1,12 +1,10 @@
 -- How many pairs one run has.
-use Rattle.std.proofs.Common.{◌≡◌, ℕ, suc, ◌+◌, ◌<◌, Bool, true, false, cond, not, nat_eq, List, [], ◌∷◌, length, take, get_or, Option, None, Some, refl, ap, sym, ◌∙◌, subst, arith, length-append}
+use Rattle.std.proofs.Common.{◌≡◌, ℕ, suc, Bool, true, false, cond, not, nat_eq, List, [], ◌∷◌, length, get_or, Option, None, Some, refl, ap, sym, ◌∙◌, subst, arith}
 use Rattle.std.specs.declared.cmp.Ordering.{Ordering}
 use Rattle.std.specs.Ordering.{match_ordering}
 use Rattle.std.specs.BTreeMap.{insert_entry}
 use Rattle.std.specs.List.{AllByRecursion, filter}
 use Rattle.std.proofs.lemmas.Bool.Decides.{nat_tests}
-use Rattle.std.proofs.lemmas.List.{take_more}
-use Rattle.std.proofs.lemmas.List.Elements.{filter-append}
 use Rattle.route_runs.specs.Rows.{gone, is_live, set_at, rows, IsHandle}
 use Rattle.route_runs.specs.Runs.{in_order, add_live, live, contents}
 use Rattle.route_runs.proofs.Handles.{set_gone}
@@ -44,13 +42,3 @@ live_count packs (k ∷ ks) (v ∷ vs) e a =
   where
     is_gone : (v : ℕ) → nat_eq v gone ≡ true → v ≡ gone
     is_gone v t = grind (arith, nat_tests, t)
-
-one_more : (hs : List ℕ) (n : ℕ) → n < length hs → length (filter is_live (take (n + 1) hs)) ≡ length (filter is_live (take n hs)) + length (filter is_live (get_or hs n 0 ∷ []))
-one_more hs n lt = ap (λ l. length (filter is_live l)) (take_more hs n 0 lt) ∙ ap length (filter-append is_live (take n hs) (get_or hs n 0 ∷ [])) ∙ length-append (filter is_live (take n hs)) (filter is_live (get_or hs n 0 ∷ []))
-
-pub counts_live : (hs : List ℕ) (n c : ℕ) → n < length hs → c ≡ length (filter is_live (take n hs)) → nat_eq (get_or hs n 0) gone ≡ false → c + 1 ≡ length (filter is_live (take (n + 1) hs))
-counts_live hs n c lt is there = ap (λ m. m + 1) is ∙ ap (λ b. length (filter is_live (take n hs)) + length (cond (not b) (get_or hs n 0 ∷ []) [])) (sym there) ∙ sym (one_more hs n lt)
-
-pub counts_gone : (hs : List ℕ) (n c : ℕ) → n < length hs → c ≡ length (filter is_live (take n hs)) → nat_eq (get_or hs n 0) gone ≡ true → c ≡ length (filter is_live (take (n + 1) hs))
-counts_gone hs n c lt is away =
-    is ∙ (let z : length (filter is_live (take n hs)) ≡ length (filter is_live (take n hs)) + 0 = omega arith in z) ∙ ap (λ b. length (filter is_live (take n hs)) + length (cond (not b) (get_or hs n 0 ∷ []) [])) (sym away) ∙ sym (one_more hs n lt)

@@ -14,3 +14,4 @@ pub mod Origins
 pub mod Indexing
 pub mod WithOrigin
 pub mod Counting
+pub mod Listing

@@ -1,12 +1,11 @@
-ghost use Rattle.std.specs.Prelude.{◌≡◌, [], None, Some, OnOk, OnErr};
+ghost use Rattle.std.specs.Prelude.{◌≡◌, [], None, Some, IfOk, OnOk, OnErr};
 ghost use Rattle.std.specs.Arc.{arc_value};
 ghost use Rattle.std.specs.Option.{option_map};
 ghost use Rattle.bmp_specs.specs.Orders.{nlri_cmp};
 ghost use Rattle.route_runs.specs.Layers.{AreChangedTo};
 ghost use Rattle.route_runs.specs.Nlri.{AreNlri};
 
-use crate::layers::Layers;
-use crate::run::Run;
+use crate::listed::Listed;
 use crate::see::see_all;
 use ip_prefix::Nlri;
 use path_attrs::Attrs;
@@ -16,12 +15,13 @@ use std::marker::Model;
 use std::sync::Arc;
 use wire_io::NoMemory;
 
-/// Changes of routes that are gathered before a table is made with them. Contracts see what each NLRI is
-/// changed to, a route or none, in the order of NLRI; of several changes of one NLRI the last one.
+/// Changes of routes that are gathered before a table is made with them. They are listed as they come, and sorted
+/// once, by `RouteTable::with`. Contracts see what each NLRI is changed to, a route or none, in the order of NLRI; of
+/// several changes of one NLRI the last one.
 #[derive(Drop)]
 pub struct Changes {
     alloc: Global,
-    pub(crate) layers: Layers<Nlri, Attrs>,
+    pub(crate) listed: Listed<Nlri, Attrs>,
 }
 
 impl Model for Changes {
@@ -31,9 +31,9 @@ impl Model for Changes {
 
     ghost Value = { List (NlriValue × Option AttrsValue) };
 
-    ghost view = { λ c. c.layers };
+    ghost view = { λ c. c.listed };
 
-    ghost invariant = { λ c. AreNlri c.layers };
+    ghost invariant = { λ c. AreNlri c.listed };
 }
 
 impl Changes {
@@ -43,7 +43,7 @@ impl Changes {
     {
         Changes {
             alloc,
-            layers: Layers::new(alloc),
+            listed: Listed::new(alloc),
         }
     }
 
@@ -56,7 +56,7 @@ impl Changes {
         match Arc::try_clone(route) {
             Ok(route) => self.change(nlri, Some(route)),
             Err(_) => {
-                self.layers = Layers::new(self.alloc);
+                self.listed = Listed::new(self.alloc);
                 Err(NoMemory)
             }
         }
@@ -76,28 +76,27 @@ impl Changes {
         ensures ok { OnOk result (AreChangedTo nlri_cmp nlri.now (option_map arc_value to) self.old self.new) }
         ensures err { OnErr result (self.new ≡ []) }
     {
-        match add_run(self.alloc, &mut self.layers, nlri, to) {
-            Ok(_) => Ok(()),
-            Err(_) => {
-                self.layers = Layers::new(self.alloc);
-                Err(NoMemory)
+        let taken = std::mem::replace(&mut self.listed, Listed::new(self.alloc));
+        match add_all(self.alloc, taken, nlri, to) {
+            Ok(listed) => {
+                self.listed = listed;
+                Ok(())
             }
+            Err(_) => Err(NoMemory),
         }
     }
 }
 
 // Adds changes of these NLRI.
-fn add_run(
+fn add_all(
     alloc: Global,
-    layers: &mut Layers<Nlri, Attrs>,
+    listed: Listed<Nlri, Attrs>,
     nlri: &[Nlri],
     to: Option<Route>,
-) -> Result<(), NoMemory>
-    ensures changed { OnOk result (AreChangedTo nlri_cmp nlri.now (option_map arc_value to) layers.old layers.new) }
-    ensures nlri { AreNlri layers.old → OnOk result (AreNlri layers.new) }
+) -> Result<Listed<Nlri, Attrs>, NoMemory>
+    ensures changed { IfOk result (AreChangedTo nlri_cmp nlri.now (option_map arc_value to) listed) }
+    ensures nlri { AreNlri listed → IfOk result (λ new. AreNlri new) }
 {
     see_all(nlri);
-    let keys = Vec::from_slice(alloc, nlri)?;
-    let rows = Run::many(alloc, keys, to)?;
-    layers.push(alloc, rows)
+    listed.add(alloc, nlri, to)
 }

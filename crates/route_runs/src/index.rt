@@ -7,7 +7,7 @@ ghost use Rattle.route_runs.specs.Runs.{IsChanged};
 
 use crate::find::set_of;
 use crate::key::RunKey;
-use crate::layers::Layers;
+use crate::listed::Listed;
 use crate::origin::origin_of;
 use crate::run::{Pack, Run};
 use crate::runs::Runs;
@@ -163,20 +163,19 @@ fn share_both<K: RunKey>(
     Ok((same_runs, same_index))
 }
 
-/// A table with changes made, and its index; they are taken out of the list.
+/// A table with changes made, and its index.
 pub(crate) fn with_changes<K: RunKey>(
     alloc: Global,
     runs: &Runs<K, Attrs>,
     index: &Runs<(u32, K), ()>,
-    changes: &mut Layers<K, Attrs>,
+    changes: Listed<K, Attrs>,
 ) -> Result<(Runs<K, Attrs>, Runs<(u32, K), ()>), NoMemory>
     requires { IsIndexed K.cmp attrs_origin runs.now index.now }
-    ensures changed { IfOk result (λ r. IsChanged K.cmp runs.now changes.old r.0) }
+    ensures changed { IfOk result (λ r. IsChanged K.cmp runs.now changes r.0) }
     ensures indexed { IfOk result (λ r. IsIndexed K.cmp attrs_origin r.0 r.1) }
-    ensures emptied { OnOk result (changes.new ≡ []) }
 {
     runs.see_order();
-    let rows = changes.take(alloc)?;
+    let rows = changes.into_run(alloc)?;
     match rows {
         Some(run) => with_run(alloc, runs, index, run),
         None => share_both(alloc, runs, index),

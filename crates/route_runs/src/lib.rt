@@ -24,7 +24,7 @@ mod find;
 mod index;
 mod join;
 mod key;
-mod layers;
+mod listed;
 mod longest;
 mod looks;
 mod many;

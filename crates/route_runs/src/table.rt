@@ -13,7 +13,7 @@ ghost use Rattle.route_runs.specs.Walk.{left, pairs_from};
 
 use crate::changes::Changes;
 use crate::index::with_changes;
-use crate::layers::Layers;
+use crate::listed::Listed;
 use crate::longest::longest_by_looks;
 use crate::looks::Looks;
 use crate::origin_walk::{OriginWalk, least};
@@ -67,17 +67,13 @@ impl RouteTable {
         ensures table { IfOk result (IsChanged nlri_cmp self.now changes.old) }
         ensures emptied { changes.new ≡ [] }
     {
-        match with_changes(self.alloc, &self.runs, &self.index, &mut changes.layers) {
-            Ok((runs, index)) => Ok(RouteTable {
-                alloc: self.alloc,
-                runs,
-                index,
-            }),
-            Err(_) => {
-                changes.layers = Layers::new(self.alloc);
-                Err(NoMemory)
-            }
-        }
+        let listed = std::mem::replace(&mut changes.listed, Listed::new(self.alloc));
+        let (runs, index) = with_changes(self.alloc, &self.runs, &self.index, listed)?;
+        Ok(RouteTable {
+            alloc: self.alloc,
+            runs,
+            index,
+        })
     }
 
     /// The route of this NLRI.

@@ -9,12 +9,12 @@ use Rattle.route_runs.proofs.index.with_changes.Goals as goal
 
 pub returns-in-Some-clause-changed : goal.returns-in-Some-clause-changed
 returns-in-Some-clause-changed g c =
-    let same = subst (SaysTheSame g.K.Ord.cmp c.args.changes.now) c.in-Some.is c.in_ok-rows.ensures.run in
-    IfOk-weaker c.with_run.result _ (λ r. IsChanged g.K.Ord.cmp c.args.runs.now c.args.changes.now r.0) (λ r h. changed_by g.K.Ord.cmp c.args.runs.now r.0 c.in-Some.run' c.args.changes.now same h) c.with_run.ensures.changed
+    let same = subst (SaysTheSame g.K.Ord.cmp c.args.changes) c.in-Some.is c.in_ok-rows.ensures in
+    IfOk-weaker c.with_run.result _ (λ r. IsChanged g.K.Ord.cmp c.args.runs.now c.args.changes r.0) (λ r h. changed_by g.K.Ord.cmp c.args.runs.now r.0 c.in-Some.run' c.args.changes same h) c.with_run.ensures.changed
 
 pub returns-in-None-clause-changed : goal.returns-in-None-clause-changed
-returns-in-None-clause-changed g c = IfOk-weaker c.share_both.result _ (λ r. IsChanged g.K.Ord.cmp c.args.runs.now c.args.changes.now r.0) (λ r e. subst (IsChanged g.K.Ord.cmp c.args.runs.now c.args.changes.now) (sym e)
-    (changed_by_none g.K.Ord.cmp c.args.runs.now c.args.changes.now c.see_order.ensures (subst (SaysTheSame g.K.Ord.cmp c.args.changes.now) c.in-None.is c.in_ok-rows.ensures.run))) c.share_both.ensures.runs
+returns-in-None-clause-changed g c = IfOk-weaker c.share_both.result _ (λ r. IsChanged g.K.Ord.cmp c.args.runs.now c.args.changes r.0) (λ r e. subst (IsChanged g.K.Ord.cmp c.args.runs.now c.args.changes) (sym e)
+    (changed_by_none g.K.Ord.cmp c.args.runs.now c.args.changes c.see_order.ensures (subst (SaysTheSame g.K.Ord.cmp c.args.changes) c.in-None.is c.in_ok-rows.ensures))) c.share_both.ensures.runs
 
 pub returns-in-None-clause-indexed : goal.returns-in-None-clause-indexed
 returns-in-None-clause-indexed g c = same_indexed g.K.Ord.cmp attrs_origin c.args.runs.now c.args.index.now c.share_both.result (λ r. r.0) (λ r. r.1) c.share_both.ensures.runs c.share_both.ensures.index c.requires

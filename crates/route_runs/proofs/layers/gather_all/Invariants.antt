@@ -1,8 +1,0 @@
-use Rattle.route_runs.specs.Layers.{IsGathered}
-use Rattle.route_runs.proofs.layers.gather_all.Given as goal
-
-abbrev pub invariant-loop-kept : goal.invariant-loop-kept
-invariant-loop-kept g l = IsGathered g.K.Ord.cmp l.runs l.initial.all l.all l.kept
-
-abbrev pub decreases-loop-kept : goal.decreases-loop-kept
-decreases-loop-kept g l = l.kept

@@ -1,0 +1,152 @@
+ghost use Rattle.std.specs.Prelude.{◌≡◌, ◌++◌, [], map, reverse, IfOk, OnOk};
+ghost use Rattle.std.specs.Arc.{arc_value};
+ghost use Rattle.std.specs.List.Sorted.{IsStrictlySortedBy};
+ghost use Rattle.std.specs.Map.{keys_of};
+ghost use Rattle.std.specs.Option.{option_map};
+ghost use Rattle.route_runs.specs.Layers.{all_to, handles_of, IsLayered, SaysTheSame};
+ghost use Rattle.route_runs.specs.Override.{value_at};
+
+use crate::key::RunKey;
+use crate::run::Run;
+use crate::tidy::{Gathered, added, turn};
+use std::alloc::Global;
+use std::marker::Model;
+use std::sync::Arc;
+use wire_io::NoMemory;
+
+/// Changes that are gathered before a table is made with them: keys as they came, each with a handle. Contracts
+/// see the last change of each key, in key order.
+#[derive(Drop)]
+pub(crate) struct Listed<K: RunKey, A> {
+    rows: Vec<(K, u32)>,
+    sets: Gathered<A>,
+}
+
+impl<K: RunKey, A> Model for Listed<K, A> {
+    ghost use Rattle.std.specs.Prelude.{ℕ, List, Option};
+    ghost use Rattle.std.specs.List.{AllByRecursion};
+    ghost use Rattle.route_runs.specs.Gathering.{gathered};
+    ghost use Rattle.route_runs.specs.Layers.{last_rows};
+    ghost use Rattle.route_runs.specs.Rows.{IsHandle};
+
+    ghost Value = { List (K × Option A) };
+
+    ghost view = { λ l. last_rows K.cmp (gathered l.sets.packs.items l.sets.now.items) l.rows.items };
+
+    ghost invariant = { λ l. AllByRecursion (λ (e : K × ℕ). IsHandle (gathered l.sets.packs.items l.sets.now.items) e.1) l.rows.items };
+}
+
+impl<K: RunKey, A: Drop> Listed<K, A> {
+    /// No change.
+    pub(crate) fn new(alloc: Global) -> Listed<K, A>
+        ensures { result ≡ [] }
+    {
+        Listed {
+            rows: Vec::new(alloc),
+            sets: Gathered {
+                packs: Vec::new(alloc),
+                now: Vec::new(alloc),
+            },
+        }
+    }
+
+    /// The changes, and after them those of one message: each of these keys has the one set, or is gone.
+    pub(crate) fn add(
+        self,
+        alloc: Global,
+        keys: &[K],
+        set: Option<Arc<A>>,
+    ) -> Result<Listed<K, A>, NoMemory>
+        ensures { IfOk result (λ new. IsLayered K.cmp self (all_to keys.now (option_map arc_value set)) new) }
+    {
+        let mut rows = self.rows;
+        let mut sets = self.sets;
+        let handle = added(&mut sets, alloc, set)?;
+        list_all(&mut rows, keys, handle)?;
+        Ok(Listed { rows, sets })
+    }
+
+    /// All changes as one run; none where there is no change.
+    pub(crate) fn into_run(self, alloc: Global) -> Result<Option<Run<K, A>>, NoMemory>
+        ensures { IfOk result (SaysTheSame K.cmp self) }
+    {
+        if self.rows.len() == 0 {
+            return Ok(None);
+        }
+        let run = self.run_of_all(alloc)?;
+        Ok(Some(run))
+    }
+
+    // All changes as one run.
+    fn run_of_all(self, alloc: Global) -> Result<Run<K, A>, NoMemory>
+        ensures { IfOk result (λ run. (q : K) → value_at K.cmp q run ≡ value_at K.cmp q self) }
+    {
+        let mut sets = self.sets;
+        turn(&mut sets, alloc)?;
+        if sets.packs.len() >= 1_048_576 {
+            return Err(NoMemory);
+        }
+        let rows = last_of_each(self.rows)?;
+        let keys = keys_alone(alloc, rows.as_slice())?;
+        let handles = handles_alone(alloc, rows.as_slice())?;
+        Ok(Run {
+            keys,
+            handles,
+            packs: sets.packs,
+        })
+    }
+}
+
+// Lists keys with one handle.
+fn list_all<K: RunKey>(rows: &mut Vec<(K, u32)>, keys: &[K], handle: u32) -> Result<(), NoMemory>
+    ensures { OnOk result (rows.new.items ≡ rows.old.items ++ map (λ (k : K). (k, handle)) keys.now) }
+{
+    for at in 0..keys.len() {
+        if rows.push((keys[at], handle)).is_err() {
+            return Err(NoMemory);
+        }
+    }
+    Ok(())
+}
+
+// Rows in the order of their keys, of each key the last one.
+fn last_of_each<K: RunKey>(rows: Vec<(K, u32)>) -> Result<Vec<(K, u32)>, NoMemory>
+    ensures ordered { IfOk result (λ list. IsStrictlySortedBy K.cmp (keys_of list.items)) }
+    ensures values { IfOk result (λ list. (q : K) → value_at K.cmp q list.items ≡ value_at K.cmp q (reverse rows.items)) }
+{
+    let mut rows = rows;
+    rows.reverse();
+    rows.sort_by_key(|row| row.0)?;
+    rows.dedup_by_key(|row| row.0);
+    Ok(rows)
+}
+
+// The keys of rows.
+fn keys_alone<K: RunKey>(alloc: Global, rows: &[(K, u32)]) -> Result<Vec<K>, NoMemory>
+    ensures { IfOk result (λ list. list.items ≡ keys_of rows.now) }
+{
+    let Ok(mut list) = Vec::with_capacity(alloc, rows.len()) else {
+        return Err(NoMemory);
+    };
+    for at in 0..rows.len() {
+        if list.push(rows[at].0).is_err() {
+            return Err(NoMemory);
+        }
+    }
+    Ok(list)
+}
+
+// The handles of rows.
+fn handles_alone<K: RunKey>(alloc: Global, rows: &[(K, u32)]) -> Result<Vec<u32>, NoMemory>
+    ensures { IfOk result (λ list. list.items ≡ handles_of rows.now) }
+{
+    let Ok(mut list) = Vec::with_capacity(alloc, rows.len()) else {
+        return Err(NoMemory);
+    };
+    for at in 0..rows.len() {
+        if list.push(rows[at].1).is_err() {
+            return Err(NoMemory);
+        }
+    }
+    Ok(list)
+}
