@@ -8,7 +8,7 @@ use Rattle.bmp_specs.specs.declared.wire.Family.{Family}
 use Rattle.bmp_specs.specs.declared.wire.Family.TheVariants.{V4, V6}
 use Rattle.bmp_specs.specs.Number.{IsNumber}
 use Rattle.bmp_specs.specs.Sequence.{IsField}
-use Rattle.bmp_specs.specs.PeerHeader.{HeaderValue, IsHeader, IsViewOf, address_in, family_of, is_set, l_flag, loc_rib, o_flag, v_flag, view_of}
+use Rattle.bmp_specs.specs.PeerHeader.{a_flag, is_two_byte, HeaderValue, IsHeader, IsViewOf, address_in, family_of, is_set, l_flag, loc_rib, o_flag, v_flag, view_of}
 use Rattle.bmp_specs.specs.Values.{AddressValue, KeyValue}
 use Rattle.bmp_writer.specs.PeerMessage.{IsHeaderOf, family_flag, view_flags}
 
@@ -56,6 +56,19 @@ flag_view false V6 InPost among = refl
 flag_view false V6 OutPre among = refl
 flag_view false V6 OutPost among = refl
 flag_view false V6 Loc (k, l, e) = absurd (not_loc k l e)
+
+flag_width : (loc : Bool) (family : Family) (view : View) → (if loc then false else is_set a_flag (flags_for loc family view)) ≡ false
+flag_width true family view = refl
+flag_width false V4 InPre = refl
+flag_width false V4 InPost = refl
+flag_width false V4 OutPre = refl
+flag_width false V4 OutPost = refl
+flag_width false V4 Loc = refl
+flag_width false V6 InPre = refl
+flag_width false V6 InPost = refl
+flag_width false V6 OutPre = refl
+flag_width false V6 OutPost = refl
+flag_width false V6 Loc = refl
 
 one_byte : (n : ℕ) → IsNumber 1 (n ∷ []) n
 one_byte n = record { len = refl; value_is = omega arith }
@@ -112,6 +125,7 @@ header_written key view flags raw fits len address kind v4 among f =
     let loc : (key.kind == loc_rib) ≡ true → key.address.family ≡ V4 = λ e. let three : key.kind ≡ loc_rib = grind (arith, e) in v4 three in
     let family : family_of h ≡ key.address.family = subst (λ (g : ℕ). (if key.kind == loc_rib then V4 else (if is_set v_flag g then V6 else V4)) ≡ key.address.family) (sym f) (flag_family (key.kind == loc_rib) key.address.family view loc) in
     let seen : view_of h ≡ view = subst (λ (g : ℕ). (if key.kind == loc_rib then Loc else (if is_set o_flag g then (if is_set l_flag g then OutPost else OutPre) else (if is_set l_flag g then InPost else InPre))) ≡ view) (sym f) (flag_view (key.kind == loc_rib) key.address.family view among) in
+    let width : is_two_byte h ≡ false = subst (λ (g : ℕ). (if key.kind == loc_rib then false else is_set a_flag g) ≡ false) (sym f) (flag_width (key.kind == loc_rib) key.address.family view) in
     let at : address_in (family_of h) raw ≡ key.address = ap (λ (g : Family). address_in g raw) family ∙ address in
     let make : AddressValue → KeyValue = λ a. record { kind = key.kind; distinguisher = key.distinguisher; address = a } in
     record {
@@ -120,6 +134,7 @@ header_written key view flags raw fits len address kind v4 among f =
       len = omega (arith, length-append raw (replicate 16 0), len);
       key_is = ap (λ (b : Bool). if b then Some (make (address_in (family_of h) raw)) else None) known ∙ ap (λ (a : AddressValue). Some (make a)) at;
       view_is = seen;
+      plain = record { four_byte = width; no_asn = refl; no_identifier = refl; no_seconds = refl; no_micros = refl };
     }
 
 -- five pieces, one behind another

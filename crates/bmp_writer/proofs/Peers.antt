@@ -1,5 +1,5 @@
 -- What a message with a Per-Peer Header of a peer means.
-use Rattle.std.proofs.Common.{◌≡◌, ℕ, ◌==◌, false, List, [], ◌∷◌, ◌++◌, take, drop, Option, Some, None, MatchOption, refl, sym, ap, subst, arith}
+use Rattle.std.proofs.Common.{length, ◌≡◌, ℕ, ◌==◌, false, List, [], ◌∷◌, ◌++◌, take, drop, Option, Some, None, MatchOption, refl, sym, ap, subst, arith, ◌∙◌, length-append, ◌+◌}
 use Rattle.std.specs.List.{IsDistinct}
 use Rattle.std.proofs.lemmas.List.{take_at, drop_at}
 use Rattle.bmp_specs.specs.declared.peers.Detail.TheVariants.{Unread}
@@ -18,8 +18,8 @@ use Rattle.bmp_specs.specs.PeerDownNotification.{IsPeerDown}
 use Rattle.bmp_specs.specs.PeerHeader.{HeaderValue, IsHeader, header_size, view_of}
 use Rattle.bmp_specs.specs.Update.{IsUpdate}
 use Rattle.bmp_specs.specs.Values.{AttrsReadValue, AttrsValue, DownInfoValue, KeyValue, MessageValue, MpValue, OpensValue, OtherValue, UpdateValue, down, mark, message, of_unknown_peer, of_unknown_type, peer_down, routes}
-use Rattle.bmp_writer.specs.PeerMessage.{IsHeaderOf, IsPeerMessage}
-use Rattle.bmp_writer.specs.Written.{Always, Appends, HasUp, IsWritten, peer_down_type, route_monitoring_type, unchanged, without}
+use Rattle.bmp_writer.specs.PeerMessage.{HasPlainHeader, IsHeaderOf, IsPeerMessage}
+use Rattle.bmp_writer.specs.Written.{Always, Appends, HasUp, IsWritten, mark_size, peer_down_type, route_monitoring_type, unchanged, without}
 use Rattle.bmp_writer.proofs.Frames.{frame_length}
 
 -- the meaning of a body, by what stands behind its header
@@ -243,3 +243,27 @@ pub mark_appended : (key : KeyValue) (view : View) (family given : Family) → g
     → Appends (IsWritten route_monitoring_type (HasUp key) (mark key view given ∷ []) unchanged) old new
 mark_appended key view family given same old new (bytes, joined, p) =
     (bytes, joined, subst (λ (f : Family). IsWritten route_monitoring_type (HasUp key) (mark key view f ∷ []) unchanged bytes) (sym same) (mark_written key view family bytes p))
+
+-- the header behind the common header is the message's own
+pub plain_appended : (kind : ℕ) (key : KeyValue) (view : View) (rest old new : List ℕ) → Appends (IsPeerMessage kind key view rest) old new → Appends HasPlainHeader old new
+plain_appended kind key view rest old new (bytes, joined, p) =
+    let front : take header_size (drop 6 bytes) ≡ p.head = ap (λ (l : List ℕ). take header_size l) p.is.body_is ∙ take_at p.head rest header_size p.head_is.len in
+    (bytes, joined, record { header = p.head_is.header; is = subst (λ (l : List ℕ). IsHeader l p.head_is.header) (sym front) p.head_is.is; plain = p.head_is.plain })
+
+-- no data follows the reason
+pub peer_down_size : (key : KeyValue) (view : View) (reason : ℕ) (old new : List ℕ) → Appends (IsPeerMessage 2 key view (reason ∷ [])) old new → length new ≡ length old + 49
+peer_down_size key view reason old new (bytes, joined, p) =
+    let body = length-append p.head (reason ∷ []) in
+    let all : length new ≡ length old + length bytes = ap (λ (l : List ℕ). length l) joined ∙ length-append old bytes in
+    omega (arith, all, body, p.head_is.len, frame_length bytes 2 (p.head ++ reason ∷ []) p.is)
+
+update_size : (family : Family) → 48 + length (mark_bytes family) ≡ mark_size family
+update_size V4 = refl
+update_size V6 = refl
+
+pub mark_fills : (key : KeyValue) (view : View) (family given : Family) → given ≡ family → (old new : List ℕ) → Appends (IsPeerMessage 0 key view (mark_bytes family)) old new → length new ≡ length old + mark_size given
+mark_fills key view family given same old new (bytes, joined, p) =
+    let body = length-append p.head (mark_bytes family) in
+    let all : length new ≡ length old + length bytes = ap (λ (l : List ℕ). length l) joined ∙ length-append old bytes in
+    let size : mark_size given ≡ mark_size family = ap (λ (f : Family). mark_size f) same in
+    omega (arith, all, body, size, update_size family, p.head_is.len, frame_length bytes 0 (p.head ++ mark_bytes family) p.is)

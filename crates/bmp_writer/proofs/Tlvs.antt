@@ -1,9 +1,9 @@
 -- Two TLVs behind a common header are an Initiation Message.
-use Rattle.std.proofs.Common.{◌≡◌, ℕ, ◌+◌, ◌≤◌, List, [], ◌∷◌, ◌++◌, length, Some, refl, sym, ap, subst, ◌∙◌, arith, length-append, length-drop, append-nil, append_assoc}
+use Rattle.std.proofs.Common.{◌≡◌, ℕ, ◌+◌, ◌≤◌, List, [], ◌∷◌, ◌++◌, length, Some, refl, sym, ap, subst, ◌∙◌, arith, length-append, length-drop, append-nil, append_assoc, drop}
 use Rattle.bmp_specs.specs.Frame.{IsFrame}
 use Rattle.bmp_specs.specs.Tlv.{AreTlvs, IsTlv}
 use Rattle.bmp_specs.specs.Values.{TlvValue, initiation, named, described, message}
-use Rattle.bmp_writer.specs.Written.{Always, IsWritten, initiation_type, unchanged}
+use Rattle.bmp_writer.specs.Written.{Always, HasTold, IsWritten, initiation_type, unchanged}
 use Rattle.bmp_writer.proofs.Frames.{header_bytes, frame_here, frame_length}
 
 tlv_length : (part : List ℕ) (t : TlvValue) → IsTlv part t → length part ≡ 4 + length t.value
@@ -38,3 +38,9 @@ initiation_written name descr one two bytes n is is_too joined size d m =
         entry_is = ap (λ (k : ℕ). message 4 k (named name ∷ described descr ∷ [])) (frame_length bytes 4 (one ++ two) frame);
       };
     }
+
+pub told_written : (name descr one two bytes : List ℕ) (n : ℕ) → IsTlv one (record { kind = 1; value = descr }) → IsTlv two (record { kind = 2; value = name })
+    → bytes ≡ (header_bytes 4 n ++ one) ++ two → HasTold name descr bytes
+told_written name descr one two bytes n is is_too joined =
+    let body : drop 6 bytes ≡ one ++ two = ap (λ (l : List ℕ). drop 6 l) (joined ∙ append_assoc (header_bytes 4 n) one two) in
+    subst (λ (l : List ℕ). AreTlvs l (told name descr)) (sym body) (two_tlvs name descr one two is is_too)

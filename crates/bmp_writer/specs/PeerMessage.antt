@@ -1,11 +1,11 @@
 -- A message with a Per-Peer Header, as it is written (RFC 7854, section 4.2).
-use Rattle.std.specs.Prelude.{◌≡◌, ℕ, List, ◌++◌, length, Some, bit_or}
+use Rattle.std.specs.Prelude.{◌≡◌, ℕ, false, List, ◌++◌, length, take, drop, replicate, Some, bit_or}
 use Rattle.bmp_specs.specs.declared.peers.View.{View}
 use Rattle.bmp_specs.specs.declared.peers.View.TheVariants.{InPre, InPost, OutPre, OutPost, Loc}
 use Rattle.bmp_specs.specs.declared.wire.Family.{Family}
 use Rattle.bmp_specs.specs.declared.wire.Family.TheVariants.{V4, V6}
-use Rattle.bmp_specs.specs.Frame.{IsFrame}
-use Rattle.bmp_specs.specs.PeerHeader.{HeaderValue, IsHeader, header_size, key_of, view_of, v_flag, l_flag, o_flag}
+use Rattle.bmp_specs.specs.Frame.{IsFrame, least}
+use Rattle.bmp_specs.specs.PeerHeader.{HeaderValue, IsHeader, header_size, is_two_byte, key_of, view_of, v_flag, l_flag, o_flag}
 use Rattle.bmp_specs.specs.Values.{KeyValue}
 
 -- the flag of a family
@@ -21,6 +21,20 @@ view_flags OutPre = o_flag
 view_flags OutPost = bit_or l_flag o_flag
 view_flags Loc = 0
 
+-- AS paths have numbers of four bytes, and neither an AS, an identifier nor a time is told
+pub record IsPlain (h : HeaderValue) : Type 0 where
+  pub four_byte : is_two_byte h ≡ false
+  pub no_asn : h.asn ≡ 0
+  pub no_identifier : h.identifier ≡ replicate 4 0
+  pub no_seconds : h.seconds ≡ 0
+  pub no_micros : h.micros ≡ 0
+
+-- a header of this kind stands behind the common header
+pub record HasPlainHeader (bytes : List ℕ) : Type 0 where
+  pub header : HeaderValue
+  pub is : IsHeader (take header_size (drop least bytes)) header
+  pub plain : IsPlain header
+
 -- a header that names the peer and the view
 pub record IsHeaderOf (key : KeyValue) (view : View) (bytes : List ℕ) : Type 0 where
   pub header : HeaderValue
@@ -28,6 +42,7 @@ pub record IsHeaderOf (key : KeyValue) (view : View) (bytes : List ℕ) : Type 0
   pub len : length bytes ≡ header_size
   pub key_is : key_of header ≡ Some key
   pub view_is : view_of header ≡ view
+  pub plain : IsPlain header
 
 -- a whole message of this type with such a header, and with these bytes behind it
 pub record IsPeerMessage (kind : ℕ) (key : KeyValue) (view : View) (rest bytes : List ℕ) : Type 0 where

@@ -1,8 +1,12 @@
 -- What bytes that were written are: one whole message, and what it does to the tables of whoever reads it.
-use Rattle.std.specs.Prelude.{◌≡◌, ℕ, List, ◌++◌, length, Some, None, ⊤}
-use Rattle.bmp_specs.specs.Frame.{IsFrame}
+use Rattle.std.specs.Prelude.{◌≡◌, ℕ, List, [], ◌∷◌, ◌++◌, length, drop, Some, None, ⊤}
+use Rattle.bmp_specs.specs.declared.wire.Family.{Family}
+use Rattle.bmp_specs.specs.declared.wire.Family.TheVariants.{V4, V6}
+use Rattle.bmp_specs.specs.Frame.{IsFrame, least}
+use Rattle.bmp_specs.specs.Initiation.{sys_descr, sys_name}
 use Rattle.bmp_specs.specs.MessageBody.{ReadingState, with_peer}
 use Rattle.bmp_specs.specs.MessageEffects.{IsMessageEntry}
+use Rattle.bmp_specs.specs.Tlv.{AreTlvs}
 use Rattle.bmp_specs.specs.Values.{EffectValue, KeyValue, OpensValue, message}
 
 -- "Message Type" (RFC 7854, section 4.1)
@@ -41,3 +45,13 @@ unchanged state = state
 -- the peer is down
 abbrev pub without : KeyValue → ReadingState → ReadingState
 without key state = with_peer state key None
+
+-- an Initiation Message of one sysDescr, one sysName and no other TLV, in this order
+abbrev pub HasTold : List ℕ → List ℕ → List ℕ → Type 0
+HasTold name descr bytes = AreTlvs (drop least bytes) (record { kind = sys_descr; value = descr } ∷ record { kind = sys_name; value = name } ∷ [])
+
+-- how many bytes a message has with the End-of-RIB marker of a family: for IPv4 with the UPDATE that has nothing else, for
+-- IPv6 with one that has an MP_UNREACH_NLRI of six bytes
+abbrev pub mark_size : Family → ℕ
+mark_size V4 = 71
+mark_size V6 = 77

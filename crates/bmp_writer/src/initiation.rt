@@ -1,7 +1,7 @@
 ghost use Rattle.std.specs.Prelude.{◌≡◌, ℕ, List, ◌+◌, ◌≤◌, [], ◌∷◌, ◌++◌, length, take, OnOk, OnErr};
 ghost use Rattle.bmp_specs.specs.Tlv.{IsTlv};
 ghost use Rattle.bmp_specs.specs.Values.{named, described};
-ghost use Rattle.bmp_writer.specs.Written.{Always, Appends, IsWritten, initiation_type, unchanged};
+ghost use Rattle.bmp_writer.specs.Written.{Always, Appends, HasTold, IsWritten, initiation_type, unchanged};
 
 use crate::common::{common_header, put};
 use bmp_frames::{COMMON_HEADER, INITIATION};
@@ -28,11 +28,13 @@ fn put_tlv(frame: &mut [u8], at: usize, kind: u16, value: &[u8]) -> usize
     put(frame, at, value)
 }
 
-/// Appends an Initiation Message with a sysDescr and a sysName (RFC 7854, section 4.3).
+/// Appends an Initiation Message with a sysDescr and then a sysName (RFC 7854, section 4.3), each of at
+/// most 65,535 bytes. After `NoMemory` the list is as before.
 pub fn put_initiation(out: &mut ByteList, name: &[u8], descr: &[u8]) -> Result<(), NoMemory>
     requires name { length name.now ≤ 65535 }
     requires descr { length descr.now ≤ 65535 }
     ensures ok { OnOk result (Appends (IsWritten initiation_type Always (named name.now ∷ described descr.now ∷ []) unchanged) out.old out.new) }
+    ensures tlvs { OnOk result (Appends (HasTold name.now descr.now) out.old out.new) }
     ensures err { OnErr result (out.new ≡ out.old) }
 {
     let mut frame = [0u8; LONGEST];
