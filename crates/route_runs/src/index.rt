@@ -1,4 +1,4 @@
-ghost use Rattle.std.specs.Prelude.{◌≡◌, [], ℕ, true, length, map, IfOk, OnOk};
+ghost use Rattle.std.specs.Prelude.{◌≡◌, ℕ, true, length, map, IfOk, OnOk};
 ghost use Rattle.std.specs.Arc.{arc_value};
 ghost use Rattle.std.specs.List.{AllByRecursion, Contains};
 ghost use Rattle.route_runs.specs.Origins.{attrs_origin, is_number, AreAdded, AreAll, AreNamed, Covers, HasPairs, IsIndexed};
