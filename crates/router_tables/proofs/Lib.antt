@@ -5,3 +5,4 @@ pub mod CountSteps
 pub mod SessionSteps
 pub mod StepSteps
 pub mod RowSteps
+pub mod RouteSteps
