@@ -6,3 +6,4 @@ pub mod SessionSteps
 pub mod StepSteps
 pub mod RowSteps
 pub mod RouteSteps
+pub mod PendingSteps

@@ -1,16 +1,17 @@
 ghost use Rattle.std.specs.Prelude.{◌≡◌, [], OnOk};
 ghost use Rattle.std.specs.Option.{option_map, unwrap_or};
-ghost use Rattle.bmp_specs.specs.declared.peers.View.{View as ViewOf};
 ghost use Rattle.bmp_specs.specs.Orders.{nlri_cmp};
 ghost use Rattle.route_runs.specs.Layers.{AreChangedTo};
 ghost use Rattle.route_runs.specs.Runs.{shared};
-ghost use Rattle.router_tables.specs.Pending.{IsGathered, view_changes};
+ghost use Rattle.router_tables.specs.Pending.{IsGathered, IsGatheredFor, no_changes};
 
+use bmp_frames::PeerKey;
 use bmp_specs::View;
 use ip_prefix::Nlri;
 use rib_model::Route;
 use route_runs::Changes;
 use std::alloc::Global;
+use std::collections::BTreeMap;
 use std::marker::Model;
 use wire_io::NoMemory;
 
@@ -44,7 +45,7 @@ impl Model for Pending {
 impl Pending {
     // No change in any table.
     pub(crate) fn new() -> Pending
-        ensures { (view : ViewOf) → view_changes view result ≡ [] }
+        ensures { result ≡ no_changes }
     {
         Pending {
             in_pre: None,
@@ -100,5 +101,32 @@ fn gathered(alloc: Global, changes: Option<Changes>) -> Changes
     match changes {
         Some(changes) => changes,
         None => Changes::new(alloc),
+    }
+}
+
+// Gathers changes of these NLRI of one table of a peer.
+pub(crate) fn gather(
+    alloc: Global,
+    pending: &mut BTreeMap<PeerKey, Pending>,
+    key: &PeerKey,
+    view: View,
+    nlris: &[Nlri],
+    to: Option<&Route>,
+) -> Result<(), NoMemory>
+    ensures { OnOk result (IsGatheredFor key.now view nlris.now (option_map shared to.entry) pending.old.entries pending.new.entries) }
+{
+    let mut changes = so_far(pending.remove(key));
+    changes.change(alloc, view, nlris, to)?;
+    pending.insert(*key, changes)?;
+    Ok(())
+}
+
+// The changes of a peer so far.
+fn so_far(changes: Option<Pending>) -> Pending
+    ensures { result ≡ unwrap_or changes no_changes }
+{
+    match changes {
+        Some(changes) => changes,
+        None => Pending::new(),
     }
 }
