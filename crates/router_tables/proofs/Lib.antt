@@ -7,3 +7,4 @@ pub mod StepSteps
 pub mod RowSteps
 pub mod RouteSteps
 pub mod PendingSteps
+pub mod PendingDrops

@@ -1,10 +1,13 @@
-ghost use Rattle.std.specs.Prelude.{◌≡◌, [], OnOk};
+ghost use Rattle.std.specs.Prelude.{◌≡◌, [], ◌∷◌, ◌++◌, List, OnOk};
 ghost use Rattle.std.specs.Option.{option_map, unwrap_or};
 ghost use Rattle.bmp_specs.specs.Orders.{nlri_cmp};
+ghost use Rattle.bmp_specs.specs.PeerUp.{Names};
+ghost use Rattle.bmp_specs.specs.Values.{EffectValue};
 ghost use Rattle.route_runs.specs.Layers.{AreChangedTo};
 ghost use Rattle.route_runs.specs.Runs.{shared};
-ghost use Rattle.router_tables.specs.Pending.{IsGathered, IsGatheredFor, no_changes};
+ghost use Rattle.router_tables.specs.Pending.{AreRowsAfter, IsGathered, IsGatheredFor, no_changes};
 
+use crate::views::Views;
 use bmp_frames::PeerKey;
 use bmp_specs::View;
 use ip_prefix::Nlri;
@@ -119,6 +122,21 @@ pub(crate) fn gather(
     changes.change(alloc, view, nlris, to)?;
     pending.insert(*key, changes)?;
     Ok(())
+}
+
+// The peer comes up or goes down: its tables go, those of all views, and what is gathered for them (RFC 7854,
+// section 4.9).
+pub(crate) fn drop_gathered(
+    pending: &mut BTreeMap<PeerKey, Pending>,
+    tables: &mut BTreeMap<PeerKey, Views>,
+    key: &PeerKey,
+)
+    ensures { (effects : List EffectValue) (effect : EffectValue) → Names key.now effect
+        → AreRowsAfter pending.old.entries tables.old.entries effects
+        → AreRowsAfter pending.new.entries tables.new.entries (effects ++ effect ∷ []) }
+{
+    pending.remove(key);
+    tables.remove(key);
 }
 
 // The changes of a peer so far.
