@@ -5,3 +5,6 @@ pub mod CountSteps
 pub mod SessionSteps
 pub mod StepSteps
 pub mod RowSteps
+pub mod RouteSteps
+pub mod PendingSteps
+pub mod PendingDrops

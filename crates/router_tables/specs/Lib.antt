@@ -3,3 +3,4 @@ pub mod Books
 pub mod Session
 pub mod Views
 pub mod Tables
+pub mod Pending

@@ -12,6 +12,7 @@
 
 mod books;
 mod counting;
+mod pending;
 mod rows;
 mod session;
 mod shared_peers;
