@@ -1,5 +1,5 @@
 -- What is told of a real port or link.
-use Rattle.std.specs.Prelude.{ℕ, Bool, [], None}
+use Rattle.std.specs.Prelude.{ℕ, Bool, List, [], Option, None, Some}
 use Rattle.wire_io.specs.Aside.{Aside}
 
 -- the counts, and nothing of content
@@ -19,3 +19,8 @@ untold opened closed is_open taken refused open_faults read_faults = record {
   write_faults = None;
   laid = [];
 }
+
+-- what the input of a port has left, where there is one that tells it
+abbrev pub rest_of : {R : Type 0} → (R → Option (List ℕ)) → Option R → Option (List ℕ)
+rest_of remaining None = None
+rest_of remaining (Some input) = remaining input

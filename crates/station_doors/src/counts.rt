@@ -46,6 +46,7 @@ impl Counts {
     pub(crate) fn open(&mut self, came: Option<bool>) -> Result<bool, Failed>
         ensures opens { Opens self.old self.new result }
         ensures plan { self.old.plan ≡ None }
+        ensures coming { self.old.coming ≡ None }
         ensures writes { (faults : ℕ) → self.new.write_faults ≡ noted_writes faults self.old.write_faults result }
     {
         self.refused = false;
@@ -67,22 +68,17 @@ impl Counts {
         }
     }
 
-    // Counts what came of a read: so many bytes, or None where it failed.
-    pub(crate) fn read(&mut self, came: Option<usize>) -> Result<usize, Failed>
+    // Counts what came of a read, and hands it on.
+    pub(crate) fn read(&mut self, came: Result<usize, Failed>) -> Result<usize, Failed>
         ensures reads { (buf : List ℕ) → Reads self.old self.new result buf }
         ensures plan { self.old.plan ≡ None }
-        ensures same { IfOk result (λ n. came ≡ Some n) }
+        ensures same { result ≡ came }
     {
         match came {
-            Some(count) => {
-                self.taken = self.taken.saturating_add(count as u64);
-                Ok(count)
-            }
-            None => {
-                self.read_faults = self.read_faults.saturating_add(1);
-                Err(Failed)
-            }
+            Ok(count) => self.taken = self.taken.saturating_add(count as u64),
+            Err(_) => self.read_faults = self.read_faults.saturating_add(1),
         }
+        came
     }
 
     // Counts a closing.

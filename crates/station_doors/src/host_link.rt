@@ -33,13 +33,13 @@ impl HostLink {
     }
 }
 
-// Reads from the stream. None where that failed, or there is none.
-fn read_from(stream: &mut Option<TcpStream>, buf: &mut [u8]) -> Option<usize>
-    ensures { IfSome result (λ n. n ≤ length buf.new) }
+// Reads from the stream. It fails too where there is none.
+fn read_from(stream: &mut Option<TcpStream>, buf: &mut [u8]) -> Result<usize, Failed>
+    ensures { IfOk result (λ n. n ≤ length buf.new) }
 {
     match stream {
-        Some(stream) => stream.read(buf).ok(),
-        None => None,
+        Some(stream) => stream.read(buf).map_err(|_| Failed),
+        None => Err(Failed),
     }
 }
 

@@ -1,4 +1,6 @@
-ghost use Rattle.std.specs.Prelude.{◌≡◌, ◌≤◌, length, IfSome};
+ghost use Rattle.std.specs.Prelude.{◌≡◌, ◌≤◌, length, IfOk};
+ghost use Rattle.std.specs.Io.KnownBytes.{ReadConsumes};
+ghost use Rattle.station_doors.specs.Counts.{rest_of};
 
 use crate::Port;
 use crate::counts::Counts;
@@ -7,8 +9,8 @@ use std::io::Read;
 use std::net::{TcpListener, TcpStream};
 use wire_io::Failed;
 
-/// A port over a reader, which has one connection, or over a listener, which has one after another. It tells
-/// nothing of content.
+/// A port over a reader, which has one connection, or over a listener, which has one after another. Over a reader it
+/// tells what the reader tells, over a listener nothing of content.
 #[derive(Drop)]
 pub struct HostPort<R> {
     input: Option<R>,
@@ -47,25 +49,26 @@ fn come(
     }
 }
 
-// Reads from the stream, or else from the input. None where that failed.
+// Reads from the input, or else from the stream. It fails too where there is neither.
 fn read_from<R: Read>(
-    stream: &mut Option<TcpStream>,
     input: &mut Option<R>,
+    stream: &mut Option<TcpStream>,
     buf: &mut [u8],
-) -> Option<usize>
-    ensures { IfSome result (λ n. n ≤ length buf.new) }
+) -> Result<usize, Failed>
+    ensures bound { IfOk result (λ n. n ≤ length buf.new) }
+    ensures rest { ReadConsumes (rest_of R.remaining input.old) (rest_of R.remaining input.new) result buf.new }
 {
-    if let Some(stream) = stream {
-        return stream.read(buf).ok();
+    if let Some(input) = input {
+        return input.read(buf).map_err(|_| Failed);
     }
-    match input {
-        Some(input) => input.read(buf).ok(),
-        None => None,
+    match stream {
+        Some(stream) => stream.read(buf).map_err(|_| Failed),
+        None => Err(Failed),
     }
 }
 
 impl<R: Read + Drop> Port for HostPort<R> {
-    ghost aside = { λ p. p.counts };
+    ghost aside = { λ p. record p.counts { rest = rest_of R.remaining p.input } };
 
     fn next_connection(&mut self) -> Result<bool, Failed> {
         let is_first = self.counts.is_unused();
@@ -74,7 +77,7 @@ impl<R: Read + Drop> Port for HostPort<R> {
     }
 
     fn read(&mut self, buf: &mut [u8]) -> Result<usize, Failed> {
-        let came = read_from(&mut self.stream, &mut self.input, buf);
+        let came = read_from(&mut self.input, &mut self.stream, buf);
         self.counts.read(came)
     }
 

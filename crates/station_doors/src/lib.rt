@@ -6,8 +6,9 @@
 //!
 //! `MemPort`, `MemLink` and `MemYard` hold everything in memory and tell it to contracts: the plan, each byte
 //! that was given, how the last read went, what was written and what came back. `SurePort` and `SureLink` are
-//! of the same kind and never fail. `HostYard` is standard input and TCP, and tells counts alone. A lane that
-//! publishes holds its port in a `LanePort`, which gives it bytes only while nothing whole is unpublished.
+//! of the same kind and never fail. `HostYard` is standard input and TCP, and tells counts, and what its input
+//! tells. A lane that publishes holds its port in a `LanePort`, which gives it bytes only while nothing whole is
+//! unpublished.
 //!
 //! Begin with `specs/Doors.antt`, which says what each call does to what is told, then `src/doors.rt`.
 #![tactic(auto)]
