@@ -15,8 +15,8 @@ use std::collections::BTreeMap;
 use std::sync::Arc;
 use wire_io::NoMemory;
 
-// Makes all changes that are gathered: each table takes one run. A table that gets no row goes, and a peer without
-// tables.
+// Makes all changes that are gathered: each table takes one run. A table that is left without a row goes, and a peer
+// without tables.
 pub(crate) fn make_changes(
     alloc: Global,
     mut pending: BTreeMap<PeerKey, Pending>,
@@ -97,7 +97,7 @@ fn changed_table(
     match table {
         Some(table) => {
             let new = table.with(&mut changes)?;
-            Ok(Some(Arc::new(alloc, new)?))
+            next_table(alloc, new)
         }
         None => {
             let new = RouteTable::new(alloc).with(&mut changes)?;
@@ -106,7 +106,18 @@ fn changed_table(
     }
 }
 
-// The first table of a peer and a RIB; none where its routes were announced and withdrawn again.
+// A later table of a peer and a RIB; none where no route is left. One whose withdrawals aren't merged with its oldest
+// run stays: to pass over them would cost more than the table.
+fn next_table(alloc: Global, table: RouteTable) -> Result<Option<Arc<RouteTable>>, NoMemory>
+    ensures { IfOk result (λ kept. unwrap_or (option_map arc_value kept) [] ≡ table) }
+{
+    if table.is_bare() {
+        return Ok(None);
+    }
+    Ok(Some(Arc::new(alloc, table)?))
+}
+
+// The first table of a peer and a RIB; none where its routes were announced and withdrawn again, or withdrawn alone.
 fn first_table(alloc: Global, table: RouteTable) -> Result<Option<Arc<RouteTable>>, NoMemory>
     ensures { IfOk result (λ kept. unwrap_or (option_map arc_value kept) [] ≡ table) }
 {
