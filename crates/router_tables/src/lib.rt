@@ -32,3 +32,6 @@ mod views;
 
 pub use state::LaneState;
 pub use tables::RouterTables;
+
+#[cfg(test)]
+mod tests;
