@@ -36,6 +36,10 @@ equal_by Less e = absurd (true≢false (sym e))
 equal_by Equal e = refl
 equal_by Greater e = absurd (true≢false (sym e))
 
+neither : (b : Bool) → (not b && b) ≡ true → ⊥
+neither true e = true≢false (sym e)
+neither false e = true≢false (sym e)
+
 pub same_key_by : (a b : KeyValue) → eq_by_cmp key_cmp a b ≡ true → a ≡ b
 same_key_by a b e = key_exact a b (equal_by (key_cmp a b) e)
 
@@ -60,20 +64,20 @@ module _ (before : List EffectValue) (s : ReadingState) (t : LenientState) (agre
     untold = λ k e. untold_at k (eq_by_cmp key_cmp k key) refl e;
   }
     where
-      opens_at : (k : KeyValue) (b : Bool) → (not (cond b true (t.told k)) && eqb k.kind loc_rib) ≡ false → cond b opens (t.opens k) ≡ cond b opens (s k)
+      opens_at : (k : KeyValue) (b : Bool) → (not (cond b (eqb k.kind loc_rib) (t.told k)) && eqb k.kind loc_rib) ≡ false → cond b opens (t.opens k) ≡ cond b opens (s k)
       opens_at k true e = refl
       opens_at k false e = agrees.opens k e
 
-      none_at : (k : KeyValue) (b : Bool) → (not (cond b true (t.told k)) && eqb k.kind loc_rib) ≡ true → cond b opens (s k) ≡ None
-      none_at k true e = absurd (true≢false (sym e))
+      none_at : (k : KeyValue) (b : Bool) → (not (cond b (eqb k.kind loc_rib) (t.told k)) && eqb k.kind loc_rib) ≡ true → cond b opens (s k) ≡ None
+      none_at k true e = absurd (neither (eqb k.kind loc_rib) e)
       none_at k false e = agrees.none k e
 
-      shown_at : (k : KeyValue) (view : View) (b : Bool) → (not (cond b true (t.told k)) && eqb k.kind loc_rib) ≡ false → cond b as_agreed (t.shown k view) ≡ as_agreed
+      shown_at : (k : KeyValue) (view : View) (b : Bool) → (not (cond b (eqb k.kind loc_rib) (t.told k)) && eqb k.kind loc_rib) ≡ false → cond b as_agreed (t.shown k view) ≡ as_agreed
       shown_at k view true e = refl
       shown_at k view false e = agrees.shown k view e
 
-      untold_at : (k : KeyValue) (b : Bool) → eq_by_cmp key_cmp k key ≡ b → (not (cond b true (t.told k)) && eqb k.kind loc_rib) ≡ true → ¬ (IsNamed (before ++ more) k)
-      untold_at k true is e = absurd (true≢false (sym e))
+      untold_at : (k : KeyValue) (b : Bool) → eq_by_cmp key_cmp k key ≡ b → (not (cond b (eqb k.kind loc_rib) (t.told k)) && eqb k.kind loc_rib) ≡ true → ¬ (IsNamed (before ++ more) k)
+      untold_at k true is e = absurd (neither (eqb k.kind loc_rib) e)
       untold_at k false is e = still_untold more k (others k (λ same. true≢false (sym (tied_key k key same) ∙ is))) e
 
   -- routes of a peer that is up, in the forms that were agreed

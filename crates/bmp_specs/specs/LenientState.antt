@@ -1,5 +1,5 @@
 -- What a lenient reading knows of a stream from its messages so far: a notion of ours.
-use Rattle.std.specs.Prelude.{Bool, true, false, not, ◌==◌, ◌&&◌, if◌then◌else◌, Option, Some, None}
+use Rattle.std.specs.Prelude.{Bool, false, not, ◌==◌, ◌&&◌, if◌then◌else◌, Option, Some, None}
 use Rattle.std.specs.Option.{option_or}
 use Rattle.std.specs.Ordering.{eq_by_cmp}
 use Rattle.bmp_specs.specs.declared.peers.View.{View}
@@ -13,7 +13,7 @@ use Rattle.bmp_specs.specs.Values.{KeyValue, OpensValue}
 pub record LenientState : Type 0 where
   -- the two OPEN messages of each peer that is up
   pub opens : ReadingState
-  -- whether a Peer Up or a Peer Down told of the peer
+  -- whether the peer is a Loc-RIB of which a Peer Up or a Peer Down told
   pub told : KeyValue → Bool
   -- the forms in which the last UPDATE message of a peer and view was read, since the last Peer Up or Peer Down of the
   -- peer
@@ -35,7 +35,7 @@ opens_for state h key = option_or (state.opens key) (if is_untold state key then
 abbrev pub with_told : LenientState → KeyValue → Option OpensValue → LenientState
 with_told state key opens = record {
   opens = with_peer state.opens key opens;
-  told = λ k. if eq_by_cmp key_cmp k key then true else state.told k;
+  told = λ k. if eq_by_cmp key_cmp k key then k.kind == loc_rib else state.told k;
   shown = λ k view. if eq_by_cmp key_cmp k key then as_agreed else state.shown k view;
 }
 
