@@ -1,5 +1,5 @@
--- Which form of an UPDATE message is taken, by what the messages before it showed: a message shows a form where that one alone
--- fits, and the last form that was shown is taken where both fit.
+-- Which form of an UPDATE message is taken, by what the messages before it showed: a message shows a form where that
+-- one alone fits, and the last form that was shown is taken where both fit.
 use Rattle.std.proofs.Common.{◌≡◌, Bool, true, false, not, true≢false, inl, inr, refl, sym}
 use Rattle.bmp_specs.specs.UpdateForms.{Takes}
 

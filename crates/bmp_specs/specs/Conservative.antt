@@ -1,12 +1,16 @@
 -- How the lenient reading of a stream stands to the strict one, in our words: it reads what the strict one reads, and
 -- the same, save for a Loc-RIB that no Peer Up told of; and it never ends earlier.
-use Rattle.std.specs.Prelude.{◌≡◌, ℕ, ◌≤◌, ◌⊎◌, List, [], ◌∷◌, ◌++◌, length, ⊤}
+use Rattle.std.specs.Prelude.{◌≡◌, ◌↔◌, ℕ, ◌≤◌, ◌⊎◌, List, [], ◌∷◌, ◌++◌, length, ⊤}
 use Rattle.std.specs.List.{AllByRecursion}
 use Rattle.bmp_specs.specs.declared.causes.Why.TheVariants.{Body}
+use Rattle.bmp_specs.specs.declared.peers.View.{View}
+use Rattle.bmp_specs.specs.declared.wire.Family.{Family}
+use Rattle.bmp_specs.specs.Complete.{IsComplete}
 use Rattle.bmp_specs.specs.PeerHeader.{loc_rib}
-use Rattle.bmp_specs.specs.PeerUp.{IsNamed}
+use Rattle.bmp_specs.specs.PeerUp.{IsDownWith, IsNamed, IsUpWith}
+use Rattle.bmp_specs.specs.Rows.{HasRow, HasStatistic, RowValue}
 use Rattle.bmp_specs.specs.Session.{effects_in}
-use Rattle.bmp_specs.specs.Values.{EffectValue, EntryValue, KeyValue, announce, mark, message, orphan, statistic, unread, up, withdraw}
+use Rattle.bmp_specs.specs.Values.{AttrsValue, DownInfoValue, EffectValue, EntryValue, KeyValue, NlriValue, PeerInfoValue, StatValue, announce, mark, message, orphan, statistic, unread, up, withdraw}
 use Rattle.bmp_specs.specs.Walk.{Verdict, broken}
 
 -- the effect is of this peer, or counts what was passed over
@@ -52,3 +56,15 @@ pub record IsConservative (entries : List EntryValue) (offset : ℕ) (verdict : 
   pub alike : AreReadAlike [] entries others
   pub no_earlier : offset ≤ end
   pub ends : ¬ (verdict ≡ broken Body) → EndsAlike entries offset verdict others end last
+
+abbrev pub row_at : KeyValue → View → NlriValue → AttrsValue → RowValue
+row_at key view nlri route = record { row_key = record { key = key; view = view; nlri = nlri }; route = route }
+
+-- two lists of effects leave the same of this peer: whether it is up, with what its Peer Up told, or down, its complete
+-- tables, its statistics and its rows
+pub record LeaveSame (key : KeyValue) (a b : List EffectValue) : Type 0 where
+  pub up : (info : PeerInfoValue) → IsUpWith a key info ↔ IsUpWith b key info
+  pub down : (info : DownInfoValue) → IsDownWith a key info ↔ IsDownWith b key info
+  pub complete : (view : View) (family : Family) → IsComplete a key view family ↔ IsComplete b key view family
+  pub statistic : (stat : StatValue) → HasStatistic a key stat ↔ HasStatistic b key stat
+  pub row : (view : View) (nlri : NlriValue) (route : AttrsValue) → HasRow a (row_at key view nlri route) ↔ HasRow b (row_at key view nlri route)
