@@ -49,6 +49,7 @@ module _ (before : List EffectValue) (s after : ReadingState) (t : LenientState)
             effects = y.effects;
             strictly_is = is;
             leniently_is = y.entry_is;
+            of_routes = o.message.type_is;
             is_loc_rib = untold_loc_rib t o.key o.message.untold;
             untold = agrees.untold o.key o.message.untold;
             speaks = speaks;

@@ -6,6 +6,7 @@ use Rattle.bmp_specs.specs.declared.causes.Why.TheVariants.{Body}
 use Rattle.bmp_specs.specs.declared.peers.View.{View}
 use Rattle.bmp_specs.specs.declared.wire.Family.{Family}
 use Rattle.bmp_specs.specs.Complete.{IsComplete}
+use Rattle.bmp_specs.specs.MessageBody.{message_type, route_monitoring, statistics_report}
 use Rattle.bmp_specs.specs.PeerHeader.{loc_rib}
 use Rattle.bmp_specs.specs.PeerUp.{IsDownWith, IsNamed, IsUpWith}
 use Rattle.bmp_specs.specs.Rows.{HasRow, HasStatistic, RowValue}
@@ -32,6 +33,7 @@ pub record IsReadMore (before : List EffectValue) (strictly leniently : EntryVal
   pub effects : List EffectValue
   pub strictly_is : strictly ≡ message kind size (orphan ∷ [])
   pub leniently_is : leniently ≡ message kind size effects
+  pub of_routes : (message_type kind ≡ route_monitoring) ⊎ (message_type kind ≡ statistics_report)
   pub is_loc_rib : key.kind ≡ loc_rib
   pub untold : ¬ (IsNamed before key)
   pub speaks : AllByRecursion (SpeaksOf key) effects

@@ -1,7 +1,7 @@
 -- The lenient meaning of the body of a message, in our words: as by the RFCs, but routes may be in another form than
 -- the agreed one, an UPDATE message with a malformed attribute withdraws (RFC 7606), and the routes of a Loc-RIB may
 -- come without a Peer Up.
-use Rattle.std.specs.Prelude.{◌≡◌, ℕ, ◌+◌, Bool, true, not, ◌&&◌, ◌⊎◌, MatchOption, List, [], ◌∷◌, ◌++◌, length, take, drop, Option, Some, None}
+use Rattle.std.specs.Prelude.{◌≡◌, ℕ, ◌+◌, Bool, true, false, not, ◌&&◌, ◌⊎◌, MatchOption, List, [], ◌∷◌, ◌++◌, length, take, drop, Option, Some, None}
 use Rattle.bmp_specs.specs.declared.wire.Family.TheVariants.{V4, V6}
 use Rattle.bmp_specs.specs.BgpMessage.{IsBgpMessage, update_type}
 use Rattle.bmp_specs.specs.Frame.{least}
@@ -10,7 +10,7 @@ use Rattle.bmp_specs.specs.ImpliedPeerUp.{implied_info}
 use Rattle.bmp_specs.specs.LenientState.{LenientState, is_untold, nothing_known, opens_for, with_shown, with_told}
 use Rattle.bmp_specs.specs.Meaning.{Meaning}
 use Rattle.bmp_specs.specs.MessageBody.{MessageType, OfType, id_use, message_type, initiation_message, peer_down_notification, peer_up_notification, route_mirroring, route_monitoring, statistics_report, termination_message, unassigned}
-use Rattle.bmp_specs.specs.MessageEffects.{effects_of}
+use Rattle.bmp_specs.specs.MessageEffects.{effects_of, strict}
 use Rattle.bmp_specs.specs.Mirroring.{IsMirroring}
 use Rattle.bmp_specs.specs.PeerDownNotification.{IsPeerDown}
 use Rattle.bmp_specs.specs.PeerHeader.{HeaderValue, IsHeader, header_size, key_of, view_of}
@@ -130,3 +130,8 @@ pub record IsLenientEntry (state : LenientState) (kind : ℕ) (body : List ℕ) 
 -- the meaning of bodies as routers send them
 abbrev pub lenient : Meaning
 lenient = record { State = LenientState; start = nothing_known; Means = IsLenientEntry }
+
+-- the meaning in which a stream is read: leniently or by the RFCs alone
+abbrev pub meaning_of : Bool → Meaning
+meaning_of true = lenient
+meaning_of false = strict
