@@ -68,7 +68,7 @@ number_one n bytes v w p q = sym p.value_is ∙ q.value_is
 field_one : (n : ℕ) → IsOne (IsField n)
 field_one n bytes v w p q = sym p.value_is ∙ q.value_is
 
-reach_one : IsOne IsMpReach
+pub reach_one : IsOne IsMpReach
 reach_one value m n p q =
     let afi : m.afi ≡ n.afi = sym p.afi_is ∙ q.afi_is in
     let safi : m.safi ≡ n.safi = sym p.safi_is ∙ q.safi_is in
@@ -76,7 +76,7 @@ reach_one value m n p q =
     let prefixes : m.prefixes ≡ n.prefixes = sym p.prefixes_are ∙ q.prefixes_are in
     λ i. record { afi = afi i; safi = safi i; hop = hop i; prefixes = prefixes i }
 
-unreach_one : IsOne IsMpUnreach
+pub unreach_one : IsOne IsMpUnreach
 unreach_one value m n p q =
     let afi : m.afi ≡ n.afi = sym p.afi_is ∙ q.afi_is in
     let safi : m.safi ≡ n.safi = sym p.safi_is ∙ q.safi_is in

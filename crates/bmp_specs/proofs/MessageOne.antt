@@ -66,7 +66,7 @@ by_key_one None kind state h rest m n none s t p q = record { message = p.0 ∙ 
 by_key_one (Some key) kind state h rest m n none s t p q = of_peer_one kind state h key rest m n s t p q
 
 -- the header is one
-header_one : (bytes : List ℕ) (h k : HeaderValue) → IsHeader bytes h → IsHeader bytes k → h ≡ k
+pub header_one : (bytes : List ℕ) (h k : HeaderValue) → IsHeader bytes h → IsHeader bytes k → h ≡ k
 header_one bytes h k p q = (header_code.one bytes bytes [] [] h k p q refl).1
 
 has_peer_one : (kind : MessageType) (state : ReadingState) (body : List ℕ) (m n : MessageValue) (s t : ReadingState) → HasPeer kind state body m s → HasPeer kind state body n t → SameMessage m n s t
@@ -75,7 +75,7 @@ has_peer_one kind state body m n s t p q =
     by_key_one (key_of q.header) kind state q.header (drop header_size body) m n _ s t
     (subst (λ (h : HeaderValue). MatchOption (key_of h) ((m ≡ of_unknown_type) × (s ≡ state)) (λ key. OfPeer kind state h key (drop header_size body) m s)) same p.means) q.means
 
-of_type_one : (kind : MessageType) (state : ReadingState) (body : List ℕ) (m n : MessageValue) (s t : ReadingState) → OfType kind state body m s → OfType kind state body n t → SameMessage m n s t
+pub of_type_one : (kind : MessageType) (state : ReadingState) (body : List ℕ) (m n : MessageValue) (s t : ReadingState) → OfType kind state body m s → OfType kind state body n t → SameMessage m n s t
 of_type_one initiation_message state body m n s t (i, p, x, a) (j, q, y, b) = record {
   message = x ∙ ap (λ (v : InitiationValue). initiation v) (IsInitiation-one body i j p q) ∙ sym y;
   next = a ∙ sym b;

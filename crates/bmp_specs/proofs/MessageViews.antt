@@ -14,10 +14,10 @@ use Rattle.bmp_specs.proofs.PeerViews.{view_among}
 abbrev pub HaveViews : List EffectValue → Type 0
 HaveViews effects = All HasViewOfKey effects
 
-alone : (e : EffectValue) → HasViewOfKey e → HaveViews (e ∷ [])
+pub alone : (e : EffectValue) → HasViewOfKey e → HaveViews (e ∷ [])
 alone e p = All-cons HasViewOfKey e [] p (All-nil HasViewOfKey)
 
-join : (a b : List EffectValue) → HaveViews a → HaveViews b → HaveViews (a ++ b)
+pub join : (a b : List EffectValue) → HaveViews a → HaveViews b → HaveViews (a ++ b)
 join a b p q = All-append HasViewOfKey a b p q
 
 each : {V : Type 0} (f : V → EffectValue) → ((v : V) → HasViewOfKey (f v)) → (vs : List V) → HaveViews (map f vs)
@@ -47,7 +47,7 @@ abbrev pub HasRoutesOfKey : MessageValue → Type 0
 HasRoutesOfKey (routes key view u) = IsViewOf key view
 HasRoutesOfKey _ = Unit {0}
 
-effects_views : (m : MessageValue) → HasRoutesOfKey m → HaveViews (effects_of m)
+pub effects_views : (m : MessageValue) → HasRoutesOfKey m → HaveViews (effects_of m)
 effects_views (initiation i) p = join _ _ (join _ _ (some named (λ n. tt) i.name) (some described (λ n. tt) i.descr)) (unread_views i.unread)
 effects_views termination p = All-nil HasViewOfKey
 effects_views (peer_up key u) p = All-cons HasViewOfKey (up key u.info) (unread_effect u.unread) tt (unread_views u.unread)
@@ -84,7 +84,7 @@ by_key (Some key) kind state h rest m next e p = of_peer kind state h key rest m
 has_peer : (kind : MessageType) (state : ReadingState) (body : List ℕ) (m : MessageValue) (next : ReadingState) → HasPeer kind state body m next → HasRoutesOfKey m
 has_peer kind state body m next p = by_key (key_of p.header) kind state p.header _ m next refl p.means
 
-of_type : (kind : MessageType) (state : ReadingState) (body : List ℕ) (m : MessageValue) (next : ReadingState) → OfType kind state body m next → HasRoutesOfKey m
+pub of_type : (kind : MessageType) (state : ReadingState) (body : List ℕ) (m : MessageValue) (next : ReadingState) → OfType kind state body m next → HasRoutesOfKey m
 of_type initiation_message state body m next (i, p, e, a) = subst HasRoutesOfKey (sym e) tt
 of_type termination_message state body m next (p, e, a) = subst HasRoutesOfKey (sym e) tt
 of_type unassigned state body m next (e, a) = subst HasRoutesOfKey (sym e) tt

@@ -48,12 +48,12 @@ at_front bytes frame rest body kind split f =
     let first : get_or bytes 0 0 ≡ 3 = ap (λ (l : List ℕ). get_or l 0 0) split ∙ get_or_append_left frame rest 0 0 (omega (arith, f.header)) ∙ f.version in
     record { right = record { header = omega (arith, f.header); version = first }; range = rw says f.in_range; says = says; here = here }
 
-front_verdict : (bytes frame : List ℕ) → IsAtFront bytes frame → verdict_of bytes ≡ broken Body
+pub front_verdict : (bytes frame : List ℕ) → IsAtFront bytes frame → verdict_of bytes ≡ broken Body
 front_verdict bytes frame f = at_frame (length bytes) (get_or bytes 0 0) (stated bytes) f.right.version f.range.0 f.range.1 (omega (arith, f.says, f.here))
 
 -- a walk reads one list of values, to one place and with one verdict
 module _ {S M : Type 0} (Is : S → ℕ → List ℕ → M → S → Type 0) (one : (s t u : S) (k : ℕ) (b : List ℕ) (m n : M) → Is s k b m t → Is s k b n u → (m ≡ n) × (t ≡ u)) where
-  stop_verdict : (s : S) (bytes : List ℕ) (v : Verdict) → Stops Is s bytes v → verdict_of bytes ≡ v
+  pub stop_verdict : (s : S) (bytes : List ℕ) (v : Verdict) → Stops Is s bytes v → verdict_of bytes ≡ v
   stop_verdict s bytes whole p = ap (λ (l : List ℕ). verdict_of l) p
   stop_verdict s bytes more (some, inl short) = at_short (length bytes) (get_or bytes 0 0) (stated bytes) some short
   stop_verdict s bytes more (some, inr p) = at_more (length bytes) (get_or bytes 0 0) (stated bytes) p.0.header p.0.version p.1.0 p.1.1 p.2

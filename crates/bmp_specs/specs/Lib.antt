@@ -63,3 +63,10 @@ pub mod EscapedText
 pub mod RouteLine
 pub mod ShortenedRun
 pub mod Steps
+pub mod UpdateForms
+pub mod FramedUpdate
+pub mod TreatAsWithdraw
+pub mod ImpliedPeerUp
+pub mod LenientState
+pub mod LenientBody
+pub mod Conservative

@@ -55,3 +55,14 @@ fn adapters_pass_on_what_they_take(rt: HostRuntime) -> Result<(), Fail> {
     assert_eq!(rt; room.as_slice(), b"at 1".as_slice());
     Ok(())
 }
+
+#[test]
+fn a_list_of_bytes_is_cut_back(rt: HostRuntime) -> Result<(), Fail> {
+    let mut bytes = ByteList::new(rt.alloc());
+    bytes.extend(b"end 0\n")?;
+    bytes.truncate(8);
+    assert_eq!(rt; bytes.as_slice(), b"end 0\n".as_slice());
+    bytes.truncate(3);
+    assert_eq!(rt; bytes.as_slice(), b"end".as_slice());
+    Ok(())
+}
