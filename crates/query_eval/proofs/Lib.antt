@@ -1,0 +1,13 @@
+pub mod Leading
+pub mod Keeping
+pub mod Walking
+pub mod RowCursor
+pub mod RowDeciding
+pub mod RowWalk
+pub mod RowLines
+pub mod RowLists
+pub mod RowMembers
+pub mod RowRunLaws
+pub mod RowTellings
+pub mod RowAnswers
+pub mod RowChangeLaws
