@@ -8,12 +8,8 @@ use Rattle.std.proofs.lemmas.List.Sums.{sum_by-append, count_by-le-length}
 use Rattle.bmp_specs.specs.Check.{check_counts, check_lines, length_of, is_message, is_of_kind, is_of_other_kind}
 use Rattle.bmp_specs.specs.Lines.{number_line}
 use Rattle.bmp_specs.specs.Reply.{told_count}
-use Rattle.bmp_specs.specs.Values.{EffectValue, EntryValue, opened, message, closed}
-use Rattle.station_top.specs.Check.{AreCounts, counts_more, lines_of, number_lines}
-use Rattle.rib_model.specs.declared.effect.Effect.{Effect}
-use Rattle.rib_model.specs.declared.entry.Entry.{Entry}
-use Rattle.rib_model.specs.declared.entry.Entry.TheVariants.{Opened, Message, Closed}
-use Rattle.rib_model.specs.Entries.{entry_value}
+use Rattle.bmp_specs.specs.Values.{EffectValue, EntryValue, opened, message}
+use Rattle.station_top.specs.Check.{AreCounts, TellCounts, counts_more, lines_of, number_lines}
 use Rattle.station_top.specs.declared.counts.Counts.{Counts}
 
 -- a count goes on where it stops
@@ -115,24 +111,22 @@ uncounted c entries e none h = let each_one = each c entries h in all c (entries
     of_kind : (k : ℕ) → told_count (count_by (is_of_kind k) entries) ≡ told_count (count_by (is_of_kind k) (entries ++ e ∷ []))
     of_kind k = same (λ m. cond (is_of_kind k m) 1 0) (none.kind k)
 
--- an opening or a closing is counted by none
-pub counts_other : (c : Counts) (entry : Entry) (entries : List EntryValue) → ((kind len : ℕ) (effects : List Effect) → entry ≡ Message kind len effects → ⊥) → AreCounts c entries → AreCounts c (entries ++ entry_value entry ∷ [])
-counts_other c Opened entries none h = uncounted c entries opened (record { bytes = refl; message = refl; kind = λ k. refl; other = refl }) h
-counts_other c (Closed cause) entries none h = uncounted c entries (closed cause) (record { bytes = refl; message = refl; kind = λ k. refl; other = refl }) h
-counts_other c (Message kind len effects) entries none h = absurd (none kind len effects refl)
+-- an opening is counted by none
+pub counts_opened : (c : Counts) → AreCounts c [] → AreCounts c (opened ∷ [])
+counts_opened c h = uncounted c [] opened (record { bytes = refl; message = refl; kind = λ k. refl; other = refl }) h
 
 -- fewer than 2^64 entries and bytes are told as they are
 told_small : (n : ℕ) → n < 2 ^ 64 → told_count n ≡ n
 told_small n h = omega (arith, h)
 
-pub lines_are : (c : Counts) (entries : List EntryValue) → AreCounts c entries → length entries < 2 ^ 64 → sum_by length_of entries < 2 ^ 64 → lines_of c ≡ check_lines entries
-lines_are c entries h few short = ap (λ (lines : List (List ℕ × ℕ)). flat_map (λ line. number_line line.0 line.1) lines) (h.counts ∙ small)
+pub lines_are : (c : Counts) (entries : List EntryValue) → TellCounts c entries → lines_of c ≡ check_lines entries
+lines_are c entries h = ap (λ (lines : List (List ℕ × ℕ)). flat_map (λ line. number_line line.0 line.1) lines) (h.are.counts ∙ small)
   where
     count : (p : EntryValue → Bool) → told_count (count_by p entries) ≡ count_by p entries
-    count p = told_small (count_by p entries) (omega (arith, few, count_by-le-length p entries))
+    count p = told_small (count_by p entries) (omega (arith, h.few, count_by-le-length p entries))
 
     small : map (λ line. (line.0, told_count line.1)) (check_counts entries) ≡ check_counts entries
-    small = cc (count is_message, told_small (sum_by length_of entries) short, count (is_of_kind 0), count (is_of_kind 1), count (is_of_kind 2), count (is_of_kind 3), count (is_of_kind 4), count (is_of_kind 5), count (is_of_kind 6), count is_of_other_kind)
+    small = cc (count is_message, told_small (sum_by length_of entries) h.short, count (is_of_kind 0), count (is_of_kind 1), count (is_of_kind 2), count (is_of_kind 3), count (is_of_kind 4), count (is_of_kind 5), count (is_of_kind 6), count is_of_other_kind)
 
 -- the lines before a place, and the one at it
 pub number_lines_more : (lines : List (Bor (List ℕ) × ℕ)) (i : ℕ) (d : Bor (List ℕ) × ℕ) → i < length lines → number_lines (take (i + 1) lines) ≡ number_lines (take i lines) ++ number_line (get_or lines i d).0.now (get_or lines i d).1

@@ -91,7 +91,7 @@ comes meaning Stands plan a b c d calls taken t e none o shut =
       reading = (λ h. read.0 h.1, λ some. (omega arith, read.1 some));
     }
 
-takes_opened : (meaning : Meaning) (Stands : List EntryValue → Type 0) (a b c d : Aside) (calls0 calls : ℕ) (taken : Taken) → Takes meaning Stands b c calls taken → Opens a b (Ok true) → Closes c d → calls ≡ calls0 → TakesInput meaning Stands a d calls0 taken
+pub takes_opened : (meaning : Meaning) (Stands : List EntryValue → Type 0) (a b c d : Aside) (calls0 calls : ℕ) (taken : Taken) → Takes meaning Stands b c calls taken → Opens a b (Ok true) → Closes c d → calls ≡ calls0 → TakesInput meaning Stands a d calls0 taken
 takes_opened meaning Stands a b c d calls0 calls taken t o shut same = record {
   input = record { bytes = t.bytes; last = t.last };
   messages = t.messages;
@@ -101,10 +101,6 @@ takes_opened meaning Stands a b c d calls0 calls taken t o shut same = record {
   no_further = t.took.no_further;
   shows = λ plan e none. comes meaning Stands plan a b c d calls taken t e (same ∙ none) o shut;
 }
-
-pub takes_opened_ok : (meaning : Meaning) (Stands : List EntryValue → Type 0) (a b c d : Aside) (calls0 calls : ℕ) (result : Result Taken NoMemory) → IfOk result (Takes meaning Stands b c calls) → Opens a b (Ok true) → Closes c d → calls ≡ calls0 → IfOk result (TakesInput meaning Stands a d calls0)
-takes_opened_ok meaning Stands a b c d calls0 calls (Ok taken) t o shut same = takes_opened meaning Stands a b c d calls0 calls taken t o shut same
-takes_opened_ok meaning Stands a b c d calls0 calls (Err e) t o shut same = tt
 
 -- the one input connection was begun, and want of memory came
 has_begun : (meaning : Meaning) (plan : Plan) (a b c d : Aside) (calls : ℕ) (bytes : List ℕ) → TakesBytes meaning b c calls bytes gave → a ≡ untouched plan → calls ≡ 0 → Opens a b (Ok true) → Closes c d → HasBegun meaning plan d
@@ -133,10 +129,8 @@ has_begun meaning plan a b c d calls bytes t e none o shut =
       reading = ap (λ (x : Aside). x.read_faults) shut.same ∙ t.read_faults ∙ o1.calm;
     }
 
-pub breaks_opened : (meaning : Meaning) (a b c d : Aside) (calls0 calls : ℕ) (result : Result Taken NoMemory) → OnErr result ((bytes : List ℕ) × TakesBytes meaning b c calls bytes gave) → Opens a b (Ok true) → Closes c d → calls ≡ calls0
-    → OnErr result ((plan : Plan) → a ≡ untouched plan → calls0 ≡ 0 → BreaksOff meaning plan d)
-breaks_opened meaning a b c d calls0 calls (Ok taken) t o shut same = tt
-breaks_opened meaning a b c d calls0 calls (Err e) t o shut same = λ plan untold none. inr (has_begun meaning plan a b c d calls t.0 t.1 untold (same ∙ none) o shut)
+pub breaks_opened : (meaning : Meaning) (a b c d : Aside) (calls0 calls : ℕ) → (bytes : List ℕ) × TakesBytes meaning b c calls bytes gave → Opens a b (Ok true) → Closes c d → calls ≡ calls0 → (plan : Plan) → a ≡ untouched plan → calls0 ≡ 0 → BreaksOff meaning plan d
+breaks_opened meaning a b c d calls0 calls t o shut same plan untold none = inr (has_begun meaning plan a b c d calls t.0 t.1 untold (same ∙ none) o shut)
 
 -- there was no connection: an empty one that ended
 none_left : (connections : List (List ℕ)) (coming : Option (List (List ℕ))) (rest : Option (List ℕ)) → OpensNext (Some connections) coming rest (Ok false) → (connections ≡ []) × (coming ≡ Some connections)

@@ -1,8 +1,11 @@
 -- What a command comes to, from what its steps say.
-use Rattle.std.proofs.Common.{◌≡◌, ℕ, ◌^◌, ◌<◌, List, [], ◌∷◌, ◌++◌, Option, Some, None, Result, Ok, Err, refl, sym, subst, inl, inr, arith, append-nil}
+use Rattle.std.proofs.Common.{◌≡◌, ℕ, ◌^◌, ◌<◌, ◌≤◌, List, [], ◌∷◌, ◌++◌, Option, Some, None, Result, Ok, Err, refl, sym, ◌∙◌, subst, inl, inr, arith, append-nil}
 use Rattle.std.specs.Prelude.{OnOk, OnErr, sum_by}
 use Rattle.std.specs.Io.KnownBytes.{Appends, Keeps}
 use Rattle.std.proofs.lemmas.List.Sums.{sum_by-cons}
+use Rattle.bmp_specs.specs.declared.causes.Cause.{Cause}
+use Rattle.bmp_specs.specs.declared.causes.Cause.TheVariants as cause
+use Rattle.bmp_specs.specs.declared.causes.Cause.TheVariants.{Ended, Terminated, CutShort, Broken, Full}
 use Rattle.bmp_specs.specs.Check.{length_of}
 use Rattle.bmp_specs.specs.Lines.{stop_line}
 use Rattle.bmp_specs.specs.Meaning.{Meaning}
@@ -15,8 +18,8 @@ use Rattle.wire_io.specs.Faults.{HasCause}
 use Rattle.wire_io.specs.Writes.{Writes}
 use Rattle.wire_io.proofs.Joins.{join, appends_none, keeps_appends}
 use Rattle.station_doors.specs.Doors.{YardValue, HandsOut, TakesBack, one_more, untouched}
-use Rattle.station_top.specs.Account.{RepliesBy}
-use Rattle.station_top.specs.Station.{LendsWhereTold, IsWritten, IsTaken, FromYard, IsReplyTo, refused, replied, starved, commanded, Concludes, Answers}
+use Rattle.query_eval.specs.Replies.{PutsReply}
+use Rattle.station_top.specs.Station.{LendsWhereTold, IsWritten, IsTaken, FromYard, IsReplyTo, IsStopped, refused, replied, starved, unready, commanded, Concludes, Answers, AnswersFault}
 use Rattle.station_top.specs.Status.{status_of}
 use Rattle.station_top.specs.Take.{TakesInput, BreaksOff}
 use Rattle.station_top.specs.Words.{IsCommand}
@@ -50,11 +53,18 @@ pub breaks_off : {P : Type 0} (meaning : Meaning) (shows : P → Aside) (calls :
     → LendsWhereTold (BreaksOff meaning) old new number
 breaks_off meaning shows calls old mid new number port after h breaks back = lends (BreaksOff meaning) shows calls old mid new number port after h breaks back
 
--- the messages of an input have fewer than 2^64 bytes
-short : (Stands : List EntryValue → Type 0) (old new : Option YardValue) (number : ℕ) (taken : Taken) (t : IsTaken strict Stands old new number taken) → sum_by length_of (opened ∷ t.messages) < 2 ^ 64
+-- The messages of an input have fewer than 2^64 bytes, and are fewer than 2^57.
+pub record IsShort (Stands : List EntryValue → Type 0) (old new : Option YardValue) (number : ℕ) (taken : Taken) (t : IsTaken strict Stands old new number taken) : Type 0 where
+  pub bytes : sum_by length_of (opened ∷ t.messages) < 2 ^ 64
+  pub count : taken.revision ≤ 2 ^ 57
+
+pub short : (Stands : List EntryValue → Type 0) (old new : Option YardValue) (number : ℕ) (taken : Taken) (t : IsTaken strict Stands old new number taken) → IsShort Stands old new number taken t
 short Stands old new number taken t =
     let long = walk_lengths no_peers t.input.bytes t.messages t.come.offset t.come.verdict t.come.walk in
-    omega (arith, sum_by-cons length_of opened t.messages, long.bytes, long.within, t.come.within)
+    record {
+      bytes = omega (arith, sum_by-cons length_of opened t.messages, long.bytes, long.within, t.come.within);
+      count = omega (arith, t.count, long.count, long.within, t.come.within);
+    }
 
 module _ {O : Type 0} {faults : O → ℕ} {told : O → Option (List ℕ)} {aside : O → Aside} where
   -- the status is the one that is meant, or a write failed
@@ -73,18 +83,43 @@ module _ {O : Type 0} {faults : O → ℕ} {told : O → Option (List ℕ)} {asi
       whole (Ok v) = grown
       whole (Err d) = tt
 
+  -- a reply and the line of the cause were written
+  pub stopped : (a b : O) (IsReply : List ℕ → Type 0) (cause : Cause) (reply : List ℕ) → IsReply reply → {r : Result (Unit {0}) Failed} → Writes faults told aside a (reply ++ stop_line cause) r b → PutsReply faults told aside (IsStopped IsReply cause) a r b
+  stopped a b IsReply cause reply is w = record { text = reply ++ stop_line cause; is_reply = (reply, is, refl); written = w }
+
   -- the input was taken, and the reply was written
-  pub concludes_replied : (Stands : List EntryValue → Type 0) (Replies : List EntryValue → List ℕ → Type 0) (old new : Option YardValue) (number : ℕ) (taken : Taken) (reply : List ℕ) (a b : O) (r : Result (Unit {0}) Failed) (status : Status) → IsTaken strict Stands old new number taken → RepliesBy Stands Replies taken.revision reply
-      → Writes faults told aside a (reply ++ stop_line taken.cause) r b → OnOk r (status ≡ status_of taken.cause) → OnErr r (status ≡ WriteFault) → Concludes strict Replies old new number (told a) (told b) status
-  concludes_replied Stands Replies old new number taken reply a b r status t replies w fine fault = record {
-    meant = status_of taken.cause;
-    text = reply ++ stop_line taken.cause;
-    runs = replied t.input t.messages taken.cause reply t.come t.no_further (replies (opened ∷ t.messages) t.noted t.count (short Stands old new number taken t)) t.lends;
-    written = is_written a b (reply ++ stop_line taken.cause) r (status_of taken.cause) status w fine fault;
-  }
+  pub concludes_replied : (Stands : List EntryValue → Type 0) (Replies : List EntryValue → List ℕ → Type 0) (old new : Option YardValue) (number : ℕ) (taken : Taken) (t : IsTaken strict Stands old new number taken) (a b : O) (r : Result (Unit {0}) Failed) (status : Status)
+      → PutsReply faults told aside (IsStopped (Replies (opened ∷ t.messages)) taken.cause) a r b → OnOk r (status ≡ status_of taken.cause) → OnErr r (status ≡ WriteFault) → Concludes strict Replies old new number (told a) (told b) status
+  concludes_replied Stands Replies old new number taken t a b r status puts fine fault =
+      let reply = puts.is_reply.0 in
+      let w = subst (λ (text : List ℕ). Writes faults told aside a text r b) puts.is_reply.2 puts.written in
+      record {
+        meant = status_of taken.cause;
+        text = reply ++ stop_line taken.cause;
+        runs = replied t.input t.messages taken.cause reply t.come t.no_further puts.is_reply.1 t.lends;
+        written = is_written a b (reply ++ stop_line taken.cause) r (status_of taken.cause) status w fine fault;
+      }
+
+-- no cause has the status of a failed write
+no_write_fault : (cause : Cause) → status_of cause ≡ WriteFault → ⊥
+no_write_fault Ended is = cc is
+no_write_fault Terminated is = cc is
+no_write_fault (CutShort offset) is = cc is
+no_write_fault (Broken offset why) is = cc is
+no_write_fault (cause.ReadFault offset) is = cc is
+no_write_fault Full is = cc is
+
+-- a write fault is answered exactly where a write failed
+pub answers_write : (cause : Cause) (status : Status) (before now : ℕ) (r : Result (Unit {0}) Failed) → HasCause before now r → OnOk r (status ≡ status_of cause) → OnErr r (status ≡ WriteFault) → AnswersFault before now status WriteFault
+answers_write cause status before now (Ok u) has fine fault = record { rose = λ is. absurd (no_write_fault cause (sym fine ∙ is)); calm = λ _. has.fine }
+answers_write cause status before now (Err e) has fine fault = record { rose = λ _. has.failed; calm = λ other. absurd (other fault) }
+
+-- the input was taken, and there was no memory for what a reply is given from
+pub concludes_unready : (Stands : List EntryValue → Type 0) (Replies : List EntryValue → List ℕ → Type 0) (old new : Option YardValue) (number : ℕ) (taken : Taken) (told : Option (List ℕ)) → IsTaken strict Stands old new number taken → Concludes strict Replies old new number told told NoMemory
+concludes_unready Stands Replies old new number taken told t = record { meant = NoMemory; text = []; runs = unready t.input t.messages taken.cause t.come t.no_further t.lends; written = inl (refl, appends_none told) }
 
 -- the port was refused, or there was no memory: nothing is written
-pub concludes_unread : (meaning : Meaning) (Stands : List EntryValue → Type 0) (Replies : List EntryValue → List ℕ → Type 0) (old new : Option YardValue) (number : ℕ) (told : Option (List ℕ)) (status : Status) → FromYard meaning Stands old new number (Err status) → Concludes meaning Replies old new number told told status
+pub concludes_unread : {A : Type 0} (meaning : Meaning) (Stands : A → List EntryValue → Type 0) (Replies : List EntryValue → List ℕ → Type 0) (old new : Option YardValue) (number : ℕ) (told : Option (List ℕ)) (status : Status) → FromYard meaning Stands old new number (Err status) → Concludes meaning Replies old new number told told status
 concludes_unread meaning Stands Replies old new number told YardFault from = record { meant = YardFault; text = []; runs = refused from; written = inl (refl, appends_none told) }
 concludes_unread meaning Stands Replies old new number told NoMemory from = record { meant = NoMemory; text = []; runs = starved from; written = inl (refl, appends_none told) }
 concludes_unread meaning Stands Replies old new number told Done from = absurd from

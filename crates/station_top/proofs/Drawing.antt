@@ -1,17 +1,30 @@
 -- The entries of a walk, handed to a account one after another.
-use Rattle.std.proofs.Common.{◌≡◌, ℕ, ◌+◌, ◌-◌, ◌^◌, min, List, [], ◌∷◌, ◌++◌, sym, subst, arith, length-append}
+use Rattle.std.proofs.Common.{◌≡◌, ℕ, ◌+◌, ◌-◌, ◌^◌, min, List, [], ◌∷◌, ◌++◌, Option, Some, None, sym, subst, arith, length-append}
 use Rattle.bmp_specs.specs.declared.causes.Why.{Why}
+use Rattle.bmp_specs.specs.declared.causes.Cause.{Cause}
 use Rattle.bmp_specs.specs.declared.causes.Cause.TheVariants.{Terminated, Broken}
 use Rattle.bmp_specs.specs.Values.{EntryValue, opened}
 use Rattle.bmp_specs.specs.Walk.{broken}
 use Rattle.bmp_message.specs.StreamWalk.{WalkValue, HasReached, EndsAt, GoesOn}
-use Rattle.station_top.specs.Account.{HasNoted, HasDrawn, IsDrained, IsEnded}
+use Rattle.station_top.specs.Account.{HasNoted, HasDrawn, IsDrained, IsEnded, Draws}
 use Rattle.bmp_message.specs.declared.walk.Progress.TheVariants as progress
 
 -- one more entry was noted
 noted_more : (Stands Next : List EntryValue → Type 0) (messages : List EntryValue) (e : EntryValue) (revision now : ℕ) → HasNoted Stands messages revision → ((es : List EntryValue) → Stands es → Next (es ++ e ∷ [])) → now ≡ min (revision + 1) (2 ^ 64 - 1)
     → HasNoted Next (messages ++ e ∷ []) now
 noted_more Stands Next messages e revision now n step more = record { noted = step (opened ∷ messages) n.noted; count = omega (arith, n.count, more, length-append messages (e ∷ [])) }
+
+-- who stands for some entries in one sense does so in another
+module _ (Stands Other : List EntryValue → Type 0) (turn : (es : List EntryValue) → Stands es → Other es) (fed : List ℕ) (walk : WalkValue) (revision : ℕ) where
+  noted_as : (messages : List EntryValue) → HasNoted Stands messages revision → HasNoted Other messages revision
+  noted_as messages n = record { noted = turn (opened ∷ messages) n.noted; count = n.count }
+
+  pub drawn_as : HasDrawn Stands fed walk revision → HasDrawn Other fed walk revision
+  drawn_as h = record { messages = h.messages; reached = h.reached; noted = noted_as h.messages h.noted }
+
+  pub draws_as : (end : Option Cause) → Draws Stands fed walk revision end → Draws Other fed walk revision end
+  draws_as None d = record { messages = d.messages; reached = d.reached; walks = d.walks; noted = noted_as d.messages d.noted }
+  draws_as (Some cause) d = record { messages = d.messages; ends = d.ends; noted = noted_as d.messages d.noted }
 
 module _ (Stands : List EntryValue → Type 0) (fed : List ℕ) (walk : WalkValue) (revision : ℕ) (h : HasDrawn Stands fed walk revision) (new : WalkValue) {T : Type 0} (IsOf : T → EntryValue → Type 0) where
   pub draws_entry : (Next : List EntryValue → Type 0) (item : T) (now : ℕ) → ((given : List EntryValue) → HasReached fed given walk → GoesOn IsOf fed given new (progress.Message item))

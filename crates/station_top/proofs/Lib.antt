@@ -5,14 +5,7 @@ pub mod Drawing
 pub mod Taking
 pub mod Coming
 pub mod CheckCounts
+pub mod Replaying
 pub mod Concluding
-pub mod RouteKeyOrder
-pub mod MapSteps
-pub mod RowSteps
-pub mod EntrySteps
 pub mod Joining
 pub mod Commands
-pub mod Selecting
-pub mod TableRows
-pub mod Telling
-pub mod Counting

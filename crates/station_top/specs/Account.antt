@@ -1,19 +1,13 @@
 -- What the entries of the input go to, one after another.
-use Rattle.std.specs.Prelude.{◌≡◌, ℕ, ◌^◌, ◌<◌, List, ◌∷◌, length, sum_by, Option, Some, None}
+use Rattle.std.specs.Prelude.{◌≡◌, ℕ, List, ◌∷◌, length, Option, Some, None}
 use Rattle.bmp_specs.specs.declared.causes.Cause.{Cause}
 use Rattle.bmp_specs.specs.declared.causes.Cause.TheVariants as cause
-use Rattle.bmp_specs.specs.Check.{length_of}
 use Rattle.bmp_specs.specs.Meaning.{WalksBy}
 use Rattle.bmp_specs.specs.MessageEffects.{strict}
 use Rattle.bmp_specs.specs.Reply.{told_count}
 use Rattle.bmp_specs.specs.Values.{EntryValue, opened}
 use Rattle.bmp_specs.specs.Walk.{terminated, broken}
 use Rattle.bmp_message.specs.StreamWalk.{WalkValue, HasReached, EndsAt, rest_of, verdict_with}
-
--- The text is the reply on the entries that the account stands for, where this is their number, and fewer than 2^64
--- bytes came.
-abbrev pub RepliesBy : (List EntryValue → Type 0) → (List EntryValue → List ℕ → Type 0) → ℕ → List ℕ → Type 0
-RepliesBy Stands Replies revision text = (entries : List EntryValue) → Stands entries → revision ≡ length entries → sum_by length_of entries < 2 ^ 64 → Replies entries text
 
 -- the account stands for the opening and these messages, so many entries
 pub record HasNoted (Stands : List EntryValue → Type 0) (messages : List EntryValue) (revision : ℕ) : Type 0 where

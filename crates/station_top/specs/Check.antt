@@ -1,7 +1,7 @@
 -- The counts of `check`.
-use Rattle.std.specs.Prelude.{◌≡◌, ℕ, List, [], ◌∷◌, ◌==◌, nat_lt, Bool, if◌then◌else◌, ◌+◌, codes, map, flat_map}
+use Rattle.std.specs.Prelude.{◌≡◌, ℕ, List, [], ◌∷◌, ◌==◌, ◌<◌, ◌^◌, nat_lt, Bool, if◌then◌else◌, ◌+◌, codes, length, map, flat_map, sum_by}
 use Rattle.std.specs.Borrow.{Bor}
-use Rattle.bmp_specs.specs.Check.{check_counts}
+use Rattle.bmp_specs.specs.Check.{check_counts, length_of}
 use Rattle.bmp_specs.specs.Lines.{number_line}
 use Rattle.bmp_specs.specs.Reply.{told_count}
 use Rattle.bmp_specs.specs.Values.{EntryValue}
@@ -44,6 +44,12 @@ count_lines c =
 -- they are the counts of these entries, each at most the greatest number of 64 bits
 pub record AreCounts (c : Counts) (entries : List EntryValue) : Type 0 where
   pub counts : count_lines c ≡ map (λ line. (line.0, told_count line.1)) (check_counts entries)
+
+-- they are the counts of these entries, which are few enough that each is told as it is
+pub record TellCounts (c : Counts) (entries : List EntryValue) : Type 0 where
+  pub are : AreCounts c entries
+  pub few : length entries < 2 ^ 64
+  pub short : sum_by length_of entries < 2 ^ 64
 
 -- the ten lines
 abbrev pub lines_of : Counts → List ℕ

@@ -6,12 +6,13 @@ use Rattle.bmp_specs.specs.Check.{check_lines}
 use Rattle.bmp_specs.specs.Lines.{stop_line, usage_line}
 use Rattle.bmp_specs.specs.Life.{IsReadNoFurther}
 use Rattle.bmp_specs.specs.Meaning.{Meaning}
-use Rattle.bmp_specs.specs.Query.{table}
-use Rattle.bmp_specs.specs.QueryReply as query
+use Rattle.bmp_specs.specs.Query.{quit}
+use Rattle.bmp_specs.specs.QueryReply.{IsReply}
 use Rattle.bmp_specs.specs.Values.{EntryValue, opened}
 use Rattle.wire_io.specs.Aside.{Aside, Given, Plan}
 use Rattle.wire_io.specs.Faults.{Rose}
 use Rattle.wire_io.specs.Writes.{AppendsFront}
+use Rattle.query_lang.specs.Queries.{query_value}
 use Rattle.station_doors.specs.Doors.{YardValue, one_more}
 use Rattle.station_top.specs.Input.{HasCome}
 use Rattle.station_top.specs.Take.{BreaksOff, Comes}
@@ -21,12 +22,21 @@ use Rattle.station_top.specs.declared.status.Status.{Status}
 use Rattle.station_top.specs.declared.status.Status.TheVariants.{Done, Stopped, Usage, ReadFault, WriteFault, NoMemory, YardFault}
 use Rattle.station_top.specs.declared.take.Taken.{Taken}
 use Rattle.station_top.specs.declared.words.Command.{Command}
-use Rattle.station_top.specs.declared.words.Command.TheVariants.{ReplayTable, Check}
+use Rattle.station_top.specs.declared.words.Command.TheVariants.{Replay, Check}
 
 -- the bytes are the reply of a command on these entries
 abbrev pub IsReplyTo : Command → List EntryValue → List ℕ → Type 0
-IsReplyTo (ReplayTable select) entries bytes = query.IsReply (table select) (entries ∷ []) bytes
+IsReplyTo (Replay query) entries bytes = IsReply (query_value query) (entries ∷ []) bytes
 IsReplyTo Check entries bytes = bytes ≡ check_lines entries
+
+-- the command is asked with something that has a reply
+abbrev pub MayAsk : Command → Type 0
+MayAsk (Replay query) = query_value query ≢ quit
+MayAsk Check = Unit {0}
+
+-- the bytes are a reply, and then the line of the cause
+abbrev pub IsStopped : (List ℕ → Type 0) → Cause → List ℕ → Type 0
+IsStopped IsReply cause bytes = (reply : List ℕ) × IsReply reply × (bytes ≡ reply ++ stop_line cause)
 
 -- The yard, whose plan doesn't fail the call of this number, handed out the first port that waits under the number 0,
 -- and took it back: what it showed then stands in this relation to its plan.
@@ -61,6 +71,9 @@ pub data Runs (meaning : Meaning) (Replies : List EntryValue → List ℕ → Ty
   -- want of memory while the input was taken: nothing is written, and the port is given back, with what it gave until
   -- then
   starved : LendsWhereTold (BreaksOff meaning) old new number → Runs meaning Replies old new number NoMemory []
+  -- want of memory once the input was taken: nothing is written, and the port is given back
+  unready : (input : Given) (messages : List EntryValue) (cause : Cause) → HasCome meaning input messages cause → IsReadNoFurther meaning input.bytes
+      → LendsWhereTold (λ plan shows. Comes meaning plan shows input messages cause) old new number → Runs meaning Replies old new number NoMemory []
 
 -- What a call comes to by its words and the yard, before anything is written: how many calls of the yard were made
 -- then, the status that is meant, and the text.
@@ -106,8 +119,8 @@ pub record IsTaken (meaning : Meaning) (Stands : List EntryValue → Type 0) (ol
   pub no_further : IsReadNoFurther meaning input.bytes
   pub lends : LendsWhereTold (λ plan shows. Comes meaning plan shows input messages taken.cause) old new number
 
-abbrev pub FromYard : Meaning → (List EntryValue → Type 0) → Option YardValue → Option YardValue → ℕ → Result Taken Status → Type 0
-FromYard meaning Stands old new number (Ok taken) = IsTaken meaning Stands old new number taken
+abbrev pub FromYard : {A : Type 0} → Meaning → (A → List EntryValue → Type 0) → Option YardValue → Option YardValue → ℕ → Result (A × Taken) Status → Type 0
+FromYard meaning Stands old new number (Ok (account, taken)) = IsTaken meaning (Stands account) old new number taken
 FromYard meaning Stands old new number (Err YardFault) = Refuses old new number
 FromYard meaning Stands old new number (Err NoMemory) = LendsWhereTold (BreaksOff meaning) old new number
 FromYard meaning Stands old new number (Err Done) = ⊥

@@ -1,41 +1,66 @@
-ghost use Rattle.std.specs.Prelude.{◌≡◌, ℕ, ◌∷◌, [], ◌++◌, List, OnOk};
-ghost use Rattle.bmp_specs.specs.Values.{EntryValue};
-ghost use Rattle.rib_model.specs.Entries.{entry_value};
-ghost use Rattle.wire_io.specs.Writes.{Writes};
-ghost use Rattle.station_top.specs.Account.{RepliesBy};
+ghost use Rattle.std.specs.Prelude.{◌≡◌, ℕ, ◌∷◌, [], ◌++◌, ◌<◌, ◌≤◌, ◌^◌, List, IfOk, OnOk, length, sum_by};
+ghost use Rattle.bmp_specs.specs.Check.{length_of};
+ghost use Rattle.bmp_specs.specs.Values.{EntryValue, opened};
+ghost use Rattle.query_eval.specs.Replies.{PutsReply};
 
 use bmp_message::Reads;
-use rib_model::Entry;
+use std::alloc::Global;
 use wire_io::{Failed, NoMemory, Sink};
 
-/// An account of the entries of the input, which takes them one after another and gives a command's reply on
-/// them.
-pub trait Account {
+/// What a command replies from, once the input was taken.
+pub trait Replies {
     /// What a reply is asked for with.
     type Ask;
 
-    /// What it wants of each message.
-    type Wants: Reads;
-
-    /// It stands for these entries.
-    ghost stands: { Self → List EntryValue → Type 0 };
+    /// It tells of these entries.
+    ghost tells: { Self → List EntryValue → Type 0 };
 
     /// The bytes are the reply on these entries, so asked for.
     ghost replies: { Self.Ask → List EntryValue → List ℕ → Type 0 };
 
-    /// What it replies with this revision, so asked.
-    ghost text: { Self.Ask → ℕ → Self → List ℕ };
+    /// It may be asked so.
+    ghost may_ask: { Self.Ask → Type 0 };
 
-    /// Takes the next entry. After want of memory it stands for nothing.
-    fn note(&mut self, entry: &Entry) -> Result<(), NoMemory>
-        ensures { OnOk result ((entries : List EntryValue) → stands self.old entries → stands self.new (entries ++ entry_value entry.now ∷ [])) };
+    /// Writes the reply.
+    fn put_reply<O: Sink>(&self, out: &mut O, ask: &Self::Ask) -> Result<(), Failed>
+        requires { may_ask ask.now }
+        ensures { (entries : List EntryValue) → tells self.now entries → PutsReply O.faults O.told O.aside (replies ask.now entries) out.old result out.new };
+}
 
-    /// Takes what was made of the next message. After want of memory it stands for nothing.
-    fn take(&mut self, item: <Self::Wants as Reads>::Item) -> Result<(), NoMemory>
-        ensures { OnOk result ((entry : EntryValue) → Self.Wants.is_of item entry → (entries : List EntryValue) → stands self.old entries → stands self.new (entries ++ entry ∷ [])) };
+/// An account of the entries of the input, which takes them one after another.
+pub trait Account {
+    /// What it wants of each message.
+    type Wants: Reads;
 
-    /// Writes the reply. The revision is the number of entries.
-    fn put_reply<O: Sink>(&self, out: &mut O, ask: &Self::Ask, revision: u64) -> Result<(), Failed>
-        ensures writes { Writes O.faults O.told O.aside out.old (text ask.now revision self.now) result out.new }
-        ensures reply { RepliesBy (stands self.now) (replies ask.now) revision (text ask.now revision self.now) };
+    /// What it comes to.
+    type Told: Replies + Drop;
+
+    /// It stands for these entries, with those that were only gathered.
+    ghost gathers: { Self → List EntryValue → Type 0 };
+
+    /// It stands for these entries.
+    ghost stands: { Self → List EntryValue → Type 0 };
+
+    ghost none_gathered: { (self : Self) (entries : List EntryValue) → stands self entries → gathers self entries };
+
+    /// The account of an opening.
+    fn begin(alloc: Global) -> Result<Self, NoMemory>
+    where
+        Self: Sized,
+        ensures { IfOk result (λ account. stands account (opened ∷ [])) };
+
+    /// Gathers what was made of the next message. After want of memory the account may only be dropped.
+    fn gather(&mut self, item: <Self::Wants as Reads>::Item) -> Result<(), NoMemory>
+        ensures { OnOk result ((entry : EntryValue) → Self.Wants.is_of item entry → (entries : List EntryValue) → gathers self.old entries → gathers self.new (entries ++ entry ∷ [])) };
+
+    /// Takes what was gathered. After want of memory the account may only be dropped.
+    fn settle(&mut self) -> Result<(), NoMemory>
+        ensures { OnOk result ((entries : List EntryValue) → gathers self.old entries → stands self.new entries) };
+
+    /// What the account comes to. The revision is the number of entries.
+    fn ready(self, alloc: Global, revision: u64) -> Result<Self::Told, NoMemory>
+    where
+        Self: Sized,
+        requires { revision ≤ 2 ^ 57 }
+        ensures { IfOk result (λ told. (entries : List EntryValue) → stands self entries → revision ≡ length entries → sum_by length_of entries < 2 ^ 64 → Self.Told.tells told entries) };
 }

@@ -5,16 +5,16 @@ ghost use Rattle.bmp_specs.specs.Registries.{first_row, message_types};
 ghost use Rattle.bmp_specs.specs.Values.{EntryValue};
 ghost use Rattle.wire_io.specs.Writes.{Writes};
 ghost use Rattle.wire_tables.specs.Table.{row_values};
-ghost use Rattle.station_top.specs.Check.{AreCounts, counted, counts_more, number_lines};
+ghost use Rattle.station_top.specs.Check.{AreCounts, counted, counts_more, lines_of, number_lines};
 
-use crate::account::Account;
+use crate::account::{Account, Replies};
 use bmp_frames::{
     INITIATION, PEER_DOWN, PEER_UP, ROUTE_MIRRORING, ROUTE_MONITORING, STATISTICS_REPORT,
     TERMINATION,
 };
 use bmp_message::{Judged, Judgements};
 use itoa::Buffer;
-use rib_model::Entry;
+use std::alloc::Global;
 use wire_io::{Failed, NoMemory, Sink, write_pieces};
 use wire_tables::{CodeTable, message_table};
 
@@ -68,40 +68,11 @@ impl Counts {
         self.route_mirroring = add_where(self.route_mirroring, kind == ROUTE_MIRRORING);
         self.other = add_where(self.other, ROUTE_MIRRORING < kind);
     }
-}
 
-impl Account for Counts {
-    ghost use Rattle.bmp_specs.specs.Check.{check_lines};
-    ghost use Rattle.std.specs.Prelude.{◌≡◌};
-    ghost use Rattle.wire_tables.specs.Table.{row_values};
-    ghost use Rattle.station_top.specs.Check.{AreCounts, lines_of};
-
-    // all ten counts are told
-    type Ask = ();
-
-    type Wants = Judgements;
-
-    ghost stands = { AreCounts };
-
-    ghost replies = { λ _ entries bytes. bytes ≡ check_lines entries };
-
-    ghost text = { λ _ revision counts. lines_of counts };
-
-    fn note(&mut self, entry: &Entry) -> Result<(), NoMemory> {
-        if let Entry::Message { kind, length, .. } = entry {
-            self.count(*kind, *length);
-        }
-        Ok(())
-    }
-
-    // The effects of a message aren't made, since no count needs them.
-    fn take(&mut self, item: Judged) -> Result<(), NoMemory> {
-        self.count(item.kind, item.length);
-        Ok(())
-    }
-
-    fn put_reply<O: Sink>(&self, out: &mut O, _ask: &(), revision: u64) -> Result<(), Failed> {
-        let _ = revision;
+    // Writes the ten lines.
+    fn put_lines<O: Sink>(&self, out: &mut O) -> Result<(), Failed>
+        ensures { Writes O.faults O.told O.aside out.old (lines_of self.now) result out.new }
+    {
         let types = message_table();
         put_numbers(
             out,
@@ -118,6 +89,60 @@ impl Account for Counts {
                 (b"other", self.other),
             ],
         )
+    }
+}
+
+impl Account for Counts {
+    ghost use Rattle.station_top.specs.Check.{AreCounts};
+
+    type Wants = Judgements;
+
+    type Told = Counts;
+
+    ghost gathers = { AreCounts };
+
+    ghost stands = { AreCounts };
+
+    ghost none_gathered = { λ _ _ counts. counts };
+
+    // An opening isn't counted.
+    fn begin(alloc: Global) -> Result<Counts, NoMemory> {
+        let _ = alloc;
+        Ok(Counts::new())
+    }
+
+    // The effects of a message aren't made, since no count needs them.
+    fn gather(&mut self, item: Judged) -> Result<(), NoMemory> {
+        self.count(item.kind, item.length);
+        Ok(())
+    }
+
+    fn settle(&mut self) -> Result<(), NoMemory> {
+        Ok(())
+    }
+
+    fn ready(self, alloc: Global, revision: u64) -> Result<Counts, NoMemory> {
+        let _ = (alloc, revision);
+        Ok(self)
+    }
+}
+
+impl Replies for Counts {
+    ghost use Rattle.bmp_specs.specs.Check.{check_lines};
+    ghost use Rattle.std.specs.Prelude.{◌≡◌, ⊤};
+    ghost use Rattle.station_top.specs.Check.{TellCounts};
+
+    // all ten counts are told
+    type Ask = ();
+
+    ghost tells = { TellCounts };
+
+    ghost replies = { λ _ entries bytes. bytes ≡ check_lines entries };
+
+    ghost may_ask = { λ _. ⊤ };
+
+    fn put_reply<O: Sink>(&self, out: &mut O, _ask: &()) -> Result<(), Failed> {
+        self.put_lines(out)
     }
 }
 

@@ -1,9 +1,8 @@
 //! The station itself: words and connections in, a reply and a status out.
 //!
 //! `station` is the top call: the program hands it its words, the yard and standard output, and ends with
-//! the status that it answers. It answers two commands: `replay` with a query `table`, the routes that a
-//! router's stream leaves in its tables, all or those that selectors keep, and `check`, how many messages of
-//! each type it has.
+//! the status that it answers. It answers two commands: `replay` with a query, its reply on what a router's
+//! stream leaves in its tables, and `check`, how many messages of each type the stream has.
 //!
 //! Proved: which status comes, by the words and by what a yard in memory tells; which bytes were written,
 //! by the walk of the bytes that were taken, in whatever pieces they came; that a write fault and a yard's
@@ -14,11 +13,8 @@
 
 mod account;
 mod counts;
-mod put_table;
-mod route_key;
-mod selection;
+mod replay;
 mod status;
-mod tables;
 mod take;
 mod top;
 mod words;
@@ -26,6 +22,7 @@ mod words;
 pub use status::Status;
 pub use take::{MOST_READ, MOST_TAKEN};
 pub use top::station;
+pub use words::{Command, WordsFault, read_words};
 
 #[cfg(test)]
 mod tests;

@@ -11,7 +11,6 @@ ghost use Rattle.station_top.specs.Take.{IsNew, Takes, TakesBytes, TakesInput, B
 use crate::account::Account;
 use bmp_message::{Progress, StreamWalk};
 use bmp_specs::Cause;
-use rib_model::Entry;
 use station_doors::Port;
 use std::alloc::Global;
 use wire_io::NoMemory;
@@ -29,27 +28,28 @@ pub struct Taken {
     pub revision: u64,
 }
 
-// Takes the one input connection of a port, and closes it. Where there is none it is an empty one. The account takes
-// its opening and its messages. After want of memory the port shows what it gave until then: a front of its first
-// connection, or nothing.
-pub fn take_input<P: Port, A: Account>(
+// Takes the one input connection of a port into an account, and closes it. Where there is none it is an empty one. The
+// account takes its opening and its messages. After want of memory the port shows what it gave until then: a front of
+// its first connection, or nothing.
+pub fn take_input<P: Port, A: Account + Drop>(
     alloc: Global,
     port: &mut P,
-    account: &mut A,
-) -> Result<Taken, NoMemory>
-    requires { A.stands account.old [] }
-    ensures takes { IfOk result (TakesInput strict (A.stands account.new) (P.aside port.old) (P.aside port.new) (P.calls port.old)) }
+) -> Result<(A, Taken), NoMemory>
+    ensures takes { IfOk result (λ r. TakesInput strict (A.stands r.0) (P.aside port.old) (P.aside port.new) (P.calls port.old) r.1) }
     ensures breaks { OnErr result ((plan : Plan) → P.aside port.old ≡ untouched plan → P.calls port.old ≡ 0 → BreaksOff strict plan (P.aside port.new)) }
 {
-    account.note(&Entry::Opened)?;
+    let mut account = A::begin(alloc)?;
     match port.next_connection() {
         Ok(true) => {
-            let taken = take_bytes(alloc, port, account);
+            let taken = take_bytes(alloc, port, &mut account);
             port.close();
-            taken
+            match taken {
+                Ok(taken) => Ok((account, taken)),
+                Err(fault) => Err(fault),
+            }
         }
-        Ok(false) => Ok(untaken(Cause::Ended)),
-        Err(_) => Ok(untaken(Cause::ReadFault { offset: 0 })),
+        Ok(false) => Ok((account, untaken(Cause::Ended))),
+        Err(_) => Ok((account, untaken(Cause::ReadFault { offset: 0 }))),
     }
 }
 
@@ -116,19 +116,19 @@ fn at_end(walk: &StreamWalk) -> Cause
     }
 }
 
-// Lets the account take all whole messages and counts them, and tells the cause where the walk ends.
-fn drain<A: Account>(
+// Lets the account gather all whole messages and counts them, and tells the cause where the walk ends.
+fn gather_all<A: Account>(
     walk: &mut StreamWalk,
     account: &mut A,
     revision: &mut u64,
 ) -> Result<Option<Cause>, NoMemory>
-    ensures draws { IfOk result (λ end. (fed : List ℕ) → HasDrawn (A.stands account.old) fed walk.old revision.old → Draws (A.stands account.new) fed walk.new revision.new end) }
+    ensures draws { IfOk result (λ end. (fed : List ℕ) → HasDrawn (A.gathers account.old) fed walk.old revision.old → Draws (A.gathers account.new) fed walk.new revision.new end) }
     ensures fed { IfOk result (λ end. fed_of walk.new ≡ fed_of walk.old) }
 {
     loop {
         match walk.next::<A::Wants>()? {
             Progress::Message(item) => {
-                account.take(item)?;
+                account.gather(item)?;
                 *revision = revision.saturating_add(1);
             }
             Progress::More => return Ok(None),
@@ -139,4 +139,18 @@ fn drain<A: Account>(
             })),
         }
     }
+}
+
+// Lets the account take all whole messages, as many as there are in one go, and tells the cause where the walk ends.
+fn drain<A: Account>(
+    walk: &mut StreamWalk,
+    account: &mut A,
+    revision: &mut u64,
+) -> Result<Option<Cause>, NoMemory>
+    ensures draws { IfOk result (λ end. (fed : List ℕ) → HasDrawn (A.stands account.old) fed walk.old revision.old → Draws (A.stands account.new) fed walk.new revision.new end) }
+    ensures fed { IfOk result (λ end. fed_of walk.new ≡ fed_of walk.old) }
+{
+    let end = gather_all(walk, account, revision)?;
+    account.settle()?;
+    Ok(end)
 }

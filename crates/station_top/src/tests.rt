@@ -41,20 +41,6 @@ const NO_STATISTICS: &str =
 const PEER_DOWN: &str =
     "03000000310200000000000000000000000000000000000000000000c00002010000fbf4c0000201000000000000000004";
 
-// A Loc-RIB, with the table name `global`, and its routes.
-const LOC_RIB_UP: &str =
-    "03000000a40303800000000000000000000000000000000000000000000000000000fbf0c00002fe00000000000000000000000000000000000000000000000000000000ffffffffffffffffffffffffffffffff002b0104fbf000b4c00002fe0e020c01040001000141040000fbf0ffffffffffffffffffffffffffffffff002b0104fbf000b4c00002fe0e020c01040001000141040000fbf000030006676c6f62616c";
-
-const LOC_RIB_ROUTES: &str =
-    "03000000600003800000000000000000000000000000000000000000000000000000fbf0c00002fe0000000000000000ffffffffffffffffffffffffffffffff003002000000144001010040020602010000fbf4400304c0000201080a100a01";
-
-// A peer of the same address as the first, behind the distinguisher 1, and its routes.
-const RD_PEER_UP: &str =
-    "030000009a0301000000000000000001000000000000000000000000c00002010000fbf4c00002010000000000000000000000000000000000000000c00002fe00b3c350ffffffffffffffffffffffffffffffff002b0104fbf000b4c00002fe0e020c01040001000141040000fbf0ffffffffffffffffffffffffffffffff002b0104fbf400b4c00002010e020c01040001000141040000fbf4";
-
-const RD_ROUTES: &str =
-    "03000000600001000000000000000001000000000000000000000000c00002010000fbf4c00002010000000000000000ffffffffffffffffffffffffffffffff003002000000144001010040020602010000fbf4400304c0000201080a100a01";
-
 const TERMINATION: &str = "030000000c05000100020000";
 
 const TWO_ROWS: &str =
@@ -62,12 +48,6 @@ const TWO_ROWS: &str =
 
 const TWO_IPV6_ROWS: &str =
     "route 0 0-0000000000000000-192.0.2.1 adj-in-pre ::/0 next=2001:db8::1,fe80::1 origin=igp path=64500 med=- pref=- atomic=no agg=- comm=- other=-\nroute 0 0-0000000000000000-192.0.2.1 adj-in-pre 2001:db8::/32 next=2001:db8::1,fe80::1 origin=igp path=64500 med=- pref=- atomic=no agg=- comm=- other=-\n";
-
-const TWO_LOC_RIB_ROWS: &str =
-    "route 0 3-0000000000000000-0.0.0.0 loc 10.0.0.0/8 next=192.0.2.1 origin=igp path=64500 med=- pref=- atomic=no agg=- comm=- other=-\nroute 0 3-0000000000000000-0.0.0.0 loc 10.1.0.0/16 next=192.0.2.1 origin=igp path=64500 med=- pref=- atomic=no agg=- comm=- other=-\n";
-
-const TWO_RD_ROWS: &str =
-    "route 0 1-0000000000000001-192.0.2.1 adj-in-pre 10.0.0.0/8 next=192.0.2.1 origin=igp path=64500 med=- pref=- atomic=no agg=- comm=- other=-\nroute 0 1-0000000000000001-192.0.2.1 adj-in-pre 10.1.0.0/16 next=192.0.2.1 origin=igp path=64500 med=- pref=- atomic=no agg=- comm=- other=-\n";
 
 const USAGE: &str =
     "usage: bmpstation replay QUERY, check, serve OPTIONS, or drill SEED LANES MESSAGES\n";
@@ -152,7 +132,7 @@ fn joined(alloc: Global, texts: &[&str]) -> Result<ByteList, NoMemory> {
 fn streams_have_their_replies(rt: HostRuntime) -> Result<(), Fail> {
     let alloc = rt.alloc();
     // the words and the stream; the status and what is written
-    let table: [(&str, &[&str], u8, &[&str]); 14] = [
+    let table: [(&str, &[&str], u8, &[&str]); 16] = [
         ("replay table", &[], 0, &["at 1\nend 0\nstop ended\n"]),
         (
             "replay table",
@@ -161,18 +141,31 @@ fn streams_have_their_replies(rt: HostRuntime) -> Result<(), Fail> {
             &["at 6\n", TWO_ROWS, "end 2\nstop ended\n"],
         ),
         (
-            "replay table",
+            "replay table view adj-in-pre family 6",
             &[PEER_UP, ROUTES, IPV6_ROUTES],
             0,
-            &["at 4\n", TWO_ROWS, TWO_IPV6_ROWS, "end 4\nstop ended\n"],
+            &["at 4\n", TWO_IPV6_ROWS, "end 2\nstop ended\n"],
         ),
+        (
+            "replay within 10.0.0.0/7",
+            &[PEER_UP, ROUTES, IPV6_ROUTES],
+            0,
+            &["at 4\n", TWO_ROWS, "end 2\nstop ended\n"],
+        ),
+        (
+            "replay count router 1",
+            &[PEER_UP, ROUTES],
+            0,
+            &["at 3\ncount 0\nend 1\nstop ended\n"],
+        ),
+        ("replay count", &[PEER_UP, ROUTES], 0, &["at 3\ncount 2\nend 1\nstop ended\n"]),
+        ("replay cut", &[PEER_UP, ROUTES], 0, &["at 3\nlane 0 3\nend 1\nstop ended\n"]),
         (
             "replay table",
             &[PEER_UP, ROUTES, PEER_DOWN],
             0,
             &["at 4\nend 0\nstop ended\n"],
         ),
-        ("replay table", &[ROUTES], 0, &["at 2\nend 0\nstop ended\n"]),
         (
             "replay table",
             &["040000000604"],
@@ -194,14 +187,6 @@ fn streams_have_their_replies(rt: HostRuntime) -> Result<(), Fail> {
         (
             "check",
             &["0300000006c8", "030000000504"],
-            1,
-            &[
-                "messages 1\nbytes 6\nroute-monitoring 0\nstatistics-report 0\npeer-down 0\npeer-up 0\ninitiation 0\ntermination 0\nroute-mirroring 0\nother 1\nstop broken 6 length\n",
-            ],
-        ),
-        (
-            "check",
-            &["0300000006c8", "030010000104"],
             1,
             &[
                 "messages 1\nbytes 6\nroute-monitoring 0\nstatistics-report 0\npeer-down 0\npeer-up 0\ninitiation 0\ntermination 0\nroute-mirroring 0\nother 1\nstop broken 6 length\n",
@@ -258,153 +243,63 @@ fn streams_have_their_replies(rt: HostRuntime) -> Result<(), Fail> {
 fn failing_devices_and_words_that_are_no_command(rt: HostRuntime) -> Result<(), Fail> {
     let alloc = rt.alloc();
     // the words and the stream; the reads, calls of the yard and writes that fail; the status and what is written
-    let table: [(&str, &str, [&[u64]; 3], u8, &str); 11] = [
+    let table: [(&[&str], &str, [&[u64]; 3], u8, &str); 15] = [
         (
-            "replay table",
+            &["replay", "table"],
             "",
             [&[0], &[], &[]],
             3,
             "at 1\nend 0\nstop readfault 0\n",
         ),
         (
-            "replay table",
+            &["replay", "table"],
             INITIATION,
             [&[2], &[], &[]],
             3,
             "at 1\nend 0\nstop readfault 2\n",
         ),
         (
-            "replay table",
+            &["replay", "table"],
             INITIATION,
             [&[5], &[], &[]],
             3,
             "at 2\nend 0\nstop readfault 20\n",
         ),
-        ("replay table", INITIATION, [&[], &[0], &[]], 6, ""),
-        ("replay table", INITIATION, [&[], &[], &[0]], 4, ""),
+        (&["replay", "table"], INITIATION, [&[], &[0], &[]], 6, ""),
+        (&["replay", "table"], INITIATION, [&[], &[], &[0]], 4, ""),
         (
-            "replay table",
+            &["replay", "table view", "loc"],
             INITIATION,
             [&[], &[], &[1]],
             0,
             "at 2\nend 0\nstop ended\n",
         ),
-        ("replay quit", "", [&[], &[], &[]], 2, USAGE),
-        ("replay count", "", [&[], &[], &[]], 2, USAGE),
-        ("replay", "", [&[], &[], &[]], 2, USAGE),
-        ("check table", "", [&[], &[], &[]], 2, USAGE),
-        ("", "", [&[], &[], &[0]], 4, ""),
-    ];
-    for (text, bytes, fails, code, want) in table {
-        let (status, taken) = shown(alloc, words(alloc, text)?.as_slice(), &[bytes], fails)?;
-        assert_eq!(rt; status, code);
-        assert_eq!(rt; taken.as_slice(), want.as_bytes());
-    }
-    Ok(())
-}
-
-#[test]
-fn selectors_keep_rows(rt: HostRuntime) -> Result<(), Fail> {
-    let alloc = rt.alloc();
-    let bytes: [&str; 8] = [
-        PEER_UP,
-        LOC_RIB_UP,
-        RD_PEER_UP,
-        IPV6_ROUTES,
-        LOC_RIB_ROUTES,
-        RD_ROUTES,
-        ROUTES,
-        STATISTICS,
-    ];
-    // the words; the status and what is written
-    let table: [(&[&str], u8, &[&str]); 15] = [
-        (
-            &["replay", "table"],
-            0,
-            &[
-                "at 9\n",
-                TWO_ROWS,
-                TWO_IPV6_ROWS,
-                TWO_RD_ROWS,
-                TWO_LOC_RIB_ROWS,
-                "end 8\nstop ended\n",
-            ],
-        ),
-        (
-            &["replay", "table", "view", "loc"],
-            0,
-            &["at 9\n", TWO_LOC_RIB_ROWS, "end 2\nstop ended\n"],
-        ),
-        (
-            &["replay", "table view loc"],
-            0,
-            &["at 9\n", TWO_LOC_RIB_ROWS, "end 2\nstop ended\n"],
-        ),
-        (
-            &[
-                "replay",
-                "table router",
-                "0 peer",
-                "0-0000000000000000-192.0.2.1 view adj-in-pre family",
-                "4",
-            ],
-            0,
-            &["at 9\n", TWO_ROWS, "end 2\nstop ended\n"],
-        ),
-        (
-            &["replay", "table", "peer", "1-0000000000000001-192.0.2.1"],
-            0,
-            &["at 9\n", TWO_RD_ROWS, "end 2\nstop ended\n"],
-        ),
-        (
-            &["replay", "table", "peer", "0-0000000000000000-192.0.2.9"],
-            0,
-            &["at 9\nend 0\nstop ended\n"],
-        ),
-        (
-            &["replay", "table", "family", "6"],
-            0,
-            &["at 9\n", TWO_IPV6_ROWS, "end 2\nstop ended\n"],
-        ),
-        (
-            &["replay", "table", "view", "adj-in-pre", "family", "4"],
-            0,
-            &["at 9\n", TWO_ROWS, TWO_RD_ROWS, "end 4\nstop ended\n"],
-        ),
-        (
-            &["replay", "table", "view", "adj-out-post"],
-            0,
-            &["at 9\nend 0\nstop ended\n"],
-        ),
-        (
-            &["replay", "table", "router", "1"],
-            0,
-            &["at 9\nend 0\nstop ended\n"],
-        ),
-        (
-            &["replay", "table", "view", "adj-in-pre", "router", "0"],
-            2,
-            &[USAGE],
-        ),
+        (&["replay", "quit"], "", [&[], &[], &[]], 2, USAGE),
+        (&["replay"], "", [&[], &[], &[]], 2, USAGE),
+        (&["replay", "table", ""], "", [&[], &[], &[]], 2, USAGE),
+        (&["replay", "tab", "le"], "", [&[], &[], &[]], 2, USAGE),
+        (&["replay table"], "", [&[], &[], &[]], 2, USAGE),
         (
             &["replay", "table", "view", "loc", "view", "loc"],
-            2,
-            &[USAGE],
-        ),
-        (&["replay", "table", ""], 2, &[USAGE]),
-        (&["replay", "tab", "le"], 2, &[USAGE]),
-        (&["replay table"], 2, &[USAGE]),
-    ];
-    for (texts, code, want) in table {
-        let (status, taken) = shown(
-            alloc,
-            listed(alloc, texts)?.as_slice(),
-            &bytes,
+            "",
             [&[], &[], &[]],
-        )?;
-        let want = joined(alloc, want)?;
+            2,
+            USAGE,
+        ),
+        (
+            &["replay", "table", "view", "loc", "router", "0"],
+            "",
+            [&[], &[], &[]],
+            2,
+            USAGE,
+        ),
+        (&["check", "table"], "", [&[], &[], &[]], 2, USAGE),
+        (&[], "", [&[], &[], &[0]], 4, ""),
+    ];
+    for (texts, bytes, fails, code, want) in table {
+        let (status, taken) = shown(alloc, listed(alloc, texts)?.as_slice(), &[bytes], fails)?;
         assert_eq!(rt; status, code);
-        assert_eq!(rt; taken.as_slice(), want.as_slice());
+        assert_eq!(rt; taken.as_slice(), want.as_bytes());
     }
     Ok(())
 }

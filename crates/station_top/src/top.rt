@@ -1,20 +1,19 @@
 ghost use Rattle.std.specs.Prelude.{◌≡◌, ℕ, [], ◌∷◌, ◌++◌, List, OnOk, OnErr, Ok, Err, map, sum_by, ◌<◌, ◌^◌};
 ghost use Rattle.std.specs.String.{string_bytes};
 ghost use Rattle.std.specs.Io.KnownBytes.{append_known};
-ghost use Rattle.bmp_specs.specs.Lines.{stop_line};
+ghost use Rattle.bmp_specs.specs.Values.{EntryValue};
 ghost use Rattle.bmp_specs.specs.MessageEffects.{strict};
 ghost use Rattle.wire_io.specs.Aside.{laid_over};
 ghost use Rattle.wire_io.specs.Faults.{Rose};
-ghost use Rattle.wire_io.specs.Writes.{Writes};
 ghost use Rattle.station_doors.specs.Doors.{one_more};
-ghost use Rattle.station_top.specs.Account.{RepliesBy};
+ghost use Rattle.query_eval.specs.Replies.{PutsReply};
 ghost use Rattle.station_top.specs.Status.{status_of};
-ghost use Rattle.station_top.specs.Station.{Answers, Concludes, FromYard, AnswersFault, IsReplyTo};
+ghost use Rattle.station_top.specs.Station.{Answers, Concludes, FromYard, AnswersFault, IsReplyTo, IsStopped, MayAsk};
 
 use crate::Status;
-use crate::account::Account;
+use crate::account::{Account, Replies};
 use crate::counts::Counts;
-use crate::tables::Tables;
+use crate::replay::Replay;
 use crate::take::{Taken, take_input};
 use crate::words::{Command, WordsFault, read_words};
 use bmp_specs::Cause;
@@ -28,15 +27,13 @@ use wire_io::{BufferedSink, Failed, Sink, write_all};
 const USAGE: &str =
     "usage: bmpstation replay QUERY, check, serve OPTIONS, or drill SEED LANES MESSAGES\n";
 
-// Takes the one input connection of the yard's port 0, and gives the port back. YardFault where the yard refused the
-// port, NoMemory on want of memory.
-fn take_from<Y: Yard, A: Account>(
+// Takes the one input connection of the yard's port 0 into an account, and gives the port back. YardFault where the
+// yard refused the port, NoMemory on want of memory.
+fn take_from<Y: Yard, A: Account + Drop>(
     alloc: Global,
     yard: &mut Y,
-    account: &mut A,
-) -> Result<Taken, Status>
-    requires { A.stands account.old [] }
-    ensures from { FromYard strict (A.stands account.new) (Y.told yard.old) (Y.told yard.new) (Y.calls yard.old) result }
+) -> Result<(A, Taken), Status>
+    ensures from { FromYard strict A.stands (Y.told yard.old) (Y.told yard.new) (Y.calls yard.old) result }
     ensures rose { result ≡ Err Status.YardFault → Rose (Y.faults yard.old) (Y.faults yard.new) }
     ensures calm { (result ≡ Err Status.YardFault → ⊥) → Y.faults yard.new ≡ Y.faults yard.old }
     ensures calls { Y.calls yard.new ≡ one_more (Y.calls yard.old) }
@@ -44,7 +41,7 @@ fn take_from<Y: Yard, A: Account>(
     let Ok(mut port) = yard.port(0) else {
         return Err(Status::YardFault);
     };
-    let taken = take_input(alloc, &mut port, account);
+    let taken = take_input(alloc, &mut port);
     yard.take_port(0, port);
     match taken {
         Ok(taken) => Ok(taken),
@@ -53,46 +50,46 @@ fn take_from<Y: Yard, A: Account>(
 }
 
 // Writes the reply and then the stop line through a buffer, and hands on all that is held.
-fn put_all<A: Account, O: Sink>(
+fn put_all<T: Replies, O: Sink>(
     buffer: &mut BufferedSink<O>,
-    account: &A,
-    ask: &A::Ask,
-    taken: Taken,
+    told: &T,
+    ask: &T::Ask,
+    cause: Cause,
 ) -> Result<(), Failed>
+    requires { T.may_ask ask.now }
     ensures empty { OnOk result (buffer.new.held ≡ []) }
-    ensures writes { Writes (λ p. O.faults p.below) (λ p. append_known (O.told p.below) p.held) (λ p. laid_over (O.told p.first) (O.aside p.below)) buffer.old (A.text ask.now taken.revision account.now ++ stop_line taken.cause) result buffer.new }
-    ensures reply { RepliesBy (A.stands account.now) (A.replies ask.now) taken.revision (A.text ask.now taken.revision account.now) }
+    ensures writes { (entries : List EntryValue) → T.tells told.now entries → PutsReply (λ p. O.faults p.below) (λ p. append_known (O.told p.below) p.held) (λ p. laid_over (O.told p.first) (O.aside p.below)) (IsStopped (T.replies ask.now entries) cause) buffer.old result buffer.new }
 {
-    account.put_reply(buffer, ask, taken.revision)?;
-    put_stop(buffer, &taken.cause)?;
+    told.put_reply(buffer, ask)?;
+    put_stop(buffer, &cause)?;
     buffer.flush()
 }
 
-fn write_to<A: Account, O: Sink>(
+fn write_to<T: Replies, O: Sink>(
     out: O,
-    account: &A,
-    ask: &A::Ask,
-    taken: Taken,
+    told: &T,
+    ask: &T::Ask,
+    cause: Cause,
 ) -> (O, Result<(), Failed>)
-    ensures writes { Writes O.faults O.told O.aside out (A.text ask.now taken.revision account.now ++ stop_line taken.cause) result.1 result.0 }
-    ensures reply { RepliesBy (A.stands account.now) (A.replies ask.now) taken.revision (A.text ask.now taken.revision account.now) }
+    requires { T.may_ask ask.now }
+    ensures { (entries : List EntryValue) → T.tells told.now entries → PutsReply O.faults O.told O.aside (IsStopped (T.replies ask.now entries) cause) out result.1 result.0 }
 {
     let mut buffer = BufferedSink::new(out);
-    let result = put_all(&mut buffer, account, ask, taken);
+    let result = put_all(&mut buffer, told, ask, cause);
     (buffer.into_inner(), result)
 }
 
-fn write_reply<A: Account, O: Sink>(
+fn write_reply<T: Replies, O: Sink>(
     out: &mut O,
-    account: &A,
-    ask: &A::Ask,
-    taken: Taken,
+    told: &T,
+    ask: &T::Ask,
+    cause: Cause,
 ) -> Result<(), Failed>
-    ensures writes { Writes O.faults O.told O.aside out.old (A.text ask.now taken.revision account.now ++ stop_line taken.cause) result out.new }
-    ensures reply { RepliesBy (A.stands account.now) (A.replies ask.now) taken.revision (A.text ask.now taken.revision account.now) }
+    requires { T.may_ask ask.now }
+    ensures { (entries : List EntryValue) → T.tells told.now entries → PutsReply O.faults O.told O.aside (IsStopped (T.replies ask.now entries) cause) out.old result out.new }
 {
-    replace_with(out, (account, ask, taken), |out, (account, ask, taken)| {
-        write_to(out, account, ask, taken)
+    replace_with(out, (told, ask, cause), |out, (told, ask, cause)| {
+        write_to(out, told, ask, cause)
     })
 }
 
@@ -118,26 +115,29 @@ fn unless_failed(write: Result<(), Failed>, status: Status) -> Status
     }
 }
 
-// Takes the input into the account, and writes the reply that is asked for and the stop line.
+// Takes the input into an account, and writes the reply that is asked for and the stop line.
 fn run<A: Account + Drop, Y: Yard, O: Sink>(
     alloc: Global,
-    mut account: A,
-    ask: &A::Ask,
+    ask: &<A::Told as Replies>::Ask,
     yard: &mut Y,
     out: &mut O,
 ) -> Status
-    requires { A.stands account [] }
-    ensures concludes { Concludes strict (A.replies ask.now) (Y.told yard.old) (Y.told yard.new) (Y.calls yard.old) (O.told out.old) (O.told out.new) result }
+    requires { A.Told.may_ask ask.now }
+    ensures concludes { Concludes strict (A.Told.replies ask.now) (Y.told yard.old) (Y.told yard.new) (Y.calls yard.old) (O.told out.old) (O.told out.new) result }
     ensures calls { Y.calls yard.new ≡ one_more (Y.calls yard.old) }
     ensures out { AnswersFault (O.faults out.old) (O.faults out.new) result Status.WriteFault }
     ensures yard { AnswersFault (Y.faults yard.old) (Y.faults yard.new) result Status.YardFault }
     ensures aside { O.aside out.new ≡ O.aside out.old }
 {
-    match take_from(alloc, yard, &mut account) {
-        Ok(taken) => unless_failed(
-            write_reply(out, &account, ask, taken),
-            status_after(taken.cause),
-        ),
+    let taken: Result<(A, Taken), Status> = take_from(alloc, yard);
+    match taken {
+        Ok((account, taken)) => match account.ready(alloc, taken.revision) {
+            Ok(told) => unless_failed(
+                write_reply(out, &told, ask, taken.cause),
+                status_after(taken.cause),
+            ),
+            Err(_) => Status::NoMemory,
+        },
         Err(status) => status,
     }
 }
@@ -149,6 +149,7 @@ fn run_command<Y: Yard, O: Sink>(
     yard: &mut Y,
     out: &mut O,
 ) -> Status
+    requires { MayAsk command }
     ensures concludes { Concludes strict (IsReplyTo command) (Y.told yard.old) (Y.told yard.new) (Y.calls yard.old) (O.told out.old) (O.told out.new) result }
     ensures calls { Y.calls yard.new ≡ one_more (Y.calls yard.old) }
     ensures out { AnswersFault (O.faults out.old) (O.faults out.new) result Status.WriteFault }
@@ -156,18 +157,18 @@ fn run_command<Y: Yard, O: Sink>(
     ensures aside { O.aside out.new ≡ O.aside out.old }
 {
     match command {
-        Command::ReplayTable(select) => run(alloc, Tables::new(alloc), &select, yard, out),
-        Command::Check => run(alloc, Counts::new(), &(), yard, out),
+        Command::Replay(query) => run::<Replay, Y, O>(alloc, &query, yard, out),
+        Command::Check => run::<Counts, Y, O>(alloc, &(), yard, out),
     }
 }
 
 /// Runs the command that the words are: takes what it needs from the yard, writes to `out` and tells how it
 /// ended. The words don't hold the program's name.
 ///
-/// `replay` with a query `table` and `check` take the one input connection of the yard's port 0, up to 2^46
-/// bytes, give the port back, and then write the reply on what the messages of the stream said and the stop
-/// line. The words after `replay`, joined by single spaces, are the query; its reply has the rows that its
-/// selectors keep, and is on the opening and the messages, and not on the closing. Other words are usage.
+/// `replay` with a query other than `quit` and `check` take the one input connection of the yard's port 0, up to
+/// 2^46 bytes, give the port back, and then write the reply on what the messages of the stream said and the stop
+/// line. The words after `replay`, joined by single spaces, are the query; its reply is on lane 0, on the opening
+/// and the messages, and not on the closing. Other words are usage.
 pub fn station<Y: Yard, O: Sink>(
     alloc: Global,
     words: &[String],

@@ -1,30 +1,34 @@
-ghost use Rattle.std.specs.Prelude.{◌≡◌, ◌↔◌, [], ◌∷◌, IsTrue, IfSome, IfNone, IfOk, Err, map, codes};
+ghost use Rattle.std.specs.Prelude.{◌≡◌, ◌≢◌, ◌↔◌, [], ◌∷◌, IsTrue, IfSome, IfNone, IfOk, Err, map, codes};
 ghost use Rattle.std.specs.List.{join_with_byte};
 ghost use Rattle.std.specs.String.{string_bytes};
-ghost use Rattle.bmp_specs.specs.Query.{space, table, IsQuery};
-ghost use Rattle.bmp_specs.specs.Selection.{SelectValue};
+ghost use Rattle.bmp_specs.specs.Query.{QueryValue, quit, space};
 ghost use Rattle.query_lang.specs.Queries.{query_value};
-ghost use Rattle.station_top.specs.Words.{IsCommand, TakeMemory};
+ghost use Rattle.station_top.specs.Words.{IsAsking, IsCommand, TakeMemory};
 ghost use Rattle.station_top.specs.declared.words.Command.{Command as AnyCommand};
 
-use query_lang::{Query, Select, parse};
+use query_lang::{Query, parse};
 use std::alloc::Global;
+use thiserror::Error;
 
-/// What the words ask for.
+/// What the words of a call ask for.
 #[derive(Clone, Copy)]
 pub enum Command {
-    /// `replay` and a query `table`: the routes that the input leaves, those that are selected.
-    ReplayTable(Select),
+    /// `replay` and a query other than `quit`: its reply on what the input leaves.
+    Replay(Query),
+
     /// `check`: how many messages of each type the input has.
     Check,
 }
 
 /// Why the words give no command.
-#[derive(Clone, Copy, Debug, PartialEq, Eq)]
+#[derive(Clone, Copy, Debug, PartialEq, Eq, Error)]
 pub enum WordsFault {
     /// They are none.
+    #[error("the words are no command")]
     Usage,
+
     /// There is no memory to join them.
+    #[error("no memory to read the words")]
     NoMemory,
 }
 
@@ -40,52 +44,57 @@ fn is_check(word: &str) -> bool
     word == "check"
 }
 
-// The selectors, where the query is `table`.
-fn table_selectors(query: Query) -> Option<Select>
-    ensures some { IfSome result (λ select. query_value query ≡ table select) }
-    ensures none { IfNone result ((select : SelectValue) → query_value query ≡ table select → ⊥) }
+// The query, where it has a reply.
+fn with_reply(query: Query) -> Option<Query>
+    ensures some { IfSome result (λ q. (q ≡ query) × (query_value query ≢ quit)) }
+    ensures none { IfNone result (query_value query ≡ quit) }
 {
     match query {
-        Query::Table(select) => Some(select),
-        _ => None,
+        Query::Quit => None,
+        _ => Some(query),
     }
 }
 
-// The selectors of the query `table` that the line is. None where it isn't one.
-fn read_table(line: &[u8]) -> Option<Select>
-    ensures some { IfSome result (λ select. IsQuery line.now (table select)) }
-    ensures none { IfNone result ((select : SelectValue) → IsQuery line.now (table select) → ⊥) }
+// The query that the line is, where it has a reply. None where it is no such query.
+fn read_query(line: &[u8]) -> Option<Query>
+    ensures some { IfSome result (λ query. IsAsking line.now (query_value query)) }
+    ensures none { IfNone result ((query : QueryValue) → IsAsking line.now query → ⊥) }
 {
     match parse(line) {
-        Some(query) => table_selectors(query),
+        Some(query) => with_reply(query),
         None => None,
     }
 }
 
 // The same of the words, joined by single spaces.
-fn read_asked(alloc: Global, words: &[String]) -> Result<Select, WordsFault>
-    ensures ok { IfOk result (λ select. IsQuery (join_with_byte space (map string_bytes words.now)) (table select)) }
-    ensures usage { result ≡ Err WordsFault.Usage → (select : SelectValue) → IsQuery (join_with_byte space (map string_bytes words.now)) (table select) → ⊥ }
+fn read_asked(alloc: Global, words: &[String]) -> Result<Query, WordsFault>
+    ensures ok { IfOk result (λ query. IsAsking (join_with_byte space (map string_bytes words.now)) (query_value query)) }
+    ensures usage { result ≡ Err WordsFault.Usage → (query : QueryValue) → IsAsking (join_with_byte space (map string_bytes words.now)) query → ⊥ }
 {
     match words.join(alloc, " ") {
-        Ok(line) => match read_table(line.as_bytes()) {
-            Some(select) => Ok(select),
+        Ok(line) => match read_query(line.as_bytes()) {
+            Some(query) => Ok(query),
             None => Err(WordsFault::Usage),
         },
         Err(_) => Err(WordsFault::NoMemory),
     }
 }
 
-// The command that the words are. Usage where they are none.
+/// The command that the words of a call are, which don't hold the program's name. `Usage` exactly where they are none;
+/// after `NoMemory` nothing was read of them but their first, `replay`.
 pub fn read_words(alloc: Global, words: &[String]) -> Result<Command, WordsFault>
+    // The command is the one that the words are.
     ensures ok { IfOk result (λ command. IsCommand command (map string_bytes words.now)) }
+
+    // They are no command.
     ensures usage { result ≡ Err WordsFault.Usage → (command : AnyCommand) → IsCommand command (map string_bytes words.now) → ⊥ }
+
     ensures memory { result ≡ Err WordsFault.NoMemory → TakeMemory (map string_bytes words.now) }
 {
     match words {
         [word] if is_check(word.as_str()) => Ok(Command::Check),
         [word, asked @ ..] if is_replay(word.as_str()) => match read_asked(alloc, asked) {
-            Ok(select) => Ok(Command::ReplayTable(select)),
+            Ok(query) => Ok(Command::Replay(query)),
             Err(fault) => Err(fault),
         },
         _ => Err(WordsFault::Usage),

@@ -1,0 +1,65 @@
+-- The tables of a replay, brought up to date, and the cut that is made of them.
+use Rattle.std.proofs.Common.{◌≡◌, ℕ, zero, suc, ◌≤◌, ◌^◌, List, [], ◌∷◌, ◌++◌, Option, Result, length, refl, sym, ap, ◌∙◌, subst, append-nil, append_assoc, arith}
+use Rattle.std.proofs.lemmas.List.{map-append, length-map}
+use Rattle.bmp_specs.specs.QueryReply.{IsReply}
+use Rattle.bmp_specs.specs.Values.{EntryValue, opened}
+use Rattle.cut_publisher.specs.declared.history.Event.{Event}
+use Rattle.cut_publisher.specs.Cuts.{AreLanes, IsCutOf}
+use Rattle.cut_publisher.specs.History.{batch, part, IsWithin}
+use Rattle.query_lang.specs.Queries.{query_value}
+use Rattle.query_lang.specs.declared.query.Query.{Query}
+use Rattle.query_eval.specs.Replies.{PutsReply, IsReplyOn, StandsForHistory, lanes_of}
+use Rattle.wire_io.specs.declared.sink.Failed.{Failed}
+use Rattle.wire_io.specs.Aside.{Aside}
+use Rattle.rib_model.specs.declared.entry.Entry.{Entry}
+use Rattle.rib_model.specs.declared.entry.Entry.TheVariants.{Opened}
+use Rattle.rib_model.specs.Entries.{entry_value, entry_values}
+use Rattle.router_tables.specs.Tables.{StandsFor, TablesValue}
+use Rattle.station_top.specs.Replay.{Gathers, Settled, IsCutOfEntries, IsReplyOf}
+use Rattle.station_top.specs.declared.replay.Replay.{Replay}
+
+-- the opening was taken
+pub begun : (replay : Replay) → StandsFor replay.tables (opened ∷ []) → replay.gathered ≡ [] → Settled replay (opened ∷ [])
+begun replay stands none = record {
+  gathers = record {
+    taken = Opened ∷ [];
+    stands = stands;
+    values = ap (λ (more : List Entry). entry_values (Opened ∷ more)) (sym none);
+  };
+  none = none;
+}
+
+-- the entries of the one lane
+part_all : (es : List Entry) → part 0 (batch 0 es) ≡ es
+part_all [] = refl
+part_all (e ∷ es) = ap (λ (rest : List Entry). e ∷ rest) (part_all es)
+
+within_all : (es : List Entry) → IsWithin 1 (batch 0 es)
+within_all [] = tt
+within_all (e ∷ es) = (omega arith, within_all es)
+
+-- the cut of the one lane stands for its entries
+pub cut_is : (replay : Replay) (revision : ℕ) (entries : List EntryValue) → Settled replay entries → revision ≡ length entries → (lane : TablesValue × ℕ) → lane.0 ≡ replay.tables → lane.1 ≡ revision → (cut : List (TablesValue × ℕ)) → cut ≡ lane ∷ []
+    → IsCutOf (λ tables es. StandsFor tables (entry_values es)) (lane ∷ []) cut → IsCutOfEntries cut entries
+cut_is replay revision entries s count lane tables_is count_is cut same is =
+    let taken = s.gathers.taken in
+    let values : entries ≡ entry_values taken = s.gathers.values ∙ ap entry_values (ap (λ (more : List Entry). taken ++ more) s.none ∙ append-nil taken) in
+    let number : lane.1 ≡ length taken = count_is ∙ count ∙ ap length values ∙ length-map taken entry_value in
+    record {
+      taken = taken;
+      values = values;
+      stands = is (batch 0 taken) (within_all taken) (lanes taken (subst (λ (t : TablesValue). StandsFor t (entry_values taken)) (sym tables_is) s.gathers.stands) number);
+      one = ap length same;
+    }
+  where
+    lanes : (taken : List Entry) → StandsFor lane.0 (entry_values taken) → lane.1 ≡ length taken → AreLanes (λ tables es. StandsFor tables (entry_values es)) (lane ∷ []) (batch 0 taken)
+    lanes taken stands number zero d below = record { value = subst (λ (es : List Entry). StandsFor lane.0 (entry_values es)) (sym (part_all taken)) stands; count = number ∙ sym (ap length (part_all taken)) }
+    lanes taken stands number (suc k) d below = absurd (omega (arith, below))
+
+-- the reply on the cut is that on the entries
+pub replied_on : {O : Type 0} (faults : O → ℕ) (told : O → Option (List ℕ)) (aside : O → Aside) (query : Query) (cut : List (TablesValue × ℕ)) (entries : List EntryValue) (is : IsCutOfEntries cut entries) {a b : O} {r : Result (Unit {0}) Failed}
+    → ((history : List (Event Entry)) → StandsForHistory cut history → PutsReply faults told aside (IsReplyOn (query_value query) (length cut) history) a r b) → PutsReply faults told aside (IsReplyOf query entries) a r b
+replied_on faults told aside query cut entries is answers =
+    let put = answers (batch 0 is.taken) is.stands in
+    let lanes : lanes_of (length cut) (batch 0 is.taken) ≡ entries ∷ [] = ap (λ (n : ℕ). lanes_of n (batch 0 is.taken)) is.one ∙ ap (λ (es : List Entry). entry_values es ∷ []) (part_all is.taken) ∙ ap (λ (es : List EntryValue). es ∷ []) (sym is.values) in
+    record { text = put.text; is_reply = subst (λ (l : List (List EntryValue)). IsReply (query_value query) l put.text) lanes put.is_reply; written = put.written }

@@ -1,0 +1,39 @@
+-- What a replay stands for: the entries that its tables have, and those of a read that they don't have yet.
+use Rattle.std.specs.Prelude.{◌≡◌, ◌≢◌, ℕ, List, [], ◌∷◌, ◌++◌, length}
+use Rattle.bmp_specs.specs.Query.{quit}
+use Rattle.bmp_specs.specs.QueryReply.{IsReply}
+use Rattle.bmp_specs.specs.Values.{EntryValue}
+use Rattle.cut_publisher.specs.History.{batch}
+use Rattle.query_eval.specs.Replies.{StandsForHistory}
+use Rattle.query_lang.specs.declared.query.Query.{Query}
+use Rattle.query_lang.specs.Queries.{query_value}
+use Rattle.rib_model.specs.declared.entry.Entry.{Entry}
+use Rattle.rib_model.specs.Entries.{entry_values}
+use Rattle.router_tables.specs.Tables.{StandsFor, TablesValue}
+use Rattle.station_top.specs.declared.replay.Replay.{Replay}
+
+-- they are the entries of the tables, and then those that are gathered
+pub record Gathers (replay : Replay) (entries : List EntryValue) : Type 0 where
+  pub taken : List Entry
+  pub stands : StandsFor replay.tables (entry_values taken)
+  pub values : entries ≡ entry_values (taken ++ replay.gathered)
+
+-- they are the entries of the tables
+pub record Settled (replay : Replay) (entries : List EntryValue) : Type 0 where
+  pub gathers : Gathers replay entries
+  pub none : replay.gathered ≡ []
+
+-- the cut stands for a history of these entries, all of the one lane
+pub record IsCutOfEntries (cut : List (TablesValue × ℕ)) (entries : List EntryValue) : Type 0 where
+  pub taken : List Entry
+  pub values : entries ≡ entry_values taken
+  pub stands : StandsForHistory cut (batch 0 taken)
+  pub one : length cut ≡ 1
+
+-- the bytes are the reply of the query on the one lane with these entries
+abbrev pub IsReplyOf : Query → List EntryValue → List ℕ → Type 0
+IsReplyOf query entries bytes = IsReply (query_value query) (entries ∷ []) bytes
+
+-- the query has a reply
+abbrev pub IsAsked : Query → Type 0
+IsAsked query = query_value query ≢ quit
