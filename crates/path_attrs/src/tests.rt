@@ -214,7 +214,11 @@ fn a_frame_needs_no_good_values(rt: HostRuntime) {
         b"\x40\x01\x01\x00\x40\x01\x01\x01\xc0\x08\x02\x00\x11\x80\x0f\x05\x00\x01\x01\x08\x0a";
     let framed = frame_attrs(field);
     assert!(rt; framed.is_some_and(|f| f.reach.is_none() && f.as_path.is_none()));
-    assert!(rt; framed.is_some_and(|f| f.unreach.is_some_and(|m| m.prefixes == b"\x08\x0a".as_slice())));
+    assert!(rt;
+        framed.is_some_and(|f| f
+            .unreach
+            .is_some_and(|m| m.prefixes == b"\x08\x0a".as_slice()))
+    );
     // MP_UNREACH_NLRI twice, MP_REACH_NLRI of 3 bytes, a value past the field
     let broken: [&[u8]; 3] = [
         b"\x80\x0f\x03\x00\x02\x01\x80\x0f\x03\x00\x02\x01",
