@@ -26,7 +26,7 @@ parts_there Is size one (suc count) bytes e =
     (first.0 ∷ later.0, (front, after, record { joined = sym (take-append-drop size bytes) }, first.1, later.1))
 
 -- bytes of the right number are AS numbers
-numbers_there : (width : Width) (count : ℕ) (bytes : List ℕ) → length bytes ≡ as_width width * count → (asns : List ℕ) × AreAsNumbers width bytes asns
+pub numbers_there : (width : Width) (count : ℕ) (bytes : List ℕ) → length bytes ≡ as_width width * count → (asns : List ℕ) × AreAsNumbers width bytes asns
 numbers_there width = parts_there (IsAsNumber width) (as_width width) (λ front len. (big_number (as_width width) front, record { len = len; value = refl }))
 
 -- the bytes are the segments of this path, so many, and then the rest

@@ -4,6 +4,7 @@ ghost use Rattle.bmp_specs.specs.MergedPath.{path_origin, without_confederation,
 mod count;
 mod merge;
 mod read;
+mod zero;
 
 use crate::segment::Segment;
 use bmp_specs::SegmentKind;

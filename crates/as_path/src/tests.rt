@@ -131,3 +131,25 @@ fn lists_keep_what_is_pushed(rt: HostRuntime) -> Result<(), Fail> {
     assert_eq!(rt; flat(alloc, &copy)?.as_slice(), [1, 1, 64500].as_slice());
     Ok(())
 }
+
+#[test]
+fn an_as_number_of_zero_is_found(rt: HostRuntime) {
+    // bytes, width, whether no number is 0
+    let table: [(&[u8], Width, bool); 4] = [
+        (
+            b"\x02\x02\xfb\xf4\xfb\xf5\x01\x01\xfb\xf6",
+            Width::Two,
+            true,
+        ),
+        (b"\x02\x02\x00\x00\xfb\xf4", Width::Two, false),
+        (
+            b"\x02\x01\x00\x00\xfb\xf4\x01\x01\x00\x00\x00\x00",
+            Width::Four,
+            false,
+        ),
+        (b"", Width::Four, true),
+    ];
+    for (bytes, width, want) in table {
+        assert_eq!(rt; AsPath::has_no_zero(bytes, width), want);
+    }
+}

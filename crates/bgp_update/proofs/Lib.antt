@@ -4,3 +4,4 @@ pub mod Multiprotocol
 pub mod OneBody
 pub mod Counting
 pub mod Judging
+pub mod Framing

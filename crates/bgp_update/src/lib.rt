@@ -15,6 +15,7 @@
 
 mod body;
 mod fault;
+mod frame;
 mod items;
 mod judge;
 mod list;
@@ -26,6 +27,7 @@ mod update;
 
 pub use bmp_specs::IdUse;
 pub use fault::UpdateFault;
+pub use frame::{FramedUpdate, contained_routes, fits_family, frame_update};
 pub use judge::judge_update;
 pub use list::NlriList;
 pub use read::read_update;

@@ -1,7 +1,9 @@
 //! Bodies of UPDATE messages, and what is read of them: prefixes with `-` are withdrawn, those with `+`
 //! stand in the NLRI and those with `*` in MP_REACH_NLRI; `#` comes before a path identifier.
 
-use crate::{IdUse, NlriList, judge_update, read_update};
+use crate::{
+    IdUse, NlriList, contained_routes, fits_family, frame_update, judge_update, read_update,
+};
 use bmp_specs::Width;
 use ip_prefix::{Family, Nlri, parse_prefix};
 use path_attrs::Attrs;
@@ -256,5 +258,62 @@ fn a_list_gives_back_its_last_item(rt: HostRuntime) -> Result<(), Fail> {
         })
     );
     assert_eq!(rt; list.as_slice().len(), 1);
+    Ok(())
+}
+
+// What a frame of the body says: which lists of IPv4 fit, without and with identifiers, and what it contains.
+fn contained(alloc: Global, body: &[u8], ids: IdUse) -> Result<Vec<u8>, Fail> {
+    let mut text = Vec::new(alloc);
+    match frame_update(body) {
+        None => text.extend_from_slice(b"none")?,
+        Some(framed) => {
+            if fits_family(&framed, Family::V4, false) {
+                text.extend_from_slice(b"bare ")?;
+            }
+            if fits_family(&framed, Family::V4, true) {
+                text.extend_from_slice(b"identified ")?;
+            }
+            put_list(&mut text, b'-', &contained_routes(alloc, &framed, ids)?)?;
+        }
+    }
+    Ok(text)
+}
+
+#[test]
+fn a_frame_tells_which_forms_fit(rt: HostRuntime) -> Result<(), Fail> {
+    let table: [(&[u8], IdUse, &[u8]); 5] = [
+        // 10.0.0.0/8 withdrawn, COMMUNITIES of 2 bytes, 10.1.0.0/16 announced
+        (
+            b"\x00\x02\x08\x0a\x00\x05\xc0\x08\x02\x00\x11\x10\x0a\x01",
+            NONE,
+            b"bare -10.0.0.0/8-10.1.0.0/16",
+        ),
+        // 10.1.1.0/25, or 0.0.0.0/0 with an identifier
+        (
+            b"\x00\x00\x00\x00\x19\x0a\x01\x01\x00",
+            NONE,
+            b"bare identified -10.1.1.0/25",
+        ),
+        (
+            b"\x00\x00\x00\x00\x19\x0a\x01\x01\x00",
+            BOTH,
+            b"bare identified -0.0.0.0/0#7",
+        ),
+        // MP_UNREACH_NLRI with 10.0.0.0/8, MP_REACH_NLRI with 10.1.0.0/16
+        (
+            b"\x00\x00\x00\x13\x80\x0f\x05\x00\x01\x01\x08\x0a\x80\x0e\x08\x00\x01\x01\x00\x00\x10\x0a\x01",
+            NONE,
+            b"bare -10.0.0.0/8-10.1.0.0/16",
+        ),
+        // MP_UNREACH_NLRI twice
+        (
+            b"\x00\x00\x00\x0c\x80\x0f\x03\x00\x02\x01\x80\x0f\x03\x00\x02\x01",
+            NONE,
+            b"none",
+        ),
+    ];
+    for (body, ids, want) in table {
+        assert_eq!(rt; contained(rt.alloc(), body, ids)?.as_slice(), want);
+    }
     Ok(())
 }

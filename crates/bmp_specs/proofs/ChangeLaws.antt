@@ -1,5 +1,5 @@
 -- Changes of a prefix between two totals: asking again from the number of steps that was told misses nothing unsaid.
-use Rattle.std.proofs.Common.{◌≡◌, ℕ, zero, suc, ◌+◌, ◌-◌, ◌<◌, ◌≤◌, List, [], ◌∷◌, ◌++◌, length, Some, refl, sym, ◌∙◌, ap, subst, arith, length-append}
+use Rattle.std.proofs.Common.{◌≡◌, ℕ, zero, suc, ◌+◌, ◌-◌, List, [], ◌∷◌, ◌++◌, length, sym, ◌∙◌, ap, arith}
 use Rattle.std.specs.Prelude.{slice_get, max}
 use Rattle.std.proofs.lemmas.Grind.{flat_map-append}
 use Rattle.bmp_specs.specs.Changes.{ChangeValue, IsChange, AreChanges, IsLaterChange, AreLaterChanges, oldest_kept}

@@ -36,7 +36,7 @@ module _ (same : ℕ → ℕ → Bool) (test : ℕ → Bool) where
   distinct_at true k ks a d = (a, d)
   distinct_at false k ks a d = d
 
-  distinct_filter : (ks : List ℕ) → IsDistinct same ks → IsDistinct same (filter test ks)
+  pub distinct_filter : (ks : List ℕ) → IsDistinct same ks → IsDistinct same (filter test ks)
   unfolding IsDistinct
   distinct_filter [] d = tt
   distinct_filter (k ∷ ks) d = distinct_at (test k) k (filter test ks) (apart (λ j. same k j ≡ false) ks d.0) (distinct_filter ks d.1)

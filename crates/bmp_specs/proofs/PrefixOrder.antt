@@ -1,5 +1,5 @@
 -- The order of prefixes by their bytes and bits, and that the prefixes that one contains are a run of it.
-use Rattle.std.proofs.Common.{◌≡◌, ℕ, ◌<◌, ◌≤◌, length, get_or, drop, false, List, [], ◌∷◌, refl, ap, sym, ◌∙◌, subst, inl, inr, arith}
+use Rattle.std.proofs.Common.{◌≡◌, ℕ, ◌≤◌, length, get_or, drop, false, List, [], ◌∷◌, refl, ap, sym, ◌∙◌, subst, inl, inr, arith}
 use Rattle.std.specs.declared.cmp.Ordering.{Ordering}
 use Rattle.std.specs.declared.cmp.Ordering.TheVariants.{Less, Equal, Greater}
 use Rattle.std.specs.Ordering.{nat_cmp, ordering_then, is_lt, is_gt}
@@ -8,11 +8,11 @@ use Rattle.std.proofs.lemmas.Bool.{cases_lt}
 use Rattle.std.proofs.lemmas.Bool.Decides.{nat_tests}
 use Rattle.bmp_specs.specs.declared.wire.Family.{Family}
 use Rattle.bmp_specs.specs.declared.wire.Family.TheVariants.{V4, V6}
-use Rattle.bmp_specs.specs.Address.{IsAddress, IsAddressPrefix}
-use Rattle.bmp_specs.specs.Containment.{HoldsAddress, ContainsPrefix}
+use Rattle.bmp_specs.specs.Address.{IsAddressPrefix}
+use Rattle.bmp_specs.specs.Containment.{ContainsPrefix}
 use Rattle.bmp_specs.specs.Orders.{family_number, family_cmp, prefix_cmp}
-use Rattle.bmp_specs.specs.Prefix.{first_bits, width_of}
-use Rattle.bmp_specs.specs.Values.{AddressValue, PrefixValue}
+use Rattle.bmp_specs.specs.Prefix.{first_bits}
+use Rattle.bmp_specs.specs.Values.{PrefixValue}
 use Rattle.bmp_specs.proofs.FirstBits.{IsAtMost, first_up, first_below, first_fewer, at_most_both, at_most_from, at_most_back, at_most_cases}
 
 one_family : (a b : Family) (o : Ordering) → a ≡ b → ordering_then (family_cmp a b) o ≡ o

@@ -93,7 +93,7 @@ all_at P [] zs y p = p.0
 all_at P (x ∷ xs) zs y p = all_at P xs zs y p.1
 
 -- a type that is marked stands there twice
-twice : (xs zs : List ℕ) (y : ℕ) → list_any (eqb y) xs ≡ true → IsDistinct (λ j k. j == k) (xs ++ y ∷ zs) → ⊥
+pub twice : (xs zs : List ℕ) (y : ℕ) → list_any (eqb y) xs ≡ true → IsDistinct (λ j k. j == k) (xs ++ y ∷ zs) → ⊥
 twice [] zs y e d = absurd cc
 twice (x ∷ xs) zs y e d =
     let apart : eqb x y ≡ false = all_at (λ z. eqb x z ≡ false) xs zs y (IsDistinct-head (λ j k. j == k) x (xs ++ y ∷ zs) d) in

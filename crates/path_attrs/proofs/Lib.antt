@@ -5,3 +5,5 @@ pub mod Keeping
 pub mod AsStated
 pub mod Judging
 pub mod Making
+pub mod Framing
+pub mod Fitting

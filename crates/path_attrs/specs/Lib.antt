@@ -2,3 +2,4 @@ pub mod Field
 pub mod Kept
 pub mod AsInfo
 pub mod Judged
+pub mod Framed

@@ -20,6 +20,7 @@ mod bytes;
 mod codes;
 mod fault;
 mod found;
+mod frame;
 mod judge;
 mod keep;
 mod mp;
@@ -29,12 +30,15 @@ mod read;
 #[cfg(test)]
 mod tests;
 mod values;
+mod width;
 
 pub use as_path::{AsPath, Numbers, Width};
 pub use attrs::{Aggregator, Attrs};
 pub use fault::AttrFault;
+pub use frame::{FramedAttrs, frame_attrs};
 pub use judge::{Judged, judge_attrs};
 pub use mp::{MpPart, MpSlice};
 pub use others::{Other, OtherList};
 pub use read::{AttrsRead, make_attrs, read_attrs};
+pub use width::fits_width;
 pub use wire_io::{ByteList, NoMemory};

@@ -1,4 +1,4 @@
-use crate::{AttrsRead, MpPart, MpSlice, Width, judge_attrs, read_attrs};
+use crate::{AttrsRead, MpPart, MpSlice, Width, fits_width, frame_attrs, judge_attrs, read_attrs};
 use std::alloc::Global;
 use std::test::Fail;
 use wire_io::BodyFault;
@@ -205,4 +205,44 @@ fn what_is_judged_attributes_is_read(rt: HostRuntime) -> Result<(), Fail> {
         assert_eq!(rt; judged(alloc, field, width)?, lent);
     }
     Ok(())
+}
+
+#[test]
+fn a_frame_needs_no_good_values(rt: HostRuntime) {
+    // ORIGIN twice, COMMUNITIES of 2 bytes, MP_UNREACH_NLRI of (1,1), and 10.0.0.0/8 in it
+    let field =
+        b"\x40\x01\x01\x00\x40\x01\x01\x01\xc0\x08\x02\x00\x11\x80\x0f\x05\x00\x01\x01\x08\x0a";
+    let framed = frame_attrs(field);
+    assert!(rt; framed.is_some_and(|f| f.reach.is_none() && f.as_path.is_none()));
+    assert!(rt;
+        framed.is_some_and(|f| f
+            .unreach
+            .is_some_and(|m| m.prefixes == b"\x08\x0a".as_slice()))
+    );
+    // MP_UNREACH_NLRI twice, MP_REACH_NLRI of 3 bytes, a value past the field
+    let broken: [&[u8]; 3] = [
+        b"\x80\x0f\x03\x00\x02\x01\x80\x0f\x03\x00\x02\x01",
+        b"\x80\x0e\x03\x00\x02\x01",
+        b"\xc0\x08\x04\x00\x11",
+    ];
+    for field in broken {
+        assert!(rt; frame_attrs(field).is_none());
+    }
+}
+
+#[test]
+fn attributes_fit_a_width(rt: HostRuntime) {
+    // AS_PATH 64500 64501 in two bytes; one that is none in four bytes and has the number 0 in two
+    let path = b"\x40\x02\x06\x02\x02\xfb\xf4\xfb\xf5";
+    let zero = b"\x40\x02\x06\x02\x02\x00\x00\xfb\xf4";
+    let table: [(&[u8], Width, bool, bool); 5] = [
+        (path, Width::Two, true, true),
+        (path, Width::Four, false, false),
+        (zero, Width::Two, false, true),
+        (zero, Width::Two, true, false),
+        (b"\x40\x01\x01\x00", Width::Two, true, true),
+    ];
+    for (field, width, nonzero, want) in table {
+        assert_eq!(rt; fits_width(field, width, nonzero), want);
+    }
 }

@@ -3,6 +3,7 @@ ghost use Rattle.std.specs.Arc.{arc_value};
 ghost use Rattle.bmp_specs.specs.Values.{EffectValue, up, down, mark};
 ghost use Rattle.peer_book.specs.Standing.{StandsForPeers};
 
+use crate::owned::own;
 use bgp_open::{DownInfo, PeerInfo};
 use bmp_frames::PeerKey;
 use bmp_specs::{Family, View};
@@ -10,17 +11,6 @@ use peer_book::PeerBook;
 use std::alloc::Global;
 use std::sync::Arc;
 use wire_io::NoMemory;
-
-// An equal book that nobody else holds, in the place of one that others hold too.
-fn own_peers(peers: &mut Arc<PeerBook>, alloc: Global) -> Result<(), NoMemory>
-    ensures { OnOk result (arc_value peers.new ≡ arc_value peers.old) }
-{
-    if Arc::strong_count(peers) > 1 {
-        let copy = peers.copy()?;
-        *peers = Arc::new(alloc, copy)?;
-    }
-    Ok(())
-}
 
 // The peer comes up (RFC 7854, section 4.10).
 pub(crate) fn bring_up(
@@ -32,7 +22,7 @@ pub(crate) fn bring_up(
     ensures { OnOk result ((effects : List EffectValue) → StandsForPeers (arc_value peers.old) effects → StandsForPeers (arc_value peers.new) (effects ++ up key (arc_value info.now) ∷ [])) }
 {
     let info = Arc::try_clone(info)?;
-    own_peers(peers, alloc)?;
+    own(peers, alloc)?;
     match Arc::get_mut(peers) {
         Some(book) => book.up(key, info),
         None => Err(NoMemory),
@@ -48,7 +38,7 @@ pub(crate) fn take_down(
 ) -> Result<(), NoMemory>
     ensures { OnOk result ((effects : List EffectValue) → StandsForPeers (arc_value peers.old) effects → StandsForPeers (arc_value peers.new) (effects ++ down key info ∷ [])) }
 {
-    own_peers(peers, alloc)?;
+    own(peers, alloc)?;
     match Arc::get_mut(peers) {
         Some(book) => book.down(key, info),
         None => Err(NoMemory),
@@ -65,7 +55,7 @@ pub(crate) fn set_mark(
 ) -> Result<(), NoMemory>
     ensures { OnOk result ((effects : List EffectValue) → StandsForPeers (arc_value peers.old) effects → StandsForPeers (arc_value peers.new) (effects ++ mark key.now view family ∷ [])) }
 {
-    own_peers(peers, alloc)?;
+    own(peers, alloc)?;
     match Arc::get_mut(peers) {
         Some(book) => {
             book.mark(key, view, family);

@@ -4,23 +4,13 @@ ghost use Rattle.bmp_specs.specs.PeerUp.{IsUp, Names};
 ghost use Rattle.bmp_specs.specs.Values.{EffectValue, statistic};
 ghost use Rattle.stats_book.specs.Standing.{StandsForStats};
 
+use crate::owned::own;
 use bmp_frames::PeerKey;
 use stats_book::StatsBook;
 use std::alloc::Global;
 use std::sync::Arc;
 use wire_io::NoMemory;
 use wire_tables::Stat;
-
-// An equal book that nobody else holds, in the place of one that others hold too.
-fn own_stats(stats: &mut Arc<StatsBook>, alloc: Global) -> Result<(), NoMemory>
-    ensures { OnOk result (arc_value stats.new ≡ arc_value stats.old) }
-{
-    if Arc::strong_count(stats) > 1 {
-        let copy = stats.copy()?;
-        *stats = Arc::new(alloc, copy)?;
-    }
-    Ok(())
-}
 
 // The statistic of a peer that is up (RFC 7854, section 4.8).
 pub(crate) fn set_statistic(
@@ -31,7 +21,7 @@ pub(crate) fn set_statistic(
 ) -> Result<(), NoMemory>
     ensures { OnOk result ((effects : List EffectValue) → IsUp effects key → StandsForStats (arc_value stats.old) effects → StandsForStats (arc_value stats.new) (effects ++ statistic key stat ∷ [])) }
 {
-    own_stats(stats, alloc)?;
+    own(stats, alloc)?;
     match Arc::get_mut(stats) {
         Some(book) => book.set(key, stat),
         None => Err(NoMemory),
@@ -46,7 +36,7 @@ pub(crate) fn forget(
 ) -> Result<(), NoMemory>
     ensures { OnOk result ((effects : List EffectValue) (effect : EffectValue) → Names key.now effect → StandsForStats (arc_value stats.old) effects → StandsForStats (arc_value stats.new) (effects ++ effect ∷ [])) }
 {
-    own_stats(stats, alloc)?;
+    own(stats, alloc)?;
     match Arc::get_mut(stats) {
         Some(book) => {
             book.forget(key);

@@ -21,10 +21,10 @@ const AS_CONFED_SEQUENCE: u8 = 3;
 const AS_CONFED_SET: u8 = 4;
 
 // The bytes of the path segment type and the path segment length.
-const HEADER_LEN: usize = 2;
+pub(super) const HEADER_LEN: usize = 2;
 
 // How many bytes an AS number has (RFC 4271, section 4.3; RFC 6793, section 3).
-fn width_bytes(width: Width) -> usize
+pub(super) fn width_bytes(width: Width) -> usize
     ensures { result ≡ as_width width }
 {
     match width {
@@ -34,7 +34,7 @@ fn width_bytes(width: Width) -> usize
 }
 
 // The AS number that the bytes are.
-fn number(width: Width, bytes: &[u8]) -> u32
+pub(super) fn number(width: Width, bytes: &[u8]) -> u32
     requires { length bytes.now ≡ as_width width }
     ensures { IsAsNumber width bytes.now result }
 {
@@ -46,7 +46,7 @@ fn number(width: Width, bytes: &[u8]) -> u32
 
 // The kind and the number of numbers of the segment at the front of the bytes. `None` exactly where no whole segment
 // stands there.
-fn header(width: Width, bytes: &[u8]) -> Option<(SegmentKind, u8)>
+pub(super) fn header(width: Width, bytes: &[u8]) -> Option<(SegmentKind, u8)>
     ensures found { IfSome result (λ h. HasHeader width bytes.now h.0 h.1) }
     ensures none { IfNone result ((kind : SegmentKind) (count : ℕ) → HasHeader width bytes.now kind count → ⊥) }
 {

@@ -1,15 +1,13 @@
-use Rattle.std.proofs.Common.{List, [], ◌∷◌, ◌++◌, map, take, arith, ap, ◌∙◌}
+use Rattle.std.proofs.Common.{◌++◌, map, arith, ◌∙◌}
+use Rattle.std.proofs.lemmas.Result.{on_ok_weaker}
 use Rattle.std.specs.Arc.{arc_value}
-use Rattle.bmp_specs.specs.Values.{NlriValue, AttrsValue, StepValue, announce_step}
-use Rattle.recent_ring.specs.Recent.{recent}
-use Rattle.router_tables.proofs.StepSteps.{kept, more_steps}
+use Rattle.bmp_specs.specs.Values.{NlriValue, announce_step, withdraw_step}
+use Rattle.router_tables.proofs.StepSteps.{steps_late}
 use Rattle.router_tables.proofs.steps.keep_announced.Goals as goal
 
-pub loop-nlri-preserved : goal.loop-nlri-preserved
-loop-nlri-preserved c all was =
+pub returns : goal.returns
+returns c =
     let f = λ (n : NlriValue). announce_step c.args.key.now c.args.view n (arc_value c.args.route.now) in
-    let ns = c.args.nlris.now in
-    let i = c.loop-nlri.nlri-index in
-    kept c.loop-nlri.steps c.push.new.self _ c.push.ensures.items c.push.ensures.total (all ++ map f (take i ns)) (c.loop-nlri.invariant all was)
-    ∙ ap (λ (a : AttrsValue). recent ((all ++ map f (take i ns)) ++ announce_step c.args.key.now c.args.view c.nlri-item.result a ∷ [])) c.in_ok-route.ensures
-    ∙ ap (λ (l : List StepValue). recent l) (more_steps f all ns i c.nlri-item.result (omega arith) c.nlri-item.is)
+    let g = λ (n : NlriValue). withdraw_step c.args.key.now c.args.view n in
+    on_ok_weaker c.keep_each.result (λ keeps all was. keeps (all ++ map g c.split_at.result.0.now) (c.keep_withdrawn.ensures all was)
+    ∙ steps_late f g all c.args.nlris.now c.split_at.result.0.now c.split_at.result.1.now c.split_at.ensures.by_index.0 (λ some. omega (arith, c.split_at.ensures.front_len, c.split_at.ensures.back_len))) c.keep_each.ensures
