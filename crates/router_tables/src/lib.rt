@@ -19,6 +19,7 @@ mod shared_peers;
 mod shared_stats;
 mod state;
 mod steps;
+mod subject;
 mod tables;
 mod views;
 
