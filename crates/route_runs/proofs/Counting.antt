@@ -29,6 +29,17 @@ only_run cmp [] run e is s = absurd (omega (arith, e))
 only_run cmp (first ∷ []) run e is s = one_run cmp first (subst (Rising cmp) is s) ∙ ap live (sym is)
 only_run cmp (first ∷ next ∷ runs) run e is s = absurd (omega (arith, e))
 
+-- a table without rows
+pub no_run : {K A : Type 0} (cmp : K → K → Ordering) (runs : List (List (K × Option A))) → length runs ≡ 0 → contents cmp runs ≡ []
+no_run cmp [] e = refl
+no_run cmp (first ∷ runs) e = absurd (omega (arith, e))
+
+pub bare_run : {K A : Type 0} (cmp : K → K → Ordering) (runs : List (List (K × Option A))) (run : List (K × Option A)) → length runs ≡ 1 → run ≡ get_or runs 0 run → length run ≡ 0 → contents cmp runs ≡ []
+bare_run cmp [] run e is n = absurd (omega (arith, e))
+bare_run cmp (first ∷ []) [] e is n = ap (λ l. contents cmp (l ∷ [])) (sym is)
+bare_run cmp (first ∷ []) (row ∷ run) e is n = absurd (omega (arith, n))
+bare_run cmp (first ∷ next ∷ runs) run e is n = absurd (omega (arith, e))
+
 live_cases : {K A : Type 0} (k : K) (o : Option A) (es : List (K × A)) (v n : ℕ) (vs : List ℕ) (b : Bool) → (b ≡ true → o ≡ None) → (b ≡ false → (x : A) × (o ≡ Some x)) → length es ≡ length vs → length (add_live k o es) ≡ length (cond (not b) (v ∷ vs) vs)
 live_cases k o es v n vs true none some e = ap (λ o. length (add_live k o es)) (none refl) ∙ e
 live_cases k o es v n vs false none some e = let s = some refl in ap (λ o. length (add_live k o es)) s.1 ∙ ap suc e

@@ -1,4 +1,4 @@
-ghost use Rattle.std.specs.Prelude.{◌≡◌, length, IfSome};
+ghost use Rattle.std.specs.Prelude.{◌≡◌, [], length, IfSome, IsTrue};
 ghost use Rattle.std.specs.List.{filter};
 ghost use Rattle.std.specs.List.Sorted.{IsStrictlySortedBy};
 ghost use Rattle.std.specs.Map.{keys_of};
@@ -39,5 +39,15 @@ impl<K: RunKey, A: Drop> Runs<K, A> {
             return Some(live_rows(&self.runs[0]));
         }
         None
+    }
+
+    /// Whether there is no run, or one without rows: then there is no pair.
+    pub(crate) fn is_bare(&self) -> bool
+        ensures { IsTrue result → self.now ≡ [] }
+    {
+        if self.runs.len() == 1 {
+            return self.runs[0].len() == 0;
+        }
+        self.runs.len() == 0
     }
 }

@@ -1,4 +1,4 @@
-ghost use Rattle.std.specs.Prelude.{◌≡◌, ◌+◌, ◌≤◌, [], length, min, Some, IfOk};
+ghost use Rattle.std.specs.Prelude.{◌≡◌, ◌+◌, ◌≤◌, [], length, min, Some, IfOk, IsTrue};
 ghost use Rattle.std.specs.List.{filter};
 ghost use Rattle.std.specs.Option.{option_map};
 ghost use Rattle.bmp_specs.specs.Orders.{nlri_cmp};
@@ -159,6 +159,14 @@ impl RouteTable {
             Some(count) => count,
             None => self.count_by_walk(),
         }
+    }
+
+    /// Whether it is known at once that there is no route. A table whose last route is withdrawn may still have runs,
+    /// until these are merged with the oldest one.
+    pub fn is_bare(&self) -> bool
+        ensures { IsTrue result → self.now ≡ [] }
+    {
+        self.runs.is_bare()
     }
 
     // How many routes a walk over all of them gives.

@@ -4,7 +4,10 @@ pub mod BookSteps
 pub mod CountSteps
 pub mod SessionSteps
 pub mod StepSteps
-pub mod RowSteps
 pub mod RouteSteps
 pub mod PendingSteps
 pub mod PendingDrops
+pub mod ChangesMade
+pub mod RowEffects
+pub mod SessionRows
+pub mod EntrySteps

@@ -21,7 +21,7 @@ use Rattle.router_tables.specs.Pending.{PendingValue, PendingTables, view_change
 use Rattle.router_tables.specs.Tables.{Tables, route_at, AreRowsOf}
 use Rattle.router_tables.specs.Views.{ViewsValue, view_table}
 
-nothing : (view : View) (q : NlriValue) → value_at nlri_cmp q (view_changes view no_changes) ≡ None
+pub nothing : (view : View) (q : NlriValue) → value_at nlri_cmp q (view_changes view no_changes) ≡ None
 nothing InPre q = refl
 nothing InPost q = refl
 nothing OutPre q = refl

@@ -13,9 +13,9 @@ use Rattle.bmp_specs.proofs.OrderLaws.{key_total, key_exact, view_total, view_ex
 use Rattle.bmp_specs.proofs.PairLookups.{at_other}
 use Rattle.route_runs.specs.Override.{value_at}
 use Rattle.route_runs.specs.Runs.{changed}
-use Rattle.router_tables.specs.Pending.{PendingValue, PendingTables, view_changes, IsGathered, no_changes, changes_of, IsGatheredFor, route_after, AreRowsAfter}
+use Rattle.router_tables.specs.Pending.{PendingValue, PendingTables, view_changes, IsGathered, no_changes, changes_of, IsGatheredFor, route_effect, route_after, AreRowsAfter}
 use Rattle.router_tables.specs.Tables.{Tables, route_at}
-use Rattle.router_tables.proofs.RouteSteps.{route_effect, IsAmong, IsPut, routes_put}
+use Rattle.router_tables.proofs.RouteSteps.{IsAmong, IsPut, routes_put}
 
 module _ (key : KeyValue) (view : View) (nlris : List NlriValue) (to : Option AttrsValue) (old new : PendingTables) (tables : Tables) (g : IsGatheredFor key view nlris to old new) where
   change_here : (place : RowKeyValue) → IsAmong key view nlris place → value_at nlri_cmp place.nlri (view_changes place.view (changes_of new place.key)) ≡ Some to

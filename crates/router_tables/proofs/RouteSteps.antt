@@ -9,12 +9,8 @@ use Rattle.bmp_specs.specs.Rows.{RowKeyValue, RowValue, ReplacesRow, HasRow}
 use Rattle.bmp_specs.specs.Values.{NlriValue, KeyValue, PeerInfoValue, AttrsValue, EffectValue, up, announce, withdraw}
 use Rattle.bmp_specs.proofs.EffectCases.{same_key}
 use Rattle.bmp_specs.proofs.OrderLaws.{nlri_total, nlri_exact, view_total, view_exact, same_or_other}
+use Rattle.router_tables.specs.Pending.{route_effect}
 use Rattle.bmp_specs.proofs.RowLaws.{up_still, up_from, row_now, row_from, row_kept_by_all, row_unheard}
-
--- a route is announced for an NLRI, or its route is withdrawn
-abbrev pub route_effect : KeyValue → View → Option AttrsValue → NlriValue → EffectValue
-route_effect key view (Some route) nlri = announce key view nlri route
-route_effect key view None nlri = withdraw key view nlri
 
 -- these routes are exactly the rows that these effects leave
 abbrev pub AreRoutesOf : (RowKeyValue → Option AttrsValue) → List EffectValue → Type 0

@@ -4,3 +4,4 @@ pub mod Session
 pub mod Views
 pub mod Tables
 pub mod Pending
+pub mod Taken

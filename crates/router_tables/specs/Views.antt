@@ -1,5 +1,5 @@
 -- The tables of one peer: one for each RIB in which its routes are seen, none where it has no row.
-use Rattle.std.specs.Prelude.{List, Option}
+use Rattle.std.specs.Prelude.{List, Option, None}
 use Rattle.bmp_specs.specs.declared.peers.View.{View}
 use Rattle.bmp_specs.specs.declared.peers.View.TheVariants.{InPre, InPost, OutPre, OutPost, Loc}
 use Rattle.bmp_specs.specs.Values.{NlriValue, AttrsValue}
@@ -22,3 +22,7 @@ view_table InPost views = views.in_post
 view_table OutPre views = views.out_pre
 view_table OutPost views = views.out_post
 view_table Loc views = views.loc
+
+-- of a peer without rows
+abbrev pub no_tables : ViewsValue
+no_tables = record { in_pre = None; in_post = None; out_pre = None; out_post = None; loc = None }

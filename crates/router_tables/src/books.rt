@@ -1,6 +1,6 @@
 ghost use Rattle.std.specs.Prelude.{◌≡◌, [], ◌++◌, List, IfOk, OnOk};
 ghost use Rattle.bmp_specs.specs.Values.{EffectValue};
-ghost use Rattle.rib_model.specs.Effects.{item_values, effect_values};
+ghost use Rattle.rib_model.specs.Effects.{item_values};
 ghost use Rattle.router_tables.specs.Books.{StandsForBooks};
 
 use crate::shared_peers::{bring_up, set_mark, take_down};
@@ -119,14 +119,4 @@ impl Books {
             _ => Ok(()),
         }
     }
-}
-
-// Takes the effects of a message, in order. After want of memory the books may only be dropped.
-pub(crate) fn take_effects(books: &mut Books, effects: &[Effect]) -> Result<(), NoMemory>
-    ensures { OnOk result ((earlier : List EffectValue) → StandsForBooks books.old earlier → StandsForBooks books.new (earlier ++ effect_values effects.now)) }
-{
-    for effect in effects {
-        books.take(effect)?;
-    }
-    Ok(())
 }

@@ -5,13 +5,20 @@
 //! what its present session counts, the router's name and description, the peers, their statistics, one table
 //! for each peer and RIB, and the last steps of the whole list. Equal tables are had for the price of counters.
 //!
-//! Proved: new tables stand for no entries, and equal tables have the same parts. The present session and the last
-//! steps follow each entry, and a peer that comes up or goes down has no row (`session.rt`, `steps.rt`, `rows.rt`).
-//! Begin with `specs/Tables.antt` and `specs/Session.antt`, then `src/tables.rt`.
+//! While entries are taken, the changes of routes are gathered for each peer and RIB, and a peer that comes up or
+//! goes down drops what is gathered for it. At the end each table takes one run for all of them.
+//!
+//! Proved: new tables stand for no entries; tables that stand for some entries stand for them with any others behind
+//! them after `with`, `extend` and `apply`, and after want of memory they are as before; equal tables have the same
+//! parts. That a table takes one run for all its changes is in no contract.
+//! Begin with `specs/Tables.antt` and `specs/Session.antt`, then `src/tables.rt` and `src/taken.rt`; routes are
+//! gathered in `src/rows.rt` and `src/pending.rt`, and changed in `src/changed.rt`.
 #![tactic(auto)]
 
 mod books;
+mod changed;
 mod counting;
+mod effects;
 mod pending;
 mod rows;
 mod session;
@@ -21,6 +28,7 @@ mod state;
 mod steps;
 mod subject;
 mod tables;
+mod taken;
 mod views;
 
 pub use state::LaneState;

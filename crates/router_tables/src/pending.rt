@@ -22,11 +22,11 @@ use wire_io::NoMemory;
 // section 4.1), none where none of its routes changes.
 #[derive(Drop)]
 pub(crate) struct Pending {
-    in_pre: Option<Changes>,
-    in_post: Option<Changes>,
-    out_pre: Option<Changes>,
-    out_post: Option<Changes>,
-    loc: Option<Changes>,
+    pub(crate) in_pre: Option<Changes>,
+    pub(crate) in_post: Option<Changes>,
+    pub(crate) out_pre: Option<Changes>,
+    pub(crate) out_post: Option<Changes>,
+    pub(crate) loc: Option<Changes>,
 }
 
 impl Model for Pending {

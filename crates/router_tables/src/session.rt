@@ -1,13 +1,17 @@
 ghost use Rattle.std.specs.Prelude.{◌≡◌, [], ◌∷◌, ◌++◌, List, IfOk, OnOk};
+ghost use Rattle.bmp_specs.specs.Session.{session_effects};
 ghost use Rattle.bmp_specs.specs.Sums.{no_counts};
 ghost use Rattle.bmp_specs.specs.Values.{EntryValue};
 ghost use Rattle.rib_model.specs.Entries.{entry_value};
 ghost use Rattle.router_tables.specs.Books.{StandsForBooks};
+ghost use Rattle.router_tables.specs.Pending.{StandsForRows};
 ghost use Rattle.router_tables.specs.Session.{StandsForSession};
 ghost use Rattle.router_tables.specs.State.{state_value};
 
-use crate::books::{Books, take_effects};
+use crate::books::Books;
 use crate::counting::count_message;
+use crate::effects::take_effects;
+use crate::rows::Rows;
 use crate::state::LaneState;
 use rib_model::Entry;
 use stats_book::Counts;
@@ -73,12 +77,22 @@ impl Session {
         &self.books
     }
 
-    // Takes one entry. After want of memory the session may only be dropped.
-    pub(crate) fn take(&mut self, alloc: Global, entry: &Entry) -> Result<(), NoMemory>
-        ensures { OnOk result ((entries : List EntryValue) → StandsForSession self.old entries → StandsForSession self.new (entries ++ entry_value entry.now ∷ [])) }
+    // Takes one entry. After want of memory the session and its rows may only be dropped.
+    pub(crate) fn take(
+        &mut self,
+        alloc: Global,
+        rows: &mut Rows,
+        entry: &Entry,
+    ) -> Result<(), NoMemory>
+        ensures session { OnOk result ((entries : List EntryValue) → StandsForSession self.old entries → StandsForSession self.new (entries ++ entry_value entry.now ∷ [])) }
+        ensures rows { OnOk result ((entries : List EntryValue) → StandsForSession self.old entries → StandsForRows rows.old (session_effects entries)
+            → StandsForRows rows.new (session_effects (entries ++ entry_value entry.now ∷ []))) }
     {
         match entry {
-            Entry::Opened => self.start_over(alloc, LaneState::Live),
+            Entry::Opened => {
+                rows.clear();
+                self.start_over(alloc, LaneState::Live)
+            }
             Entry::Message {
                 length,
                 effects,
@@ -89,9 +103,10 @@ impl Session {
                 }
                 let effects = effects.as_slice();
                 count_message(&mut self.counts, *length, effects);
-                take_effects(&mut self.books, effects)
+                take_effects(&mut self.books, rows, effects)
             }
             Entry::Closed(cause) => {
+                rows.clear();
                 let state = self.state.after_closing(*cause);
                 self.start_over(alloc, state)
             }

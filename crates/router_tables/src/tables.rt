@@ -1,22 +1,26 @@
-ghost use Rattle.std.specs.Prelude.{◌≡◌, [], None, IfOk, IsNone};
+ghost use Rattle.std.specs.Prelude.{◌≡◌, [], ◌∷◌, ◌++◌, List, None, IfOk, IsNone, OnErr, OnOk};
 ghost use Rattle.std.specs.Option.{option_copied};
-ghost use Rattle.bmp_specs.specs.Values.{NlriValue};
+ghost use Rattle.bmp_specs.specs.Values.{EntryValue, NlriValue};
+ghost use Rattle.rib_model.specs.Entries.{entry_value, entry_values};
 ghost use Rattle.router_tables.specs.State.{state_value};
 ghost use Rattle.router_tables.specs.Tables.{StandsFor, table_at, route_at, steps_told};
 
+use crate::rows::Rows;
 use crate::session::Session;
 use crate::state::LaneState;
+use crate::taken::take_entries;
 use crate::views::Views;
 use bmp_frames::PeerKey;
 use bmp_specs::View;
 use peer_book::PeerBook;
 use recent_ring::Recent;
-use rib_model::Step;
+use rib_model::{Entry, Step};
 use route_runs::RouteTable;
 use stats_book::{Counts, StatsBook};
 use std::alloc::Global;
 use std::collections::BTreeMap;
 use std::marker::Model;
+use std::slice;
 use wire_io::NoMemory;
 
 /// The tables of one router, which stand for the entries of its lane (`StandsFor`).
@@ -49,7 +53,43 @@ impl RouterTables {
         })
     }
 
-    /// Equal tables, for the price of a counter for each table, and of the last steps as `Recent::copy` says.
+    /// The tables with these entries taken, in order. Each table whose routes change takes one run for all of them. They
+    /// cost what `share` costs, and these tables stay as they are.
+    pub fn with(&self, entries: &[Entry]) -> Result<RouterTables, NoMemory>
+        ensures { IfOk result (λ tables. (so_far : List EntryValue) → StandsFor self.now so_far → StandsFor tables (so_far ++ entry_values entries.now)) }
+    {
+        let mut session = self.session.share()?;
+        let mut rows = Rows::new(self.alloc, self.tables.clone()?);
+        let mut steps = self.steps.copy()?;
+        take_entries(self.alloc, &mut session, &mut rows, &mut steps, entries)?;
+        let tables = rows.into_tables()?;
+        Ok(RouterTables {
+            alloc: self.alloc,
+            session,
+            tables,
+            steps,
+        })
+    }
+
+    /// Takes entries, in order, as `with` does. After want of memory the tables are as before.
+    pub fn extend(&mut self, entries: &[Entry]) -> Result<(), NoMemory>
+        ensures ok { OnOk result ((so_far : List EntryValue) → StandsFor self.old so_far → StandsFor self.new (so_far ++ entry_values entries.now)) }
+        ensures err { OnErr result (self.new ≡ self.old) }
+    {
+        *self = self.with(entries)?;
+        Ok(())
+    }
+
+    /// Takes one entry. After want of memory the tables are as before.
+    pub fn apply(&mut self, entry: &Entry) -> Result<(), NoMemory>
+        ensures ok { OnOk result ((so_far : List EntryValue) → StandsFor self.old so_far → StandsFor self.new (so_far ++ entry_value entry.now ∷ [])) }
+        ensures err { OnErr result (self.new ≡ self.old) }
+    {
+        self.extend(slice::from_ref(entry))
+    }
+
+    /// Equal tables. The map of peers is copied, at the price of an entry for each peer that has tables and of a counter
+    /// for each of its tables, and so is the list of the last steps, as `Recent::copy` says; all else is shared.
     pub fn share(&self) -> Result<RouterTables, NoMemory>
         ensures { IfOk result (λ copy. copy ≡ self.now) }
     {

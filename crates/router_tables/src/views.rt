@@ -1,7 +1,7 @@
-ghost use Rattle.std.specs.Prelude.{◌≡◌, IfOk};
+ghost use Rattle.std.specs.Prelude.{◌≡◌, IfOk, IsTrue};
 ghost use Rattle.std.specs.Arc.{arc_value};
 ghost use Rattle.std.specs.Option.{option_copied, option_map};
-ghost use Rattle.router_tables.specs.Views.{view_table};
+ghost use Rattle.router_tables.specs.Views.{no_tables, view_table};
 
 use bmp_specs::View;
 use route_runs::RouteTable;
@@ -13,11 +13,11 @@ use std::sync::Arc;
 // section 4; RFC 9069, section 4.1), none where it has no row.
 #[derive(Drop)]
 pub(crate) struct Views {
-    in_pre: Option<Arc<RouteTable>>,
-    in_post: Option<Arc<RouteTable>>,
-    out_pre: Option<Arc<RouteTable>>,
-    out_post: Option<Arc<RouteTable>>,
-    loc: Option<Arc<RouteTable>>,
+    pub(crate) in_pre: Option<Arc<RouteTable>>,
+    pub(crate) in_post: Option<Arc<RouteTable>>,
+    pub(crate) out_pre: Option<Arc<RouteTable>>,
+    pub(crate) out_post: Option<Arc<RouteTable>>,
+    pub(crate) loc: Option<Arc<RouteTable>>,
 }
 
 impl Model for Views {
@@ -37,6 +37,30 @@ impl Model for Views {
 }
 
 impl Views {
+    // No table.
+    pub(crate) fn none() -> Views
+        ensures { result ≡ no_tables }
+    {
+        Views {
+            in_pre: None,
+            in_post: None,
+            out_pre: None,
+            out_post: None,
+            loc: None,
+        }
+    }
+
+    // Whether there is none.
+    pub(crate) fn is_none(&self) -> bool
+        ensures { IsTrue result → self.now ≡ no_tables }
+    {
+        self.in_pre.is_none()
+            && self.in_post.is_none()
+            && self.out_pre.is_none()
+            && self.out_post.is_none()
+            && self.loc.is_none()
+    }
+
     // The table of a view.
     pub(crate) fn of_view(&self, view: View) -> Option<&RouteTable>
         ensures { option_copied result ≡ view_table view self.now }

@@ -1,0 +1,135 @@
+ghost use Rattle.std.specs.Prelude.{◌≡◌, ◌↔◌, [], List, IfOk, OnOk, IsTrue};
+ghost use Rattle.std.specs.Arc.{arc_value};
+ghost use Rattle.std.specs.Option.{option_map, unwrap_or};
+ghost use Rattle.bmp_specs.specs.Values.{EffectValue};
+ghost use Rattle.router_tables.specs.Pending.{AreRowsAfter, AreTablesAfter, IsPeerAfter, IsTableAfter};
+ghost use Rattle.router_tables.specs.Tables.{AreRowsOf};
+ghost use Rattle.router_tables.specs.Views.{no_tables};
+
+use crate::pending::Pending;
+use crate::views::Views;
+use bmp_frames::PeerKey;
+use route_runs::{Changes, Place, RouteTable};
+use std::alloc::Global;
+use std::collections::BTreeMap;
+use std::sync::Arc;
+use wire_io::NoMemory;
+
+// Makes all changes that are gathered: each table takes one run. A table that is left without a row goes, and a peer
+// without tables.
+pub(crate) fn make_changes(
+    alloc: Global,
+    mut pending: BTreeMap<PeerKey, Pending>,
+    tables: &mut BTreeMap<PeerKey, Views>,
+) -> Result<(), NoMemory>
+    ensures { OnOk result ((effects : List EffectValue) → AreRowsAfter pending.entries tables.old.entries effects
+        → AreRowsOf tables.new.entries effects) }
+{
+    while let Some(peer) = pending.pop_first() {
+        change_peer(alloc, tables, peer.0, peer.1)?;
+    }
+    Ok(())
+}
+
+// Makes the changes of one peer's tables.
+fn change_peer(
+    alloc: Global,
+    tables: &mut BTreeMap<PeerKey, Views>,
+    key: PeerKey,
+    changes: Pending,
+) -> Result<(), NoMemory>
+    ensures { OnOk result (IsPeerAfter key changes tables.old.entries tables.new.entries) }
+{
+    let old = so_far(tables.remove(&key));
+    let new = tables_with(alloc, old, changes)?;
+    if !new.is_none() {
+        tables.insert(key, new)?;
+    }
+    Ok(())
+}
+
+// The tables of a peer so far.
+fn so_far(views: Option<Views>) -> Views
+    ensures { result ≡ unwrap_or views no_tables }
+{
+    match views {
+        Some(views) => views,
+        None => Views::none(),
+    }
+}
+
+// The tables of a peer with these changes made.
+fn tables_with(alloc: Global, views: Views, changes: Pending) -> Result<Views, NoMemory>
+    ensures { IfOk result (AreTablesAfter changes views) }
+{
+    Ok(Views {
+        in_pre: table_with(alloc, views.in_pre, changes.in_pre)?,
+        in_post: table_with(alloc, views.in_post, changes.in_post)?,
+        out_pre: table_with(alloc, views.out_pre, changes.out_pre)?,
+        out_post: table_with(alloc, views.out_post, changes.out_post)?,
+        loc: table_with(alloc, views.loc, changes.loc)?,
+    })
+}
+
+// The table with these changes made.
+fn table_with(
+    alloc: Global,
+    table: Option<Arc<RouteTable>>,
+    changes: Option<Changes>,
+) -> Result<Option<Arc<RouteTable>>, NoMemory>
+    ensures { IfOk result (λ new. IsTableAfter (unwrap_or changes []) (option_map arc_value table) (option_map arc_value new)) }
+{
+    match changes {
+        Some(changes) => changed_table(alloc, table, changes),
+        None => Ok(table),
+    }
+}
+
+// The table with these changes, which are some.
+fn changed_table(
+    alloc: Global,
+    table: Option<Arc<RouteTable>>,
+    changes: Changes,
+) -> Result<Option<Arc<RouteTable>>, NoMemory>
+    ensures { IfOk result (λ new. IsTableAfter changes (option_map arc_value table) (option_map arc_value new)) }
+{
+    let mut changes = changes;
+    match table {
+        Some(table) => {
+            let new = table.with(&mut changes)?;
+            next_table(alloc, new)
+        }
+        None => {
+            let new = RouteTable::new(alloc).with(&mut changes)?;
+            first_table(alloc, new)
+        }
+    }
+}
+
+// A later table of a peer and a RIB; none where no route is left. One whose withdrawals aren't merged with its oldest
+// run stays: to pass over them would cost more than the table.
+fn next_table(alloc: Global, table: RouteTable) -> Result<Option<Arc<RouteTable>>, NoMemory>
+    ensures { IfOk result (λ kept. unwrap_or (option_map arc_value kept) [] ≡ table) }
+{
+    if table.is_bare() {
+        return Ok(None);
+    }
+    Ok(Some(Arc::new(alloc, table)?))
+}
+
+// The first table of a peer and a RIB; none where its routes were announced and withdrawn again, or withdrawn alone.
+fn first_table(alloc: Global, table: RouteTable) -> Result<Option<Arc<RouteTable>>, NoMemory>
+    ensures { IfOk result (λ kept. unwrap_or (option_map arc_value kept) [] ≡ table) }
+{
+    if has_no_row(&table) {
+        return Ok(None);
+    }
+    Ok(Some(Arc::new(alloc, table)?))
+}
+
+// Whether a table has no row.
+fn has_no_row(table: &RouteTable) -> bool
+    ensures { IsTrue result ↔ (table.now ≡ []) }
+{
+    table.walk(Place::First).next().is_none()
+}
