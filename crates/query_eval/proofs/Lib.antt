@@ -1,6 +1,14 @@
 pub mod Leading
 pub mod Keeping
 pub mod Walking
+pub mod PeerSteps
+pub mod MarkSteps
+pub mod StatSteps
+pub mod InOrder
+pub mod PeersTold
+pub mod MarksTold
+pub mod StatsTold
+pub mod RoutersTold
 pub mod RowCursor
 pub mod RowDeciding
 pub mod RowWalk
@@ -11,3 +19,8 @@ pub mod RowRunLaws
 pub mod RowTellings
 pub mod RowAnswers
 pub mod RowChangeLaws
+pub mod LaneSteps
+pub mod ReplySteps
+pub mod LinesThere
+pub mod RepliesThere
+pub mod HistoryLanes

@@ -119,5 +119,4 @@ module _ (query : QueryValue) (lane : ℕ) (value : TablesValue) (rows : List Ro
   pub counts_rows : (n : ℕ) → n ≡ told_count (length rows) → CountsRows (StandsFor value) query lane n
   counts_rows n is = record {
     counts = λ entries others stands of. is ∙ ap (λ (l : List RowValue). told_count (length l)) (rows_one (AsksRow query lane (session_effects entries)) (session_effects entries) rows others (are entries stands) of);
-    there = λ entries stands. (rows, are entries stands);
   }

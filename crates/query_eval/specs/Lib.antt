@@ -1,6 +1,8 @@
 pub mod Puts
 pub mod Selecting
 pub mod Later
+pub mod Told
+pub mod Replies
 pub mod RowTables
 pub mod RowRuns
 pub mod Rows

@@ -37,4 +37,3 @@ AreAskedRows query lane entries rows = AreRows (AsksRow query lane (session_effe
 -- For whichever of these lists of entries, it is the number of the rows that are asked for, at most the greatest of 64 bits.
 pub record CountsRows (Of : List EntryValue → Type 0) (query : QueryValue) (lane count : ℕ) : Type 0 where
   pub counts : (entries : List EntryValue) (rows : List RowValue) → Of entries → AreAskedRows query lane entries rows → count ≡ told_count (length rows)
-  pub there : (entries : List EntryValue) → Of entries → (rows : List RowValue) × AreAskedRows query lane entries rows
