@@ -53,8 +53,9 @@ impl RouterTables {
         })
     }
 
-    /// The tables with these entries taken, in order. Each table whose routes change takes one run for all of them. They
-    /// cost what `share` costs, and these tables stay as they are.
+    /// The tables with these entries taken, in order. Each table whose routes change takes one run for all of
+    /// them. They cost what `share` costs, and these tables stay as they are. Where the lane has no connection, a
+    /// message only adds to the last steps; routes of a peer that isn't up (RFC 7854, section 4.10) aren't taken.
     pub fn with(&self, entries: &[Entry]) -> Result<RouterTables, NoMemory>
         ensures { IfOk result (λ tables. (so_far : List EntryValue) → StandsFor self.now so_far → StandsFor tables (so_far ++ entry_values entries.now)) }
     {
@@ -88,8 +89,9 @@ impl RouterTables {
         self.extend(slice::from_ref(entry))
     }
 
-    /// Equal tables. The map of peers is copied, at the price of an entry for each peer that has tables and of a counter
-    /// for each of its tables, and so is the list of the last steps, as `Recent::copy` says; all else is shared.
+    /// Equal tables. The map of peers is copied, at the price of an entry for each peer that has tables and of a
+    /// counter for each of its tables, and so is the list of the last steps, as `Recent::copy` says. All else is
+    /// shared, and a book is copied once it changes.
     pub fn share(&self) -> Result<RouterTables, NoMemory>
         ensures { IfOk result (λ copy. copy ≡ self.now) }
     {

@@ -5,8 +5,8 @@ use rib_model::Entry;
 use std::alloc::Global;
 use std::test::Fail;
 
-// The entries of a session, and how many routes peer 1 then has in Adj-RIB-In before and after policy, and peer 2 before
-// policy, a digit each.
+// The entries of a session, and how many routes peer 1 then has in Adj-RIB-In before and after policy, and peer 2
+// before policy, a digit each.
 const ENTRIES: u32 = 22;
 
 fn worked(place: u32) -> (Act, u64) {
