@@ -31,3 +31,6 @@ mod tables;
 mod within;
 
 pub use reply::answer;
+
+#[cfg(test)]
+mod tests;

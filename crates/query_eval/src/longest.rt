@@ -28,7 +28,14 @@ pub(crate) struct LongestRows {
     family: Option<Family>,
 }
 
-// The same with a count of looks of this name.
+// The longest prefix of a table that holds the address.
+fn longest_prefix(routes: &RouteTable, address: &Addr) -> Option<Prefix>
+    ensures { IsLongest address.now routes.now result }
+{
+    longest_counted::<Brand>(routes, address, Blank::new(1))
+}
+
+// The same. The looks are counted for a proof alone.
 fn longest_counted<L: Ledger>(routes: &RouteTable, address: &Addr, blank: Blank) -> Option<Prefix>
     requires name { blank.name ≡ L.name }
     requires parts { blank.parts ≡ L.parts }
@@ -37,13 +44,6 @@ fn longest_counted<L: Ledger>(routes: &RouteTable, address: &Addr, blank: Blank)
 {
     let mut steps = Steps::<L>::new(blank);
     routes.longest(address, &mut steps)
-}
-
-// The longest prefix of a table that holds the address.
-fn longest_prefix(routes: &RouteTable, address: &Addr) -> Option<Prefix>
-    ensures { IsLongest address.now routes.now result }
-{
-    longest_counted::<Brand>(routes, address, Blank::new(1))
 }
 
 // Writes the lines of the rows of a prefix that was found, all those with a path identifier too.
