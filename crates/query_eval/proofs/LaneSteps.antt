@@ -79,8 +79,8 @@ parts_first parts i d small = at_drop_more (flat_map (λ p. p)) parts i d small
 parts_over : {X : Type 0} (parts : List (List X)) (i : ℕ) → length parts ≤ i → flat_map (λ (p : List X). p) (drop i parts) ≡ []
 parts_over parts i over = ap (flat_map (λ p. p)) (drop_all i parts over)
 
--- The lines of the first lanes were written and counted, whichever their entries are: to write those of the others is to write
--- all.
+-- The lines of the first lanes were written and counted, whichever their entries are: to write those of the others is to
+-- write all.
 pub record LanesSoFar {O : Type 0} (faults : O → ℕ) (told : O → Option (List ℕ)) (aside : O → Aside) (cut : List (TablesValue × ℕ)) (query : QueryValue) (start now : O) (lane count : ℕ) : Type 0 where
   pub leads : (lanes : List (List EntryValue)) (parts : List (List (List ℕ))) → StandForLanes cut lanes → AreParallel (AreLaneLines query) lanes parts
       → LeadsTo faults told aside start now count (flat_map (λ p. p) (drop lane parts)) (flat_map (λ p. p) parts)

@@ -18,8 +18,8 @@ pub all_of : {Y K : Type 0} (key : Y → K) (P : K → Type 0) (ys : List Y) →
 all_of key P [] each = tt
 all_of key P (y ∷ ys) each = (each y (contains_first y ys), all_of key P ys (λ z c. each z (contains_later y ys z c)))
 
--- Lists in order, one for each item of a list in order: where the members for an item come before those for a later one,
--- all together are in order.
+-- Lists in order, one for each item of a list in order: where the members for an item come before those for a later
+-- one, all together are in order.
 module _ {X J Y K : Type 0} (item : X → J) (among : J → J → Ordering) (f : X → List Y) (key : Y → K) (cmp : K → K → Ordering) (less : (x y : X) (a b : Y) → among (item x) (item y) ≡ Less → Contains (f x) a → Contains (f y) b → cmp (key a) (key b) ≡ Less) where
   all_less : (x : X) (a : Y) → Contains (f x) a → (xs : List X) → AllByRecursion (λ (j : J). among (item x) j ≡ Less) (map item xs) → AllByRecursion (λ (q : K). cmp (key a) q ≡ Less) (map key (flat_map f xs))
   all_less x a m [] s = tt

@@ -1,4 +1,5 @@
--- The rows that are asked of a lane's tables are those that its entries leave and that are asked for, in the order of a reply.
+-- The rows that are asked of a lane's tables are those that its entries leave and that are asked for, in the order of a
+-- reply.
 use Rattle.std.specs.Prelude.{if◌then◌else◌}
 use Rattle.std.proofs.Common.{◌≡◌, ◌↔◌, inl, inr, ℕ, Bool, true, false, List, [], ◌∷◌, map, arith, Option, None, Some, IsSome, option_and_then, refl, sym, ap, ◌∙◌, subst, Decides}
 use Rattle.std.specs.declared.cmp.Ordering.{Ordering}
@@ -268,8 +269,8 @@ module _ (select : SelectValue) (lane : ℕ) (value : TablesValue) (entries : Li
       go None is at = absurd cc
       go (Some pairs) is at = (pairs, is)
 
-  -- Where the test says which rows are sought, the rows that are asked are those that stand, are sought, and have the peer
-  -- and the view that are named.
+  -- Where the test says which rows are sought, the rows that are asked are those that stand, are sought, and have the
+  -- peer and the view that are named.
   module _ (asking : Asking) (IsSought : RowValue → Type 0) (decides : (t : PeerTableValue) → IsAmong t → (e : NlriValue × AttrsValue) → Contains t.pairs e → Decides (asking t.pairs e) (IsSought (row_of t.key t.view e))) where
     abbrev Wanted : RowValue → Type 0
     Wanted row = IsSought row × IsPeerSelected select.router select.peer lane row.row_key.key × IsAskedFor select.view row.row_key.view

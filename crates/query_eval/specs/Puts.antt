@@ -18,13 +18,14 @@ abbrev pub done : Result ℕ Failed → Result (Unit {0}) Failed
 done (Ok count) = Ok tt
 done (Err failed) = Err failed
 
--- All lines were written, and no write failed, and the answer is their number, at most the greatest of 64 bits; or a write
--- failed in this call, and a front of the lines was written.
+-- All lines were written, and no write failed, and the answer is their number, at most the greatest of 64 bits; or a
+-- write failed in this call, and a front of the lines was written.
 pub record WritesLines {O : Type 0} (faults : O → ℕ) (told : O → Option (List ℕ)) (aside : O → Aside) (old : O) (lines : List (List ℕ)) (result : Result ℕ Failed) (new : O) : Type 0 where
   pub written : Writes faults told aside old (concat lines) (done result) new
   pub counted : IfOk result (λ count. count ≡ told_count (length lines))
 
--- For whichever entries, of a lane or of each lane, these lines of them were written, or a front of them where a write failed.
+-- For whichever entries, of a lane or of each lane, these lines of them were written, or a front of them where a write
+-- failed.
 pub record PutsLines {O E : Type 0} (faults : O → ℕ) (told : O → Option (List ℕ)) (aside : O → Aside) (Of : E → Type 0) (AreThese : E → List (List ℕ) → Type 0) (old : O) (result : Result ℕ Failed) (new : O) : Type 0 where
   pub puts : (entries : E) (lines : List (List ℕ)) → Of entries → AreThese entries lines → WritesLines faults told aside old lines result new
   pub kept : aside new ≡ aside old
@@ -34,6 +35,7 @@ pub record PutsLines {O E : Type 0} (faults : O → ℕ) (told : O → Option (L
 abbrev pub AreAskedRows : QueryValue → ℕ → List EntryValue → List RowValue → Type 0
 AreAskedRows query lane entries rows = AreRows (AsksRow query lane (session_effects entries)) (session_effects entries) rows
 
--- For whichever of these lists of entries, it is the number of the rows that are asked for, at most the greatest of 64 bits.
+-- For whichever of these lists of entries, it is the number of the rows that are asked for, at most the greatest of 64
+-- bits.
 pub record CountsRows (Of : List EntryValue → Type 0) (query : QueryValue) (lane count : ℕ) : Type 0 where
   pub counts : (entries : List EntryValue) (rows : List RowValue) → Of entries → AreAskedRows query lane entries rows → count ≡ told_count (length rows)

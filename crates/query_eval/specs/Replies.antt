@@ -58,7 +58,8 @@ IsReplyOn query lanes history text = IsReply query (lanes_of lanes history) text
 pub record CountsAllRows (Of : List (List EntryValue) → Type 0) (query : QueryValue) (number : ℕ) : Type 0 where
   pub counts : (lanes : List (List EntryValue)) (rows : List RowValue) → Of lanes → AreAllRows query lanes rows → number ≡ told_count (length rows)
 
--- The reply of the query tells of each lane apart: it isn't the number of rows of all lanes, nor is it the end of the session.
+-- The reply of the query tells of each lane apart: it isn't the number of rows of all lanes, and the query isn't the end
+-- of the session.
 abbrev pub TellsByLane : QueryValue → Type 0
 TellsByLane (count select) = ⊥
 TellsByLane quit = ⊥

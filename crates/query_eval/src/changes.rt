@@ -1,4 +1,4 @@
-ghost use Rattle.std.specs.Prelude.{◌≡◌, map};
+ghost use Rattle.std.specs.Prelude.{map};
 ghost use Rattle.bmp_specs.specs.Changes.{oldest_kept};
 ghost use Rattle.bmp_specs.specs.ChangeLines.{change_line, missed_lines};
 ghost use Rattle.bmp_specs.specs.QueryReply.{AreChangeLines};

@@ -1,7 +1,7 @@
 //! The lines of all lanes, lane after lane.
 ghost use Rattle.std.specs.Prelude.{◌≡◌, length};
 ghost use Rattle.bmp_specs.specs.Query.{changes, count, cut};
-ghost use Rattle.bmp_specs.specs.QueryReply.{AreAllRows, AreLaneLines, AreLines};
+ghost use Rattle.bmp_specs.specs.QueryReply.{AreLaneLines, AreLines};
 ghost use Rattle.query_lang.specs.Queries.{query_value};
 ghost use Rattle.router_tables.specs.Tables.{StandsFor};
 ghost use Rattle.query_eval.specs.Puts.{PutsLines};

@@ -1,7 +1,7 @@
 ghost use Rattle.bmp_specs.specs.Query.{origin as origin_query};
 ghost use Rattle.bmp_specs.specs.QueryReply.{AreLaneLines};
 ghost use Rattle.router_tables.specs.Tables.{StandsFor};
-ghost use Rattle.query_eval.specs.Puts.{PutsLines, WritesLines};
+ghost use Rattle.query_eval.specs.Puts.{PutsLines};
 ghost use Rattle.query_eval.specs.Rows.{asks_origin};
 
 use crate::asks::{Asks, put_rows};

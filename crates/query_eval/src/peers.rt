@@ -11,7 +11,6 @@ ghost use Rattle.router_tables.specs.Tables.{StandsFor};
 ghost use Rattle.query_eval.specs.Later.{later};
 ghost use Rattle.query_eval.specs.Puts.{WritesLines, PutsLines};
 ghost use Rattle.query_eval.specs.Told.{states_in, state_lines, up_keys, is_up_state};
-ghost use Rattle.wire_io.specs.Writes.{Writes};
 
 use crate::selection::is_peer_selected;
 use bmp_frames::PeerKey;

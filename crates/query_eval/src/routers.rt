@@ -1,4 +1,4 @@
-ghost use Rattle.std.specs.Prelude.{◌≡◌, ℕ, List};
+ghost use Rattle.std.specs.Prelude.{ℕ, List};
 ghost use Rattle.bmp_specs.specs.Query.{routers};
 ghost use Rattle.bmp_specs.specs.QueryReply.{AreLaneLines, IsRouterLine};
 ghost use Rattle.bmp_specs.specs.Session.{state_of};

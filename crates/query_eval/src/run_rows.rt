@@ -1,4 +1,3 @@
-ghost use Rattle.std.specs.Prelude.{◌≡◌};
 ghost use Rattle.query_eval.specs.Puts.{WritesLines};
 ghost use Rattle.query_eval.specs.Rows.{asked_of, asks_run, lines_of};
 ghost use Rattle.query_eval.specs.RowTables.{table_value};

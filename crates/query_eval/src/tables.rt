@@ -1,11 +1,10 @@
-ghost use Rattle.std.specs.Prelude.{◌≡◌, [], ◌∷◌, ◌++◌, MatchOption, if◌then◌else◌};
+ghost use Rattle.std.specs.Prelude.{◌≡◌, [], ◌∷◌, MatchOption, if◌then◌else◌};
 ghost use Rattle.std.specs.List.Sorted.{IsStrictlySortedBy};
 ghost use Rattle.std.specs.Map.{keys_of};
 ghost use Rattle.std.specs.Option.{option_copied};
 ghost use Rattle.std.specs.Ordering.{nat_cmp};
-ghost use Rattle.bmp_specs.specs.Orders.{key_cmp, nlri_cmp};
+ghost use Rattle.bmp_specs.specs.Orders.{key_cmp};
 ghost use Rattle.peer_book.specs.Peers.{after_place};
-ghost use Rattle.route_runs.specs.Runs.{in_order};
 ghost use Rattle.query_eval.specs.Selecting.{is_named};
 ghost use Rattle.query_eval.specs.RowTables.{asked_keys, asked_table, keys_after, keys_from, lane_tables, left_of, table_value, tables_from, view_after, view_table};
 
