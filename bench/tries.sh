@@ -1,7 +1,7 @@
 #!/usr/bin/env bash
 # Measures the table of prefixes: a trie, beside an ordered map of std with the same prefixes.
 #
-#   bench/tables.sh [PREFIXES]
+#   bench/tries.sh [PREFIXES]
 #
 # Both are filled with so many IPv4 prefixes (1,000,000) and asked for each, in prefix order and
 # shuffled. They run in turn, ROUNDS times (7), with runs that do nothing, and runs that also ask the
