@@ -1,13 +1,16 @@
 #!/usr/bin/env bash
-# Measures `check` and `replay table` on a large table, beside another program.
+# Measures `check` and the queries of `replay` on a large table, beside another program.
 #
 #   bench/replay.sh OTHER [PREFIXES]
 #
 # OTHER is a program that takes the same words and writes the same bytes, and that writes for the words
-# `gen-table PREFIXES SEED` the stream of one peer with so many IPv4 prefixes, and a fifth as many of IPv6.
-# The two run in turn on one stream, ROUNDS times (5), from a file in the cache, with their output to
-# /dev/null. Prints for each command the least processor times and the peak memories, and their ratios:
-# below 1 ours is the better. Then the peak memory of `check` on the stream once, twice and four times over.
+# `gen-table PREFIXES SEED` the stream of one peer with so many IPv4 prefixes (1,000,000), and a fifth as many
+# of IPv6. The stream comes with its UPDATEs in prefix order, and shuffled. The two run in turn on one stream,
+# ROUNDS times (5), from a file in the cache, with their output to /dev/null. Prints for each command the
+# least processor times and the peak memories, and their ratios: below 1 ours is the better. The prefix, the
+# address and the origin that are asked for stand in the stream, in the middle of its IPv4 prefixes. The bytes
+# of the two are compared for each command, and for more of them that aren't measured. At the end comes the
+# peak memory of `check` on the stream once, twice and four times over.
 set -euo pipefail
 
 other=${1:?usage: bench/replay.sh OTHER [PREFIXES]}
@@ -16,30 +19,71 @@ rounds=5
 program=bmpstation
 . "$(dirname "$0")/measure.sh"
 
-input=$work/stream
 output=/dev/null
-"$other" gen-table "$prefixes" 7 >"$input"
-echo "stream of $(stat -c %s "$input") bytes"
+"$other" gen-table "$prefixes" 7 >"$work/generated"
+
+# Both answer, and write the same.
+same() {
+    "$ours" "$@" <"$input" >"$work/ours.said"
+    "$other" "$@" <"$input" >"$work/other.said"
+    cmp "$work/ours.said" "$work/other.said"
+}
 
 compare() {
-    local name=${*// /.}
+    local name="$order $*"
+    name=${name//[ \/]/.}
     for _ in $(seq "$rounds"); do
         run "$name.ours" "$@"
         spend "$name.other" "$other" "$@"
     done
-    cmp <("$ours" "$@" <"$input") <("$other" "$@" <"$input")
+    same "$@"
     awk -v w="$*" -v a="$(least "$name.ours")" -v b="$(least "$name.other")" -v m="$(peak "$name.ours")" -v n="$(peak "$name.other")" \
         'BEGIN { printf "%s: %d ms against %d, ratio %.2f; %d KiB against %d, ratio %.2f\n", w, a, b, a / b, m, n, m / n }'
 }
 
-compare check
-compare replay table
+# The row in the middle of those of a family, of OTHER's table, as its peer, view, prefix and path.
+middle() {
+    awk -v colon="$1" '
+        $1 == "route" && ($5 ~ /:/) == colon { row[n++] = $3 " " $4 " " $5 " " $8 }
+        END { print row[int(n / 2)] }' "$work/table"
+}
+
+for order in sorted shuffled; do
+    input=$work/$order
+    "$(dirname "$0")/reorder" "$order" <"$work/generated" >"$input"
+    "$other" replay table <"$input" >"$work/table"
+    read -r peer view prefix path < <(middle 0)
+    read -r _ _ prefix6 path6 < <(middle 1)
+    origin=${path##*[=_]}
+    echo "$order: stream of $(stat -c %s "$input") bytes"
+
+    compare check
+    compare replay count
+    compare replay table
+    compare replay cut
+    compare replay peers
+    compare replay routers
+    compare replay match "${prefix%/*}"
+    compare replay prefix "$prefix"
+    compare replay within "${prefix%%.*}.0.0.0/8"
+    compare replay origin "$origin"
+
+    same replay marks
+    same replay stats "$peer"
+    same replay match "${prefix6%/*}"
+    same replay prefix "$prefix6"
+    same replay within "${prefix6%%:*}::/16"
+    same replay origin "${path6##*[=_]}"
+    same replay count peer "$peer" view "$view" family 6
+    same replay table router 0 family 6
+    same replay table router 1
+done
 
 # The Initiation and the Peer Up may come again, so the stream follows itself.
-cp "$input" "$work/once"
+input=$work/stream
 for times in 1 2 4; do
     : >"$input"
-    for _ in $(seq "$times"); do cat "$work/once" >>"$input"; done
+    for _ in $(seq "$times"); do cat "$work/generated" >>"$input"; done
     run "check.$times" check
     echo "check of the stream $times times over: $(least "check.$times") ms, $(peak "check.$times") KiB"
 done
