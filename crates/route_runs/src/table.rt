@@ -1,5 +1,7 @@
 ghost use Rattle.std.specs.Prelude.{◌≡◌, ◌+◌, ◌≤◌, [], length, min, Some, IfOk, IsTrue};
 ghost use Rattle.std.specs.List.{filter};
+ghost use Rattle.std.specs.List.Sorted.{IsStrictlySortedBy};
+ghost use Rattle.std.specs.Map.{keys_of};
 ghost use Rattle.std.specs.Option.{option_map};
 ghost use Rattle.bmp_specs.specs.Orders.{nlri_cmp};
 ghost use Rattle.bmp_specs.specs.Prefix.{width_of};
@@ -74,6 +76,15 @@ impl RouteTable {
             runs,
             index,
         })
+    }
+
+    /// The pairs stand in the order of NLRI, and each NLRI is one. It takes no memory, and does nothing: it tells this
+    /// to a proof.
+    pub fn see_order(&self)
+        ensures ordered { IsStrictlySortedBy nlri_cmp (keys_of self.now) }
+        ensures nlri { AreNlri self.now }
+    {
+        self.runs.see_order();
     }
 
     /// The route of this NLRI.

@@ -54,14 +54,14 @@ module _ (recent : RecentValue Step) (from : ℕ) (prefix : PrefixValue) where
         let there : length steps - 1024 + (n - oldest_kept recent.total) ≡ n = omega (arith, cut, kept) in
         ap (λ (l : List StepValue). slice_get l (n - oldest_kept recent.total)) all.items ∙ slice_get-drop (length steps - 1024) steps (n - oldest_kept recent.total) ∙ ap (slice_get steps) there
 
-    change_of_steps : (change : ChangeValue) → IsKeptChange recent from prefix change → IsChange steps (max from (oldest_kept (length steps))) prefix change
+    pub change_of_steps : (change : ChangeValue) → IsKeptChange recent from prefix change → IsChange steps (max from (oldest_kept (length steps))) prefix change
     change_of_steps change is = record {
       later = omega (arith, is.later, is.kept, all.total);
       stands = sym (at_number change.number is.kept) ∙ is.stands;
       concerns = is.concerns;
     }
 
-    kept_of_steps : (change : ChangeValue) → IsChange steps (max from (oldest_kept (length steps))) prefix change → IsKeptChange recent from prefix change
+    pub kept_of_steps : (change : ChangeValue) → IsChange steps (max from (oldest_kept (length steps))) prefix change → IsKeptChange recent from prefix change
     kept_of_steps change is =
         let kept : oldest_kept recent.total ≤ change.number = omega (arith, is.later, all.total) in
         record {

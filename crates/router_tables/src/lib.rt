@@ -27,6 +27,7 @@ mod shared_peers;
 mod shared_stats;
 mod state;
 mod steps;
+mod subject;
 mod tables;
 mod taken;
 mod views;
