@@ -1,0 +1,11 @@
+use Rattle.std.proofs.Common.{length, map}
+use Rattle.query_eval.specs.RowRuns.{front_of}
+use Rattle.query_eval.specs.Rows.{lines_of, row_of}
+use Rattle.query_eval.proofs.Leading.{LeadsTo}
+use Rattle.query_eval.proofs.front.put_front.Given as goal
+
+abbrev pub invariant-loop-found : goal.invariant-loop-found
+invariant-loop-found g l = LeadsTo g.O.Sink.faults g.O.Sink.told g.O.Sink.aside l.fn.out l.out l.count (lines_of l.lane (map (row_of l.table.key l.table.view) (front_of l.run (g.W.Pairs.left l.walk)))) (lines_of l.lane (map (row_of l.table.key l.table.view) (front_of l.run (g.W.Pairs.left l.fn.walk))))
+
+abbrev pub decreases-loop-found : goal.decreases-loop-found
+decreases-loop-found g l = length (g.W.Pairs.left l.walk)

@@ -1,0 +1,16 @@
+use Rattle.std.proofs.Common.{Option, ap}
+use Rattle.bmp_specs.specs.declared.wire.Family.{Family}
+use Rattle.bmp_specs.specs.Query.{within}
+use Rattle.bmp_specs.specs.Selection.{SelectValue}
+use Rattle.query_eval.specs.declared.run.Part.TheVariants.{Within}
+use Rattle.query_eval.specs.Rows.{asks_run, lane_rows, lines_of}
+use Rattle.query_eval.proofs.Leading.{lines_as}
+use Rattle.query_eval.proofs.RowAnswers.{are_within, puts_rows}
+use Rattle.query_eval.proofs.within.put_within.Goals as goal
+
+pub returns : goal.returns
+returns g c =
+    let family = ap (λ (s : SelectValue). s.family) c.select.view_is in
+    let lines = ap (λ (f : Option Family). lines_of c.args.lane (lane_rows (asks_run (record { family = f; part = Within c.args.prefix.now })) c.args.select.now c.args.lane c.args.tables.now)) family in
+    puts_rows (within c.args.prefix.now c.args.select.now) c.args.lane c.args.tables.now _ (λ entries stands. are_within c.args.select.now c.args.lane c.args.tables.now entries stands c.put_rows.ensures.ordered c.args.prefix.now)
+    c.args.out.now c.put_rows.new.out c.put_rows.result (lines_as c.args.out.now c.put_rows.new.out _ _ c.put_rows.result lines c.put_rows.ensures.writes)

@@ -1,0 +1,9 @@
+pub mod Puts
+pub mod Selecting
+pub mod Later
+pub mod Told
+pub mod Replies
+pub mod RowTables
+pub mod RowRuns
+pub mod Rows
+pub mod RowChanges

@@ -1,0 +1,39 @@
+-- What a call leaves that writes the lines of one lane, and what a call answers that counts its rows.
+use Rattle.std.specs.Prelude.{◌≡◌, ℕ, List, length, Option, Result, Ok, Err, IfOk}
+use Rattle.std.specs.List.{concat}
+use Rattle.bmp_specs.specs.Query.{QueryValue}
+use Rattle.bmp_specs.specs.QueryRows.{AsksRow}
+use Rattle.bmp_specs.specs.Reply.{told_count}
+use Rattle.bmp_specs.specs.Rows.{RowValue}
+use Rattle.bmp_specs.specs.Session.{session_effects}
+use Rattle.bmp_specs.specs.TableRows.{AreRows}
+use Rattle.bmp_specs.specs.Values.{EntryValue}
+use Rattle.wire_io.specs.declared.sink.Failed.{Failed}
+use Rattle.wire_io.specs.Aside.{Aside}
+use Rattle.wire_io.specs.Faults.{HasCause}
+use Rattle.wire_io.specs.Writes.{Writes}
+
+-- whether a call that answers a number wrote all
+abbrev pub done : Result ℕ Failed → Result (Unit {0}) Failed
+done (Ok count) = Ok tt
+done (Err failed) = Err failed
+
+-- All lines were written, and no write failed, and the answer is their number, at most the greatest of 64 bits; or a write
+-- failed in this call, and a front of the lines was written.
+pub record WritesLines {O : Type 0} (faults : O → ℕ) (told : O → Option (List ℕ)) (aside : O → Aside) (old : O) (lines : List (List ℕ)) (result : Result ℕ Failed) (new : O) : Type 0 where
+  pub written : Writes faults told aside old (concat lines) (done result) new
+  pub counted : IfOk result (λ count. count ≡ told_count (length lines))
+
+-- For whichever entries, of a lane or of each lane, these lines of them were written, or a front of them where a write failed.
+pub record PutsLines {O E : Type 0} (faults : O → ℕ) (told : O → Option (List ℕ)) (aside : O → Aside) (Of : E → Type 0) (AreThese : E → List (List ℕ) → Type 0) (old : O) (result : Result ℕ Failed) (new : O) : Type 0 where
+  pub puts : (entries : E) (lines : List (List ℕ)) → Of entries → AreThese entries lines → WritesLines faults told aside old lines result new
+  pub kept : aside new ≡ aside old
+  pub cause : HasCause (faults old) (faults new) result
+
+-- the rows of a lane with these entries that the query asks for
+abbrev pub AreAskedRows : QueryValue → ℕ → List EntryValue → List RowValue → Type 0
+AreAskedRows query lane entries rows = AreRows (AsksRow query lane (session_effects entries)) (session_effects entries) rows
+
+-- For whichever of these lists of entries, it is the number of the rows that are asked for, at most the greatest of 64 bits.
+pub record CountsRows (Of : List EntryValue → Type 0) (query : QueryValue) (lane count : ℕ) : Type 0 where
+  pub counts : (entries : List EntryValue) (rows : List RowValue) → Of entries → AreAskedRows query lane entries rows → count ≡ told_count (length rows)

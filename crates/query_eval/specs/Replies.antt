@@ -1,0 +1,65 @@
+-- What a call leaves that writes a reply, and the replies on the histories that a cut stands for.
+use Rattle.std.specs.Prelude.{◌≡◌, ℕ, zero, suc, List, [], ◌∷◌, length, Option, Result}
+use Rattle.cut_publisher.specs.declared.history.Event.{Event}
+use Rattle.cut_publisher.specs.Cuts.{Stands}
+use Rattle.cut_publisher.specs.History.{part}
+use Rattle.rib_model.specs.declared.entry.Entry.{Entry}
+use Rattle.rib_model.specs.Entries.{entry_values}
+use Rattle.bmp_specs.specs.Listed.{AreParallel}
+use Rattle.bmp_specs.specs.Query.{QueryValue, count, quit}
+use Rattle.bmp_specs.specs.QueryReply.{IsReply, AreAllRows}
+use Rattle.bmp_specs.specs.Reply.{told_count}
+use Rattle.bmp_specs.specs.Rows.{RowValue}
+use Rattle.bmp_specs.specs.Values.{EntryValue}
+use Rattle.router_tables.specs.Tables.{TablesValue, StandsFor}
+use Rattle.wire_io.specs.declared.sink.Failed.{Failed}
+use Rattle.wire_io.specs.Aside.{Aside}
+use Rattle.wire_io.specs.Faults.{HasCause}
+use Rattle.wire_io.specs.Writes.{Writes}
+
+-- For whichever entries, this text of them was written, or a front of it where a write failed.
+pub record PutsText {O E : Type 0} (faults : O → ℕ) (told : O → Option (List ℕ)) (aside : O → Aside) (Of : E → Type 0) (IsText : E → List ℕ → Type 0) (old : O) (result : Result (Unit {0}) Failed) (new : O) : Type 0 where
+  pub puts : (entries : E) (text : List ℕ) → Of entries → IsText entries text → Writes faults told aside old text result new
+  pub kept : aside new ≡ aside old
+  pub cause : HasCause (faults old) (faults new) result
+
+-- The reply was written and no write failed, or a write failed in this call and a front of the reply was written.
+pub record PutsReply {O : Type 0} (faults : O → ℕ) (told : O → Option (List ℕ)) (aside : O → Aside) (IsReply : List ℕ → Type 0) (old : O) (result : Result (Unit {0}) Failed) (new : O) : Type 0 where
+  pub text : List ℕ
+  pub is_reply : IsReply text
+  pub written : Writes faults told aside old text result new
+
+-- the tables of a lane stand for these entries, and their number is the lane's count
+pub record StandsForLane (lane : TablesValue × ℕ) (entries : List EntryValue) : Type 0 where
+  pub tables : StandsFor lane.0 entries
+  pub count : lane.1 ≡ length entries
+
+-- each lane of a cut stands for its entries
+abbrev pub StandForLanes : List (TablesValue × ℕ) → List (List EntryValue) → Type 0
+StandForLanes lanes entries = AreParallel (λ number lane es. StandsForLane lane es) lanes entries
+
+-- the entries of so many lanes of a history, from this lane on
+abbrev pub lanes_from : ℕ → ℕ → List (Event Entry) → List (List EntryValue)
+lanes_from first zero history = []
+lanes_from first (suc lanes) history = entry_values (part first history) ∷ lanes_from (suc first) lanes history
+
+abbrev pub lanes_of : ℕ → List (Event Entry) → List (List EntryValue)
+lanes_of lanes history = lanes_from 0 lanes history
+
+-- the cut stands for the history
+abbrev pub StandsForHistory : List (TablesValue × ℕ) → List (Event Entry) → Type 0
+StandsForHistory lanes history = Stands (λ tables entries. StandsFor tables (entry_values entries)) lanes history
+
+-- the text is the reply of the query on the history, which has so many lanes
+abbrev pub IsReplyOn : QueryValue → ℕ → List (Event Entry) → List ℕ → Type 0
+IsReplyOn query lanes history text = IsReply query (lanes_of lanes history) text
+
+-- For whichever entries of each lane, it is the number of all rows that are asked for, at most the greatest of 64 bits.
+pub record CountsAllRows (Of : List (List EntryValue) → Type 0) (query : QueryValue) (number : ℕ) : Type 0 where
+  pub counts : (lanes : List (List EntryValue)) (rows : List RowValue) → Of lanes → AreAllRows query lanes rows → number ≡ told_count (length rows)
+
+-- The reply of the query tells of each lane apart: it isn't the number of rows of all lanes, nor is it the end of the session.
+abbrev pub TellsByLane : QueryValue → Type 0
+TellsByLane (count select) = ⊥
+TellsByLane quit = ⊥
+TellsByLane _ = Unit {0}

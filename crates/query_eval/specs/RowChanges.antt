@@ -1,0 +1,35 @@
+-- The changes of a prefix that a lane keeps, as a list, and their lines.
+use Rattle.std.specs.Prelude.{ℕ, suc, ◌-◌, max, Bool, true, nat_lt, if◌then◌else◌, List, [], ◌∷◌, ◌++◌, drop, map}
+use Rattle.std.specs.Ordering.{is_eq}
+use Rattle.bmp_specs.specs.Changes.{ChangeValue, oldest_kept}
+use Rattle.bmp_specs.specs.ChangeLines.{steps_line, missed_lines, change_line}
+use Rattle.bmp_specs.specs.Orders.{prefix_cmp}
+use Rattle.bmp_specs.specs.QueryReply.{most_told}
+use Rattle.bmp_specs.specs.Values.{PrefixValue, StepValue, opened_step, closed_step, up_step, down_step, announce_step, withdraw_step}
+use Rattle.recent_ring.specs.Recent.{RecentValue}
+
+-- whether the step concerns the prefix
+abbrev pub concerns : PrefixValue → StepValue → Bool
+concerns p opened_step = true
+concerns p (closed_step cause) = true
+concerns p (up_step key) = true
+concerns p (down_step key) = true
+concerns p (announce_step key view nlri route) = is_eq (prefix_cmp nlri.prefix p)
+concerns p (withdraw_step key view nlri) = is_eq (prefix_cmp nlri.prefix p)
+
+-- the changes among steps that are numbered on from a number
+abbrev pub changes_in : List StepValue → PrefixValue → ℕ → List ChangeValue
+changes_in [] p n = []
+changes_in (step ∷ steps) p n = if concerns p step then record { number = n; step = step } ∷ changes_in steps p (suc n) else changes_in steps p (suc n)
+
+-- those that are kept, from the step of a number on
+abbrev pub kept_changes : RecentValue StepValue → ℕ → PrefixValue → List ChangeValue
+kept_changes recent from p = changes_in (drop (from - oldest_kept recent.total) recent.items) p (max from (oldest_kept recent.total))
+
+-- the lines of how many steps are missed and of these changes; past the greatest number of 64 bits no step is told
+abbrev pub further_changes : RecentValue StepValue → ℕ → ℕ → PrefixValue → List (List ℕ)
+further_changes recent lane from p = if nat_lt recent.total most_told then missed_lines from (oldest_kept recent.total) ++ map (change_line lane) (kept_changes recent from p) else []
+
+-- and of how many steps were made
+abbrev pub told_changes : RecentValue StepValue → ℕ → ℕ → PrefixValue → List (List ℕ)
+told_changes recent lane from p = steps_line lane recent.total ∷ further_changes recent lane from p

@@ -1,0 +1,56 @@
+-- The rows that a query asks of a lane's tables, and their lines.
+use Rattle.std.specs.Prelude.{ℕ, Bool, ◌&&◌, ◌||◌, not, leb, List, [], ◌∷◌, true, map}
+use Rattle.std.specs.List.{filter, flat_map}
+use Rattle.bmp_specs.specs.declared.peers.View.{View}
+use Rattle.bmp_specs.specs.declared.wire.Family.{Family}
+use Rattle.std.specs.Prelude.{Option}
+use Rattle.bmp_specs.specs.Orders.{family_cmp}
+use Rattle.bmp_specs.specs.RouteLine.{route_line}
+use Rattle.bmp_specs.specs.Rows.{RowValue}
+use Rattle.bmp_specs.specs.Selection.{SelectValue}
+use Rattle.bmp_specs.specs.Values.{AddressValue, AttrsValue, KeyValue, NlriValue}
+use Rattle.route_runs.specs.Origins.{attrs_origin, is_number}
+use Rattle.router_tables.specs.Tables.{TablesValue}
+use Rattle.router_tables.specs.Views.{Table}
+use Rattle.query_eval.specs.declared.run.Run.{Run}
+use Rattle.query_eval.specs.RowRuns.{holds, in_run}
+use Rattle.query_eval.specs.RowTables.{PeerTableValue, lane_tables}
+use Rattle.query_eval.specs.Selecting.{is_named}
+
+-- which pairs of a table are asked for
+abbrev pub Asking : Type 0
+Asking = Table → NlriValue × AttrsValue → Bool
+
+-- those of a run; those of a family whose path has this origin AS
+abbrev pub asks_run : Run → Asking
+asks_run run pairs e = in_run run e.0
+
+abbrev pub asks_origin : ℕ → Option Family → Asking
+asks_origin asn family pairs e = is_named family_cmp family e.0.prefix.address.family && is_number asn (attrs_origin e.1)
+
+-- no longer prefix of these holds the address
+abbrev pub none_longer : AddressValue → ℕ → Table → Bool
+none_longer a bits [] = true
+none_longer a bits (e ∷ es) = (not (holds e.0.prefix a) || leb e.0.prefix.bits bits) && none_longer a bits es
+
+-- those of a family with the longest prefix that holds the address
+abbrev pub asks_longest : AddressValue → Option Family → Asking
+asks_longest a family pairs e = is_named family_cmp family e.0.prefix.address.family && (holds e.0.prefix a && none_longer a e.0.prefix.bits pairs)
+
+-- a route of a table at its place
+abbrev pub row_of : KeyValue → View → NlriValue × AttrsValue → RowValue
+row_of key view e = record { row_key = record { key = key; view = view; nlri = e.0 }; route = e.1 }
+
+-- the rows that are asked of a table, and of a lane's tables
+abbrev pub asked_of : Asking → PeerTableValue → List RowValue
+asked_of asking t = map (row_of t.key t.view) (filter (asking t.pairs) t.pairs)
+
+abbrev pub asked_rows : Asking → List PeerTableValue → List RowValue
+asked_rows asking tables = flat_map (asked_of asking) tables
+
+abbrev pub lines_of : ℕ → List RowValue → List (List ℕ)
+lines_of lane rows = map (route_line lane) rows
+
+-- the rows of a lane that a query asks for
+abbrev pub lane_rows : Asking → SelectValue → ℕ → TablesValue → List RowValue
+lane_rows asking select lane tables = asked_rows asking (lane_tables select lane tables)

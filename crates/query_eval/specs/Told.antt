@@ -1,0 +1,62 @@
+-- The lines that the books of a lane's tables tell.
+use Rattle.std.specs.Prelude.{ℕ, Bool, true, false, List, [], ◌∷◌, map, flat_map, Option}
+use Rattle.std.specs.List.{filter}
+use Rattle.bmp_specs.specs.declared.wire.Family.TheVariants.{V4, V6}
+use Rattle.bmp_specs.specs.declared.peers.View.{View}
+use Rattle.bmp_specs.specs.PeerHeader.{views_of_key}
+use Rattle.bmp_specs.specs.PeerLines.{mark_line, stat_line}
+use Rattle.bmp_specs.specs.PeerUp.{StateValue, up_state, down_state}
+use Rattle.bmp_specs.specs.QueryReply.{MarkValue, peer_line}
+use Rattle.bmp_specs.specs.Selection.{SelectValue}
+use Rattle.bmp_specs.specs.StatKind.{KindValue, stat_of}
+use Rattle.bmp_specs.specs.Values.{KeyValue, StatValue}
+use Rattle.peer_book.specs.Peers.{Peers, keyed_state, is_complete_at}
+use Rattle.query_eval.specs.Selecting.{keeps_peer, keeps}
+
+-- the peers of a book and their states, in their order
+abbrev pub states_in : Peers → List (KeyValue × StateValue)
+states_in peers = map keyed_state peers
+
+-- the lines of those that are asked for
+abbrev pub state_lines : Option ℕ → Option KeyValue → ℕ → List (KeyValue × StateValue) → List (List ℕ)
+state_lines router peer lane states = map (peer_line lane) (filter (λ p. keeps_peer router peer lane p.0) states)
+
+abbrev pub is_up_state : KeyValue × StateValue → Bool
+is_up_state (key, up_state info) = true
+is_up_state (key, down_state info) = false
+
+-- the peers that are up
+abbrev pub up_keys : List (KeyValue × StateValue) → List KeyValue
+up_keys states = map (λ p. p.0) (filter is_up_state states)
+
+-- whether the routes of a peer in a view are complete, of each family
+abbrev pub view_marks : Peers → KeyValue → View → List MarkValue
+view_marks peers key view =
+    map (λ family. record { key = key; view = view; family = family; complete = is_complete_at peers key view family }) (V4 ∷ V6 ∷ [])
+
+abbrev pub peer_marks : Peers → KeyValue → List View → List MarkValue
+peer_marks peers key views = flat_map (view_marks peers key) views
+
+-- the marks of a peer, none where it is down
+abbrev pub state_marks : Peers → KeyValue × StateValue → List MarkValue
+state_marks peers (key, up_state info) = peer_marks peers key (views_of_key key)
+state_marks peers (key, down_state info) = []
+
+abbrev pub keeps_mark : SelectValue → ℕ → MarkValue → Bool
+keeps_mark select lane m = keeps select lane m.key m.view m.family
+
+-- the lines of those that are asked for
+abbrev pub mark_lines : SelectValue → ℕ → List MarkValue → List (List ℕ)
+mark_lines select lane marks = map (λ m. mark_line lane m.key m.view m.family m.complete) (filter (keeps_mark select lane) marks)
+
+-- the lines of the marks of peers
+abbrev pub marks_in : Peers → List (KeyValue × StateValue) → List MarkValue
+marks_in peers states = flat_map (state_marks peers) states
+
+-- a statistic by its kind and its value
+abbrev pub stat_in : KindValue × ℕ → StatValue
+stat_in e = stat_of e.0 e.1
+
+-- the lines of a peer's statistics
+abbrev pub stat_lines : ℕ → KeyValue → List (KindValue × ℕ) → List (List ℕ)
+stat_lines lane key stats = map (λ e. stat_line lane key (stat_in e)) stats

@@ -1,0 +1,83 @@
+ghost use Rattle.std.specs.Prelude.{◌≡◌, map};
+ghost use Rattle.bmp_specs.specs.Changes.{oldest_kept};
+ghost use Rattle.bmp_specs.specs.ChangeLines.{change_line, missed_lines};
+ghost use Rattle.bmp_specs.specs.QueryReply.{AreChangeLines};
+ghost use Rattle.router_tables.specs.Tables.{StandsFor, steps_told};
+ghost use Rattle.query_eval.specs.Puts.{PutsLines, WritesLines};
+ghost use Rattle.query_eval.specs.RowChanges.{kept_changes, told_changes};
+
+use ip_prefix::Prefix;
+use recent_ring::Recent;
+use reply_text::{put_change, put_missed, put_steps};
+use rib_model::Step;
+use route_watch::{missed, poll};
+use router_tables::RouterTables;
+use wire_io::{Failed, Sink};
+
+// Writes the line of how many of the steps that are asked for are no longer kept, where there are some.
+fn put_lost<O: Sink>(out: &mut O, recent: &Recent<Step>, from: u64) -> Result<u64, Failed>
+    ensures { WritesLines O.faults O.told O.aside out.old (missed_lines from (oldest_kept recent.now.total)) result out.new }
+{
+    let steps = missed(recent, from);
+    if steps == 0 {
+        return Ok(0);
+    }
+    put_missed(out, steps)?;
+    Ok(1)
+}
+
+// Writes the lines of the changes that are kept. Each step is looked at once.
+fn put_kept<O: Sink>(
+    out: &mut O,
+    lane: u32,
+    recent: &Recent<Step>,
+    from: u64,
+    prefix: &Prefix,
+) -> Result<u64, Failed>
+    ensures { WritesLines O.faults O.told O.aside out.old (map (change_line lane) (kept_changes (steps_told recent.now) from prefix.now)) result out.new }
+{
+    let _total = recent.total();
+    let mut next = from;
+    let mut count: u64 = 0;
+    while let Some(found) = poll(recent, next, prefix) {
+        put_change(out, lane, found.0, found.1)?;
+        count = count.saturating_add(1);
+        next = found.0 + 1;
+    }
+    Ok(count)
+}
+
+// Writes the lines of the last steps that a lane keeps.
+fn put_recent<O: Sink>(
+    out: &mut O,
+    lane: u32,
+    recent: &Recent<Step>,
+    from: u64,
+    prefix: &Prefix,
+) -> Result<u64, Failed>
+    ensures { WritesLines O.faults O.told O.aside out.old (told_changes (steps_told recent.now) lane from prefix.now) result out.new }
+{
+    let total = recent.total();
+    put_steps(out, lane, total)?;
+    if total == u64::MAX {
+        return Ok(1);
+    }
+    let lost = put_lost(out, recent, from)?;
+    let count = lost.saturating_add(1);
+    let kept = put_kept(out, lane, recent, from, prefix)?;
+    Ok(count.saturating_add(kept))
+}
+
+/// Writes the lines of `changes N S P` of the lane N: how many steps it made, how many are missed of those from the
+/// step of number S on, and the changes of the prefix that are kept; and answers how many lines these are.
+pub(crate) fn put_changes<O: Sink>(
+    out: &mut O,
+    lane: u32,
+    tables: &RouterTables,
+    from: u64,
+    prefix: &Prefix,
+) -> Result<u64, Failed>
+    ensures { PutsLines O.faults O.told O.aside (StandsFor tables.now) (λ entries. AreChangeLines lane entries from prefix.now) out.old result out.new }
+{
+    put_recent(out, lane, tables.recent(), from, prefix)
+}

@@ -1,0 +1,55 @@
+ghost use Rattle.std.specs.Prelude.{◌≡◌, length, map};
+ghost use Rattle.bmp_specs.specs.Reply.{told_count};
+ghost use Rattle.query_eval.specs.Puts.{WritesLines};
+ghost use Rattle.query_eval.specs.RowRuns.{front_of};
+ghost use Rattle.query_eval.specs.Rows.{lines_of, row_of};
+
+use crate::pairs::Pairs;
+use crate::run::Run;
+use crate::tables::PeerTable;
+use reply_text::put_route;
+use rib_model::RowKey;
+use wire_io::{Failed, Sink};
+
+/// Writes the lines of a table's routes that a walk gives, up to the first that isn't in the run, and answers how
+/// many.
+pub(crate) fn put_front<'a, O: Sink, W: Pairs<'a> + Drop>(
+    out: &mut O,
+    lane: u32,
+    table: &PeerTable<'_>,
+    walk: W,
+    run: &Run,
+) -> Result<u64, Failed>
+    ensures { WritesLines O.faults O.told O.aside out.old (lines_of lane (map (row_of table.now.key table.now.view) (front_of run.now (W.left walk)))) result out.new }
+{
+    let mut walk = walk;
+    let mut count: u64 = 0;
+    while let Some(found) = walk.next_pair() {
+        if !run.holds(&found.0) {
+            return Ok(count);
+        }
+        let row = RowKey {
+            key: table.key,
+            view: table.view,
+            nlri: found.0,
+        };
+        put_route(out, lane, &row, found.1)?;
+        count = count.saturating_add(1);
+    }
+    Ok(count)
+}
+
+/// How many routes a walk gives, up to the first that isn't in the run.
+pub(crate) fn count_front<'a, W: Pairs<'a> + Drop>(walk: W, run: &Run) -> u64
+    ensures { result ≡ told_count (length (front_of run.now (W.left walk))) }
+{
+    let mut walk = walk;
+    let mut count: u64 = 0;
+    while let Some(found) = walk.next_pair() {
+        if !run.holds(&found.0) {
+            return count;
+        }
+        count = count.saturating_add(1);
+    }
+    count
+}

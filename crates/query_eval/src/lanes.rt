@@ -1,0 +1,111 @@
+//! The lines of all lanes, lane after lane.
+ghost use Rattle.std.specs.Prelude.{◌≡◌, length};
+ghost use Rattle.bmp_specs.specs.Query.{changes, count, cut};
+ghost use Rattle.bmp_specs.specs.QueryReply.{AreAllRows, AreLaneLines, AreLines};
+ghost use Rattle.query_lang.specs.Queries.{query_value};
+ghost use Rattle.router_tables.specs.Tables.{StandsFor};
+ghost use Rattle.query_eval.specs.Puts.{PutsLines};
+ghost use Rattle.query_eval.specs.Replies.{StandsForLane, StandForLanes, TellsByLane, CountsAllRows};
+
+use crate::changes::put_changes;
+use crate::count::count_rows;
+use crate::exact::put_exact;
+use crate::longest::put_longest;
+use crate::marks::put_marks;
+use crate::origin::put_origin;
+use crate::peers::put_peers;
+use crate::routers::put_routers;
+use crate::stats::put_stats;
+use crate::table::put_table;
+use crate::within::put_within;
+use cut_publisher::Cut;
+use ip_prefix::Prefix;
+use query_lang::{Query, Select};
+use reply_text::put_lane;
+use router_tables::RouterTables;
+use wire_io::{Failed, Sink};
+
+// Writes how many entries a lane has, and answers that it is one line.
+fn put_entries<O: Sink>(out: &mut O, lane: u32, entries: u64) -> Result<u64, Failed>
+    ensures { PutsLines O.faults O.told O.aside (λ es. entries ≡ length es) (AreLaneLines cut lane) out.old result out.new }
+{
+    put_lane(out, lane, entries)?;
+    Ok(1)
+}
+
+// Writes the lines of the changes of a prefix, where they are asked of this lane.
+fn put_lane_changes<O: Sink>(
+    out: &mut O,
+    lane: u32,
+    tables: &RouterTables,
+    number: u32,
+    from: u64,
+    prefix: &Prefix,
+) -> Result<u64, Failed>
+    ensures { PutsLines O.faults O.told O.aside (StandsFor tables.now) (AreLaneLines (changes number from prefix.now) lane) out.old result out.new }
+{
+    if number != lane {
+        return Ok(0);
+    }
+    put_changes(out, lane, tables, from, prefix)
+}
+
+// Writes the lines of one lane, and answers how many they are.
+fn put_lane_lines<O: Sink>(
+    out: &mut O,
+    query: &Query,
+    lane: u32,
+    tables: &RouterTables,
+    entries: u64,
+) -> Result<u64, Failed>
+    requires { TellsByLane (query_value query.now) }
+    ensures { PutsLines O.faults O.told O.aside (StandsForLane (tables.now, entries)) (AreLaneLines (query_value query.now) lane) out.old result out.new }
+{
+    match query {
+        Query::Routers => put_routers(out, lane, tables),
+        Query::Cut => put_entries(out, lane, entries),
+        Query::Peers { router, peer } => put_peers(out, lane, tables, *router, peer),
+        Query::Marks(select) => put_marks(out, lane, tables, select),
+        Query::Table(select) => put_table(out, lane, tables, select),
+        Query::Exact(prefix, select) => put_exact(out, lane, tables, prefix, select),
+        Query::Longest(address, select) => put_longest(out, lane, tables, address, select),
+        Query::Within(prefix, select) => put_within(out, lane, tables, prefix, select),
+        Query::Origin(asn, select) => put_origin(out, lane, tables, *asn, select),
+        Query::Stats(key) => put_stats(out, lane, tables, key),
+        Query::Changes {
+            lane: number,
+            from,
+            prefix,
+        } => put_lane_changes(out, lane, tables, *number, *from, prefix),
+        Query::Count(_) => unreachable!(),
+        Query::Quit => unreachable!(),
+    }
+}
+
+// Writes the lines of all lanes, lane after lane, and answers how many they are.
+pub(crate) fn put_lanes<O: Sink>(
+    out: &mut O,
+    cut: &Cut<RouterTables>,
+    query: &Query,
+) -> Result<u64, Failed>
+    requires { TellsByLane (query_value query.now) }
+    ensures { PutsLines O.faults O.told O.aside (StandForLanes cut.now) (AreLines (query_value query.now)) out.old result out.new }
+{
+    let mut count: u64 = 0;
+    for lane in 0..cut.lanes() {
+        let lines = put_lane_lines(out, query, lane, cut.value(lane), cut.count(lane))?;
+        count = count.saturating_add(lines);
+    }
+    Ok(count)
+}
+
+// How many rows all lanes have that are selected, at most 2^64 - 1.
+pub(crate) fn count_all(cut: &Cut<RouterTables>, select: &Select) -> u64
+    ensures { CountsAllRows (StandForLanes cut.now) (count select.now) result }
+{
+    let mut count: u64 = 0;
+    for lane in 0..cut.lanes() {
+        count = count.saturating_add(count_rows(lane, cut.value(lane), select));
+    }
+    count
+}

@@ -1,0 +1,36 @@
+//! Replies: what our query language is answered on a cut of all lanes.
+//!
+//! A query asks for rows of the tables of the routers (`query_lang`), and its reply is the revision of the
+//! cut, a line for each row, lane after lane, and the number of rows. It takes no memory and no lock.
+//!
+//! Proved: `answer` writes the reply on every history that the cut stands for, or a front of it where a
+//! write failed.
+//! Begin with `specs/QueryReply.antt` of `bmp_specs`, which has the replies by the entries of each lane,
+//! then `specs/Puts.antt`, `specs/Replies.antt` and `src/reply.rt`.
+#![tactic(auto)]
+
+mod asks;
+mod changes;
+mod count;
+mod exact;
+mod front;
+mod lanes;
+mod longest;
+mod marks;
+mod origin;
+mod pairs;
+mod peers;
+mod reply;
+mod routers;
+mod run;
+mod run_rows;
+mod selection;
+mod stats;
+mod table;
+mod tables;
+mod within;
+
+pub use reply::answer;
+
+#[cfg(test)]
+mod tests;

@@ -1,0 +1,57 @@
+ghost use Rattle.bmp_specs.specs.Query.{origin as origin_query};
+ghost use Rattle.bmp_specs.specs.QueryReply.{AreLaneLines};
+ghost use Rattle.router_tables.specs.Tables.{StandsFor};
+ghost use Rattle.query_eval.specs.Puts.{PutsLines, WritesLines};
+ghost use Rattle.query_eval.specs.Rows.{asks_origin};
+
+use crate::asks::{Asks, put_rows};
+use crate::front::put_front;
+use crate::run::{Part, Run};
+use crate::tables::PeerTable;
+use bmp_specs::Family;
+use query_lang::Select;
+use router_tables::RouterTables;
+use wire_io::{Failed, Sink};
+
+/// The routes of a family, where one is named, whose path has an origin AS (RFC 6811, section 2).
+#[derive(Drop)]
+pub(crate) struct OriginRows {
+    asn: u32,
+    family: Option<Family>,
+}
+
+impl Asks for OriginRows {
+    ghost asking = { λ asks. asks_origin asks.asn asks.family };
+
+    fn put_asked<O: Sink>(
+        &self,
+        out: &mut O,
+        lane: u32,
+        table: &PeerTable<'_>,
+    ) -> Result<u64, Failed> {
+        let run = Run {
+            family: self.family,
+            part: Part::Whole,
+        };
+        let routes = table.table;
+        routes.see_order();
+        put_front(out, lane, table, routes.origin(self.asn, run.begin()), &run)
+    }
+}
+
+/// Writes the lines of `origin N` of one lane, and answers how many. Each table is read by its index of origins.
+pub(crate) fn put_origin<O: Sink>(
+    out: &mut O,
+    lane: u32,
+    tables: &RouterTables,
+    asn: u32,
+    select: &Select,
+) -> Result<u64, Failed>
+    ensures { PutsLines O.faults O.told O.aside (StandsFor tables.now) (AreLaneLines (origin_query asn select.now) lane) out.old result out.new }
+{
+    let rows = OriginRows {
+        asn,
+        family: select.family,
+    };
+    put_rows(out, lane, tables, select, &rows)
+}

@@ -1,0 +1,38 @@
+ghost use Rattle.std.specs.Prelude.{◌≡◌};
+ghost use Rattle.query_eval.specs.Puts.{WritesLines};
+ghost use Rattle.query_eval.specs.Rows.{asked_of, asks_run, lines_of};
+ghost use Rattle.query_eval.specs.RowTables.{table_value};
+
+use crate::asks::Asks;
+use crate::front::put_front;
+use crate::run::Run;
+use crate::tables::PeerTable;
+use wire_io::{Failed, Sink};
+
+/// Writes the lines of a table's rows that are in a run, and answers how many. It looks at no row but these and the
+/// first behind them.
+pub(crate) fn put_run<O: Sink>(
+    out: &mut O,
+    lane: u32,
+    table: &PeerTable<'_>,
+    run: &Run,
+) -> Result<u64, Failed>
+    ensures { WritesLines O.faults O.told O.aside out.old (lines_of lane (asked_of (asks_run run.now) (table_value table.now))) result out.new }
+{
+    let routes = table.table;
+    routes.see_order();
+    put_front(out, lane, table, routes.walk(run.begin()), run)
+}
+
+impl Asks for Run {
+    ghost asking = { asks_run };
+
+    fn put_asked<O: Sink>(
+        &self,
+        out: &mut O,
+        lane: u32,
+        table: &PeerTable<'_>,
+    ) -> Result<u64, Failed> {
+        put_run(out, lane, table, self)
+    }
+}
