@@ -4,3 +4,5 @@ pub mod Pieces
 pub mod Reading
 pub mod Living
 pub mod Serving
+pub mod Later
+pub mod GivenSessions

@@ -1,5 +1,5 @@
 -- The connections of an asker, one after another.
-use Rattle.std.specs.Prelude.{◌≡◌, ℕ, Bool, true, false, List, [], ◌∷◌, length, MatchBool, nat_lt, Option, Result, Ok, Err}
+use Rattle.std.specs.Prelude.{◌≡◌, ℕ, Bool, true, false, List, [], ◌∷◌, length, MatchBool, nat_lt, Option, Result, Ok, Err, Some, map, ◌++◌}
 use Rattle.std.specs.Io.KnownBytes.{Keeps}
 use Rattle.cut_publisher.specs.History.{Asker, Begins, IsUnmarked, revision}
 use Rattle.rib_model.specs.declared.entry.Entry.{Entry}
@@ -8,6 +8,7 @@ use Rattle.wire_io.specs.Aside.{Aside, Given}
 use Rattle.wire_io.specs.declared.sink.Failed.{Failed}
 use Rattle.ask_session.specs.declared.close.Close.{Close}
 use Rattle.ask_session.specs.Replies.{History}
+use Rattle.ask_session.specs.Dialogue.{Dialogue}
 use Rattle.ask_session.specs.Connection.{Conversed}
 
 -- One connection: what the pass had seen when it ended; what the link told when it was opened, ended and closed; what was
@@ -22,6 +23,9 @@ pub record Session : Type 0 where
   pub told1 : Option (List ℕ)
   pub writes : ℕ
   pub close : Close
+
+abbrev pub input_of : Session → Given
+input_of s = s.input
 
 -- a call of `next_connection`, with the count of faults in writes
 pub record OpensLink (old new : Aside) (writes : ℕ) (result : Result Bool Failed) : Type 0 where
@@ -65,3 +69,13 @@ pub record Sees (old new : Asker Entry) : Type 0 where
   pub seat : new.seated ≡ old.seated
   pub seen : Begins old.seen new.seen
   pub unmarked : IsUnmarked old.seen → IsUnmarked new.seen
+
+-- What was answered on a front of a history was answered on the history.
+abbrev pub RepliesStay : Type 0
+RepliesStay = (lanes : ℕ) (close : Close) (ended : Bool) (seen history : History) (least : ℕ) (bytes text : List ℕ) → Begins seen history
+    → Dialogue lanes close ended seen least bytes text → Dialogue lanes close ended history least bytes text
+
+-- A link that tells the connections that it gave tells what was read of each that was served.
+abbrev pub LinksTellSessions : Type 0
+LinksTellSessions = (lanes : ℕ) (sessions : List Session) (seen seen' : History) (aside aside' : Aside) (told told' : Option (List ℕ)) (writes writes' : ℕ) (given : List Given)
+    → Serves lanes seen seen' aside aside' told told' writes writes' sessions → aside.given ≡ Some given → aside'.given ≡ Some (given ++ map input_of sessions)

@@ -13,9 +13,11 @@
 
 mod close;
 mod connection;
+mod laws;
 mod line;
 mod reply;
 mod session;
 
 pub use close::Close;
+pub use laws::{links_tell_sessions, replies_stay};
 pub use session::serve_session;
