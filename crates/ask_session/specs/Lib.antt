@@ -1,0 +1,7 @@
+pub mod Lines
+pub mod Replies
+pub mod Dialogue
+pub mod Connection
+pub mod Sessions
+pub mod Hearing
+pub mod Taking

@@ -1,0 +1,23 @@
+//! An asker's connections: lines of our query language in, replies out.
+//!
+//! A client sends lines (`query_lang`), and each is answered (`query_eval`) from a snapshot of the published
+//! history (`cut_publisher`) that is taken after the line was read. A line ends with a line feed, before which one
+//! carriage return is no part of it. It takes no memory and no lock, and refuses nothing.
+//!
+//! Proved: `serve_session` writes to each connection the replies to its lines, in order, each on a front of one
+//! history, at a revision that never falls. A connection ends exactly where `quit` or a line of more than 1,024 bytes
+//! was read, the input ended, 2^46 bytes were taken, or a read or write failed.
+//! Begin with `specs/Lines.antt`, `specs/Replies.antt` and `specs/Dialogue.antt`, which say what a dialogue is, then
+//! `specs/Sessions.antt` and `src/session.rt`.
+#![tactic(auto)]
+
+mod close;
+mod connection;
+mod laws;
+mod line;
+mod reply;
+mod session;
+
+pub use close::Close;
+pub use laws::{links_tell_sessions, replies_stay};
+pub use session::serve_session;
