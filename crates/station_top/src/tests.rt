@@ -158,8 +158,18 @@ fn streams_have_their_replies(rt: HostRuntime) -> Result<(), Fail> {
             0,
             &["at 3\ncount 0\nend 1\nstop ended\n"],
         ),
-        ("replay count", &[PEER_UP, ROUTES], 0, &["at 3\ncount 2\nend 1\nstop ended\n"]),
-        ("replay cut", &[PEER_UP, ROUTES], 0, &["at 3\nlane 0 3\nend 1\nstop ended\n"]),
+        (
+            "replay count",
+            &[PEER_UP, ROUTES],
+            0,
+            &["at 3\ncount 2\nend 1\nstop ended\n"],
+        ),
+        (
+            "replay cut",
+            &[PEER_UP, ROUTES],
+            0,
+            &["at 3\nlane 0 3\nend 1\nstop ended\n"],
+        ),
         (
             "replay table",
             &[PEER_UP, ROUTES, PEER_DOWN],

@@ -29,10 +29,7 @@ const USAGE: &str =
 
 // Takes the one input connection of the yard's port 0 into an account, and gives the port back. YardFault where the
 // yard refused the port, NoMemory on want of memory.
-fn take_from<Y: Yard, A: Account + Drop>(
-    alloc: Global,
-    yard: &mut Y,
-) -> Result<(A, Taken), Status>
+fn take_from<Y: Yard, A: Account + Drop>(alloc: Global, yard: &mut Y) -> Result<(A, Taken), Status>
     ensures from { FromYard strict A.stands (Y.told yard.old) (Y.told yard.new) (Y.calls yard.old) result }
     ensures rose { result ≡ Err Status.YardFault → Rose (Y.faults yard.old) (Y.faults yard.new) }
     ensures calm { (result ≡ Err Status.YardFault → ⊥) → Y.faults yard.new ≡ Y.faults yard.old }
