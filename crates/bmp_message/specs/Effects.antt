@@ -1,8 +1,10 @@
 -- The effects of the message that a body means.
-use Rattle.std.specs.Prelude.{◌≡◌, List}
+use Rattle.std.specs.Prelude.{◌≡◌, ℕ, ◌+◌, List, length}
+use Rattle.bmp_specs.specs.Frame.{least}
+use Rattle.bmp_specs.specs.Meaning.{Meaning}
 use Rattle.bmp_specs.specs.MessageBody.{ReadingState}
 use Rattle.bmp_specs.specs.MessageEffects.{effects_of}
-use Rattle.bmp_specs.specs.Values.{EffectValue, EntryValue, MessageValue}
+use Rattle.bmp_specs.specs.Values.{EffectValue, EntryValue, MessageValue, message}
 
 -- a message is meant that has these effects, and it leaves this state
 pub record HasEffects (Means : MessageValue → ReadingState → Type 0) (effects : List EffectValue) (next : ReadingState) : Type 0 where
@@ -18,6 +20,14 @@ IsMade IsOf Means made next = (effects : List EffectValue) × IsOf made effects 
 abbrev pub MeansNothing : (MessageValue → ReadingState → Type 0) → Type 0
 MeansNothing Means = (m : MessageValue) (next : ReadingState) → Means m next → ⊥
 
--- no message is meant that has an entry
-abbrev pub MeansNoEntry : (EntryValue → ReadingState → Type 0) → Type 0
-MeansNoEntry Means = (e : EntryValue) (next : ReadingState) → Means e next → ⊥
+-- nothing is meant that has an entry
+abbrev pub MeansNoEntry : {S : Type 0} → (EntryValue → S → Type 0) → Type 0
+MeansNoEntry {S} Means = (e : EntryValue) (next : S) → Means e next → ⊥
+
+-- the entry is that of a message of this type with this body: it has its type and its whole length
+abbrev pub IsOfMessage : ℕ → List ℕ → EntryValue → Type 0
+IsOfMessage kind body entry = (effects : List EffectValue) × (entry ≡ message kind (least + length body) effects)
+
+-- an entry that a body has is that of its message
+abbrev pub GivesMessages : Meaning → Type 0
+GivesMessages meaning = (known next : meaning.State) (kind : ℕ) (body : List ℕ) (entry : EntryValue) → meaning.Means known kind body entry next → IsOfMessage kind body entry

@@ -1,62 +1,61 @@
 -- The walk of a stream (RFC 7854, section 4.1) that comes in pieces: what any run of its calls gives.
 use Rattle.std.specs.Prelude.{◌≡◌, ℕ, ◌+◌, ◌-◌, ◌<◌, ◌≤◌, ◌==◌, List, [], ◌∷◌, ◌++◌, length, Result, Ok, if◌then◌else◌}
 use Rattle.bmp_specs.specs.Frame.{IsFrame}
-use Rattle.bmp_specs.specs.Meaning.{WalksBy}
-use Rattle.bmp_specs.specs.MessageBody.{ReadingState}
-use Rattle.bmp_specs.specs.MessageEffects.{strict}
+use Rattle.bmp_specs.specs.Meaning.{Meaning, WalksBy}
 use Rattle.bmp_specs.specs.Values.{EntryValue}
 use Rattle.bmp_specs.specs.Walk.{Verdict, whole, more, terminated, broken, HasWalked, termination}
 use Rattle.bmp_frames.specs.Cutter.{CutterValue}
 use Rattle.wire_io.specs.declared.bytes.NoMemory.{NoMemory}
-use Rattle.bmp_message.specs.State.{UpPeers, reading_state}
 use Rattle.bmp_message.specs.declared.walk.Progress.{Progress}
 use Rattle.bmp_message.specs.declared.walk.Progress.TheVariants as progress
 use Rattle.bmp_message.specs.declared.walk.Stage.{Stage}
 use Rattle.bmp_message.specs.declared.walk.Stage.TheVariants as stage
 
--- what a walk holds: the peers of the messages that were read, the bytes that were fed and not cut, the length of the
+-- what a walk holds: the reading of the messages so far, the bytes that were fed and not cut, the length of the
 -- messages whose entries were given, and where it stands between two calls
-pub record WalkValue : Type 0 where
-  pub peers : UpPeers
+pub record WalkValue (R : Type 0) : Type 0 where
+  pub reading : R
   pub cutter : CutterValue
   pub offset : ℕ
   pub stage : Stage
 
 -- how many bytes were fed
-abbrev pub fed_of : WalkValue → ℕ
+abbrev pub fed_of : {R : Type 0} → WalkValue R → ℕ
 fed_of w = w.cutter.offset + length w.cutter.pending
 
 -- how many bytes were fed beyond the messages whose entries were given
-abbrev pub rest_of : WalkValue → ℕ
+abbrev pub rest_of : {R : Type 0} → WalkValue R → ℕ
 rest_of w = fed_of w - w.offset
 
--- the bytes are those of messages with these entries, none of them a Termination, and then the rest
-pub record HasRead (fed : List ℕ) (given : List EntryValue) (state : ReadingState) (rest : List ℕ) (offset : ℕ) : Type 0 where
+-- by this meaning of bodies the bytes are those of messages with these entries, none of them a Termination, and then the
+-- rest
+pub record HasRead (meaning : Meaning) (fed : List ℕ) (given : List EntryValue) (state : meaning.State) (rest : List ℕ) (offset : ℕ) : Type 0 where
   pub front : List ℕ
   pub split : fed ≡ front ++ rest
   pub place : offset ≡ length front
-  pub walked : HasWalked strict.Means strict.start state front given
+  pub walked : HasWalked meaning.Means meaning.start state front given
 
 -- a message of this type stands behind what was read, and then what is pending
-pub record HasCutNext (fed : List ℕ) (given : List EntryValue) (w : WalkValue) (kind : ℕ) : Type 0 where
+pub record HasCutNext {R : Type 0} (meaning : Meaning) (state : R → meaning.State) (fed : List ℕ) (given : List EntryValue) (w : WalkValue R) (kind : ℕ) : Type 0 where
   pub frame : List ℕ
   pub is_frame : IsFrame frame kind w.cutter.body
-  pub read : HasRead fed given (reading_state w.peers) (frame ++ w.cutter.pending) w.offset
+  pub read : HasRead meaning fed given (state w.reading) (frame ++ w.cutter.pending) w.offset
 
 -- The walk of the bytes, whatever comes after them, gives these entries and ends so.
-abbrev pub EndsAt : List ℕ → List EntryValue → ℕ → Verdict → Type 0
-EndsAt fed given offset verdict = (after : List ℕ) → WalksBy strict (fed ++ after) given offset verdict
+abbrev pub EndsAt : Meaning → List ℕ → List EntryValue → ℕ → Verdict → Type 0
+EndsAt meaning fed given offset verdict = (after : List ℕ) → WalksBy meaning (fed ++ after) given offset verdict
 
-abbrev pub Stands : List ℕ → List EntryValue → WalkValue → Stage → Type 0
-Stands fed given w stage.Between = HasRead fed given (reading_state w.peers) w.cutter.pending w.offset
-Stands fed given w (stage.Within kind) = HasCutNext fed given w kind
-Stands fed given w stage.Terminated = EndsAt fed given w.offset terminated
-Stands fed given w (stage.Broken why) = EndsAt fed given w.offset (broken why)
+abbrev pub Stands : {R : Type 0} (meaning : Meaning) (state : R → meaning.State) → List ℕ → List EntryValue → WalkValue R → Stage → Type 0
+Stands meaning state fed given w stage.Between = HasRead meaning fed given (state w.reading) w.cutter.pending w.offset
+Stands meaning state fed given w (stage.Within kind) = HasCutNext meaning state fed given w kind
+Stands meaning state fed given w stage.Terminated = EndsAt meaning fed given w.offset terminated
+Stands meaning state fed given w (stage.Broken why) = EndsAt meaning fed given w.offset (broken why)
 
--- a run of calls fed these bytes in all and gave these entries
-pub record HasReached (fed : List ℕ) (given : List EntryValue) (w : WalkValue) : Type 0 where
+-- A run of calls fed these bytes in all and gave these entries, in this meaning of bodies. The state says what a reading
+-- knows of the messages so far.
+pub record HasReached {R : Type 0} (meaning : Meaning) (state : R → meaning.State) (fed : List ℕ) (given : List EntryValue) (w : WalkValue R) : Type 0 where
   pub count : length fed ≡ fed_of w
-  pub stands : Stands fed given w w.stage
+  pub stands : Stands meaning state fed given w w.stage
 
 -- the verdict where nothing more comes: whole where no byte is left over
 abbrev pub verdict_with : ℕ → Verdict
@@ -64,31 +63,31 @@ verdict_with rest = if rest == 0 then whole else more
 
 -- The run goes on with this answer: one more message was given; or the walk of the bytes, if nothing more comes,
 -- gives the entries given; or the walk ends here, whatever comes.
-abbrev pub GoesOn : {T : Type 0} → (T → EntryValue → Type 0) → List ℕ → List EntryValue → WalkValue → Progress T → Type 0
-GoesOn IsOf fed given new (progress.Message item) = (entry : EntryValue) × IsOf item entry × HasReached fed (given ++ entry ∷ []) new
-GoesOn IsOf fed given new progress.More = HasReached fed given new × WalksBy strict fed given new.offset (verdict_with (rest_of new))
-GoesOn IsOf fed given new progress.Terminated = HasReached fed given new × EndsAt fed given new.offset terminated
-GoesOn IsOf fed given new (progress.Broken why) = HasReached fed given new × EndsAt fed given new.offset (broken why)
+abbrev pub GoesOn : {R T : Type 0} (meaning : Meaning) (state : R → meaning.State) → (T → EntryValue → Type 0) → List ℕ → List EntryValue → WalkValue R → Progress T → Type 0
+GoesOn meaning state IsOf fed given new (progress.Message item) = (entry : EntryValue) × IsOf item entry × HasReached meaning state fed (given ++ entry ∷ []) new
+GoesOn meaning state IsOf fed given new progress.More = HasReached meaning state fed given new × WalksBy meaning fed given new.offset (verdict_with (rest_of new))
+GoesOn meaning state IsOf fed given new progress.Terminated = HasReached meaning state fed given new × EndsAt meaning fed given new.offset terminated
+GoesOn meaning state IsOf fed given new (progress.Broken why) = HasReached meaning state fed given new × EndsAt meaning fed given new.offset (broken why)
 
 -- how a walk moves; the bytes fed stay in each case
-abbrev pub Advances : {T : Type 0} → WalkValue → WalkValue → Progress T → Type 0
+abbrev pub Advances : {R T : Type 0} → WalkValue R → WalkValue R → Progress T → Type 0
 Advances old new (progress.Message item) = (fed_of new ≡ fed_of old) × (rest_of new < rest_of old)
 Advances old new progress.More = (new ≡ old) × (old.stage ≡ stage.Between)
 Advances old new progress.Terminated = (new ≡ old) × (old.stage ≡ stage.Terminated)
 Advances old new (progress.Broken why) = (fed_of new ≡ fed_of old) × (new.offset ≡ old.offset) × (new.stage ≡ stage.Broken why)
 
 -- after an end each call tells it again, and nothing moves
-abbrev pub Repeats : {T : Type 0} → Stage → WalkValue → WalkValue → Result (Progress T) NoMemory → Type 0
+abbrev pub Repeats : {R T : Type 0} → Stage → WalkValue R → WalkValue R → Result (Progress T) NoMemory → Type 0
 Repeats stage.Between old new result = Unit {0}
 Repeats (stage.Within kind) old new result = Unit {0}
 Repeats stage.Terminated old new result = (result ≡ Ok progress.Terminated) × (new ≡ old)
 Repeats (stage.Broken why) old new result = (result ≡ Ok (progress.Broken why)) × (new ≡ old)
 
 -- nothing was given, and the run goes on as before
-pub record IsAsBefore (old new : WalkValue) : Type 0 where
+pub record IsAsBefore {R : Type 0} (meaning : Meaning) (state : R → meaning.State) (old new : WalkValue R) : Type 0 where
   pub fed : fed_of new ≡ fed_of old
   pub offset : new.offset ≡ old.offset
-  pub run : (fed : List ℕ) (given : List EntryValue) → HasReached fed given old → HasReached fed given new
+  pub run : (fed : List ℕ) (given : List EntryValue) → HasReached meaning state fed given old → HasReached meaning state fed given new
 
 -- what the offset is beside the bytes that were cut
 abbrev pub FitsStage : ℕ → CutterValue → Stage → Type 0

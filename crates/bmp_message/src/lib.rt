@@ -1,22 +1,23 @@
 //! Messages: from the bytes of a stream to the entries of a lane's history.
 //!
 //! A `StreamWalk` takes a stream in whatever pieces it comes, and gives the entries of its messages and how
-//! it ended. `bmp_frames` cuts the stream into frames for it, and a `Reading` gives a message's entry: its
-//! type, its length and what it does to the tables. The `Reading` keeps the two OPEN messages of each peer
-//! that is up, since the peer and they say how the UPDATE of a Route Monitoring message is read (RFC 7854,
-//! sections 4.6 and 4.10; RFC 7911).
+//! it ended. `bmp_frames` cuts the stream into frames for it, and a `BodyReading` gives a message's entry: its
+//! type, its length and what it does to the tables. The one by the RFCs alone is `Reading`. It keeps the two
+//! OPEN messages of each peer that is up, since the peer and they say how the UPDATE of a Route Monitoring
+//! message is read (RFC 7854, sections 4.6 and 4.10; RFC 7911).
 //!
 //! Proved: `Reading::entry` gives the entry of the message that the frame is under the peers that are
 //! up, and leaves those that are up after it. It answers `EntryFault::Broken` only where the body is in
 //! no grammar, and a refusal leaves the peers as they were. The entries, the offset and the end that a
-//! `StreamWalk` gives are those of the one walk of the bytes fed. `Reading::judge` and
-//! `Judgements` move alike and give no effects, for who wants types and lengths alone; of an
-//! UPDATE they make nothing.
+//! `StreamWalk` gives are those of the one walk of the bytes fed, by the meaning of bodies that its reading
+//! has. `Reading::judge` and `Judgements` move alike and give no effects, for who wants types and lengths
+//! alone; of an UPDATE they make nothing.
 //! Begin with `specs/MessageBody.antt` and `specs/MessageEffects.antt` of `bmp_specs`, then
-//! `src/reading.rt` and `src/walk.rt`; `src/routes.rt` and `src/events.rt` read what stands behind the
-//! headers.
+//! `src/bodies.rt`, `src/reading.rt` and `src/walk.rt`; `src/routes.rt` and `src/events.rt` read what stands
+//! behind the headers.
 #![tactic(auto)]
 
+mod bodies;
 mod effects;
 mod events;
 mod fault;
@@ -25,6 +26,7 @@ mod routes;
 mod types;
 mod walk;
 
+pub use bodies::BodyReading;
 pub use fault::EntryFault;
 pub use reading::Reading;
 pub use walk::{Entries, Judged, Judgements, Progress, Reads, StreamWalk};

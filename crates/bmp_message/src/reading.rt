@@ -15,8 +15,8 @@ mod judge;
 mod makes;
 
 use crate::effects::only;
-use crate::events;
 use crate::types::{MessageType, PeerMessage};
+use crate::{BodyReading, events};
 use bgp_open::PeerInfo;
 use bmp_frames::{COMMON_HEADER, PeerHeader, PeerKey};
 use makes::{Makes, WithEffects, made_of};
@@ -208,5 +208,34 @@ impl Reading {
             length: COMMON_HEADER + body.len() as u32,
             effects,
         })
+    }
+}
+
+/// The meaning by the RFCs alone.
+impl BodyReading for Reading {
+    ghost use Rattle.std.specs.Prelude.{◌≢◌};
+    ghost use Rattle.bmp_specs.specs.MessageEffects.{effects_of, strict};
+
+    ghost meaning = { strict };
+
+    ghost state = { reading_state };
+
+    ghost judge_wants = { λ kind. kind ≢ 0 };
+
+    ghost gives_messages = { λ _ _ _ _ _ means. (effects_of means.value, means.entry_is) };
+
+    #[inline]
+    fn new(alloc: Global) -> Reading {
+        Reading::new(alloc)
+    }
+
+    #[inline]
+    fn entry(&mut self, kind: u8, body: &[u8]) -> Result<Entry, BodyFault> {
+        self.entry(kind, body)
+    }
+
+    #[inline]
+    fn judge(&mut self, kind: u8, body: &[u8]) -> Result<(), BodyFault> {
+        self.judge(kind, body)
     }
 }

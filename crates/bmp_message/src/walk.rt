@@ -5,7 +5,7 @@ ghost use Rattle.bmp_message.specs.StreamWalk.{HasReached, GoesOn, Advances, Rep
 
 mod reads;
 
-use crate::Reading;
+use crate::BodyReading;
 use bmp_frames::{Cutter, Next, TERMINATION};
 use bmp_specs::Why;
 pub use reads::{Entries, Judged, Judgements, Reads};
@@ -46,36 +46,36 @@ pub enum Stage {
 /// entries given (`HasReached`), these are the entries of the first messages of the bytes; at `More` the
 /// walk of all bytes fed, if nothing more comes, gives just them, up to `offset`; and at `Terminated` and
 /// `Broken` the walk of the bytes fed, whatever comes after them, gives just them and ends at `offset`. A
-/// stream has one walk, so the pieces don't matter.
+/// stream has one walk by each meaning of bodies, so the pieces don't matter. The meaning is that of the reading `R`.
 ///
 /// A message costs its bytes and its effects.
 #[derive(Drop)]
-pub struct StreamWalk {
+pub struct StreamWalk<R> {
     cutter: Cutter,
-    reading: Reading,
+    reading: R,
     offset: u64,
     stage: Stage,
 }
 
-impl Model for StreamWalk {
+impl<R> Model for StreamWalk<R> {
     ghost use Rattle.bmp_message.specs.StreamWalk.{WalkValue, FitsWalk};
 
-    ghost Value = { WalkValue };
+    ghost Value = { WalkValue R };
 
-    ghost view = { λ w. record { peers = w.reading; cutter = w.cutter; offset = w.offset; stage = w.stage } };
+    ghost view = { λ w. record { reading = w.reading; cutter = w.cutter; offset = w.offset; stage = w.stage } };
 
     ghost invariant = { λ w. FitsWalk w.offset w.cutter w.stage };
 }
 
-impl StreamWalk {
-    /// Makes a walk that has been fed nothing. It knows no peer.
-    pub fn new(alloc: Global) -> StreamWalk
-        ensures run { HasReached [] [] result }
+impl<R: BodyReading> StreamWalk<R> {
+    /// Makes a walk that has been fed nothing.
+    pub fn new(alloc: Global) -> StreamWalk<R>
+        ensures run { HasReached R.meaning R.state [] [] result }
         ensures start { (result.offset ≡ 0) × (fed_of result ≡ 0) }
     {
         StreamWalk {
             cutter: Cutter::new(alloc),
-            reading: Reading::new(alloc),
+            reading: R::new(alloc),
             offset: 0,
             stage: Stage::Between,
         }
@@ -87,7 +87,7 @@ impl StreamWalk {
         requires { fed_of self.old + length piece.now ≤ 2 ^ 46 }
         ensures ok { OnOk result (self.new ≡ record self.old { cutter = with_more self.old.cutter piece.now }) }
         ensures err { OnErr result (self.new ≡ self.old) }
-        ensures run { OnOk result ((fed : List ℕ) (given : List EntryValue) → HasReached fed given self.old → HasReached (fed ++ piece.now) given self.new) }
+        ensures run { OnOk result ((fed : List ℕ) (given : List EntryValue) → HasReached R.meaning R.state fed given self.old → HasReached R.meaning R.state (fed ++ piece.now) given self.new) }
     {
         self.cutter.feed(piece)
     }
@@ -96,33 +96,33 @@ impl StreamWalk {
     /// the walk ended. A Termination Message is given, and then `Terminated`. After an end each later call
     /// gives the same, whatever is fed between. After `NoMemory` nothing was given, and the next call tries
     /// again. Calls for entries and for judgements may be mixed: each goes on where the last one ended.
-    pub fn next<R: Reads>(&mut self) -> Result<Progress<R::Item>, NoMemory>
-        ensures run { IfOk result (λ answer. (fed : List ℕ) (given : List EntryValue) → HasReached fed given self.old → GoesOn R.is_of fed given self.new answer) }
+    pub fn next<W: Reads>(&mut self) -> Result<Progress<W::Item>, NoMemory>
+        ensures run { IfOk result (λ answer. (fed : List ℕ) (given : List EntryValue) → HasReached R.meaning R.state fed given self.old → GoesOn R.meaning R.state W.is_of fed given self.new answer) }
         ensures advances { IfOk result (Advances self.old self.new) }
         ensures repeats { Repeats self.old.stage self.old self.new result }
-        ensures err { OnErr result (IsAsBefore self.old self.new) }
-        ensures wants { OnErr result ((kind : ℕ) × (self.new.stage ≡ Stage.Within kind) × R.wants kind) }
+        ensures err { OnErr result (IsAsBefore R.meaning R.state self.old self.new) }
+        ensures wants { OnErr result ((kind : ℕ) × (self.new.stage ≡ Stage.Within kind) × W.wants R.judge_wants kind) }
     {
         match self.stage {
-            Stage::Between => self.cut::<R>(),
-            Stage::Within(kind) => self.read::<R>(kind),
+            Stage::Between => self.cut::<W>(),
+            Stage::Within(kind) => self.read::<W>(kind),
             Stage::Terminated => Ok(Progress::Terminated),
             Stage::Broken(why) => Ok(Progress::Broken(why)),
         }
     }
 
     // Cuts the next message, and reads it.
-    fn cut<R: Reads>(&mut self) -> Result<Progress<R::Item>, NoMemory>
+    fn cut<W: Reads>(&mut self) -> Result<Progress<W::Item>, NoMemory>
         requires { self.old.stage ≡ Stage.Between }
-        ensures run { IfOk result (λ answer. (fed : List ℕ) (given : List EntryValue) → HasReached fed given self.old → GoesOn R.is_of fed given self.new answer) }
+        ensures run { IfOk result (λ answer. (fed : List ℕ) (given : List EntryValue) → HasReached R.meaning R.state fed given self.old → GoesOn R.meaning R.state W.is_of fed given self.new answer) }
         ensures advances { IfOk result (Advances self.old self.new) }
-        ensures err { OnErr result (IsAsBefore self.old self.new) }
-        ensures wants { OnErr result ((kind : ℕ) × (self.new.stage ≡ Stage.Within kind) × R.wants kind) }
+        ensures err { OnErr result (IsAsBefore R.meaning R.state self.old self.new) }
+        ensures wants { OnErr result ((kind : ℕ) × (self.new.stage ≡ Stage.Within kind) × W.wants R.judge_wants kind) }
     {
         match self.cutter.next() {
             Next::Frame { kind, .. } => {
                 self.stage = Stage::Within(kind);
-                self.read::<R>(kind)
+                self.read::<W>(kind)
             }
             Next::More => Ok(Progress::More),
             Next::Bad(why) => {
@@ -133,14 +133,14 @@ impl StreamWalk {
     }
 
     // Reads the message that was cut.
-    fn read<R: Reads>(&mut self, kind: u8) -> Result<Progress<R::Item>, NoMemory>
+    fn read<W: Reads>(&mut self, kind: u8) -> Result<Progress<W::Item>, NoMemory>
         requires { self.old.stage ≡ Stage.Within kind }
-        ensures run { IfOk result (λ answer. (fed : List ℕ) (given : List EntryValue) → HasReached fed given self.old → GoesOn R.is_of fed given self.new answer) }
+        ensures run { IfOk result (λ answer. (fed : List ℕ) (given : List EntryValue) → HasReached R.meaning R.state fed given self.old → GoesOn R.meaning R.state W.is_of fed given self.new answer) }
         ensures advances { IfOk result (Advances self.old self.new) }
         ensures err { OnErr result (self.new ≡ self.old) }
-        ensures wants { OnErr result (R.wants kind) }
+        ensures wants { OnErr result (W.wants R.judge_wants kind) }
     {
-        match R::read(&mut self.reading, kind, self.cutter.body()) {
+        match W::read(&mut self.reading, kind, self.cutter.body()) {
             Ok(item) => {
                 self.offset = self.cutter.offset();
                 self.stage = stage_after(kind);

@@ -1,13 +1,11 @@
 ghost use Rattle.std.specs.Prelude.{◌≡◌, ◌≢◌, ◌≤◌, ◌+◌, ⊤, List, ℕ, length, IfOk, OnErr, IsErrOf};
 ghost use Rattle.bmp_specs.specs.Frame.{least};
-ghost use Rattle.bmp_specs.specs.MessageEffects.{IsMessageEntry};
 ghost use Rattle.bmp_specs.specs.Values.{EffectValue, EntryValue, message};
 ghost use Rattle.peer_events.specs.Body.{most_body};
 ghost use Rattle.rib_model.specs.Entries.{entry_value};
 ghost use Rattle.bmp_message.specs.Effects.{MeansNoEntry};
-ghost use Rattle.bmp_message.specs.State.{reading_state};
 
-use crate::Reading;
+use crate::BodyReading;
 use bmp_frames::COMMON_HEADER;
 use rib_model::Entry;
 use wire_io::BodyFault;
@@ -20,16 +18,16 @@ pub trait Reads {
     /// It is made of the message with this entry.
     ghost is_of: { Self.Item → EntryValue → Type 0 };
 
-    /// A message of this type may want memory.
-    ghost wants: { ℕ → Type 0 };
+    /// A message of this type may want memory, where to judge one of these types does.
+    ghost wants: { (ℕ → Type 0) → ℕ → Type 0 };
 
-    /// Makes it of the message of this type with this body. After a refusal the same peers are up.
-    fn read(reading: &mut Reading, kind: u8, body: &[u8]) -> Result<Self::Item, BodyFault>
+    /// Makes it of the message of this type with this body. A refusal leaves the reading as it was.
+    fn read<R: BodyReading>(reading: &mut R, kind: u8, body: &[u8]) -> Result<Self::Item, BodyFault>
         requires { length body.now ≤ most_body }
-        ensures ok { IfOk result (λ item. (entry : EntryValue) × is_of item entry × IsMessageEntry (reading_state reading.old) kind body.now entry (reading_state reading.new)) }
-        ensures broken { IsErrOf result BodyFault.Broken → MeansNoEntry (IsMessageEntry (reading_state reading.old) kind body.now) }
+        ensures ok { IfOk result (λ item. (entry : EntryValue) × is_of item entry × R.meaning.Means (R.state reading.old) kind body.now entry (R.state reading.new)) }
+        ensures broken { IsErrOf result BodyFault.Broken → MeansNoEntry (R.meaning.Means (R.state reading.old) kind body.now) }
         ensures unchanged { OnErr result (reading.new ≡ reading.old) }
-        ensures wants { IsErrOf result BodyFault.NoMemory → wants kind };
+        ensures wants { IsErrOf result BodyFault.NoMemory → wants R.judge_wants kind };
 }
 
 /// Entries are wanted.
@@ -40,9 +38,9 @@ impl Reads for Entries {
 
     ghost is_of = { λ item entry. entry ≡ entry_value item };
 
-    ghost wants = { λ _. ⊤ };
+    ghost wants = { λ _ _. ⊤ };
 
-    fn read(reading: &mut Reading, kind: u8, body: &[u8]) -> Result<Entry, BodyFault> {
+    fn read<R: BodyReading>(reading: &mut R, kind: u8, body: &[u8]) -> Result<Entry, BodyFault> {
         reading.entry(kind, body)
     }
 }
@@ -71,9 +69,9 @@ impl Reads for Judgements {
 
     ghost is_of = { λ item entry. (effects : List EffectValue) × (entry ≡ message item.kind item.length effects) };
 
-    ghost wants = { λ kind. kind ≢ 0 };
+    ghost wants = { λ judge_wants kind. judge_wants kind };
 
-    fn read(reading: &mut Reading, kind: u8, body: &[u8]) -> Result<Judged, BodyFault> {
+    fn read<R: BodyReading>(reading: &mut R, kind: u8, body: &[u8]) -> Result<Judged, BodyFault> {
         match reading.judge(kind, body) {
             Ok(()) => Ok(Judged {
                 kind,

@@ -4,6 +4,7 @@ ghost use Rattle.std.specs.Prelude.{◌≡◌, ◌+◌, ◌≤◌, length, IfOk}
 ghost use Rattle.bmp_message.specs.StreamWalk.{Advances, fed_of};
 
 use super::{Entries, Judged, Judgements, Progress, StreamWalk};
+use crate::Reading;
 use bmp_specs::Why;
 use rib_model::Entry;
 use std::alloc::Global;
@@ -28,7 +29,7 @@ const ROUTES: &str =
 const TERMINATION: &str = "030000000c05000100020000";
 
 // The next message, as the one or the other reading gives it.
-fn step(walk: &mut StreamWalk, judges: bool) -> Result<Progress<Judged>, Fail>
+fn step(walk: &mut StreamWalk<Reading>, judges: bool) -> Result<Progress<Judged>, Fail>
     ensures { IfOk result (Advances walk.old walk.new) }
 {
     if judges {
@@ -48,7 +49,7 @@ fn step(walk: &mut StreamWalk, judges: bool) -> Result<Progress<Judged>, Fail>
 // The types and lengths of the messages that are there, behind those so far, and what follows them. Every other
 // message is asked for by the other call of the two.
 fn drain(
-    walk: &mut StreamWalk,
+    walk: &mut StreamWalk<Reading>,
     calls: [bool; 2],
     messages: &mut Vec<(u8, u32)>,
 ) -> Result<&'static str, Fail>
@@ -76,7 +77,7 @@ fn walked(
     requires { length first.now + length second.now ≤ 1000 }
 {
     let mut messages = Vec::new(alloc);
-    let mut walk = StreamWalk::new(alloc);
+    let mut walk: StreamWalk<Reading> = StreamWalk::new(alloc);
     walk.feed(first)?;
     drain(&mut walk, calls, &mut messages)?;
     walk.feed(second)?;
