@@ -28,6 +28,3 @@ mod walk;
 pub use fault::EntryFault;
 pub use reading::Reading;
 pub use walk::{Entries, Judged, Judgements, Progress, Reads, StreamWalk};
-
-#[cfg(test)]
-mod tests;
