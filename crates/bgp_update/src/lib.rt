@@ -33,6 +33,3 @@ pub use list::NlriList;
 pub use read::read_update;
 pub use update::Update;
 pub use wire_io::Unplaced;
-
-#[cfg(test)]
-mod tests;

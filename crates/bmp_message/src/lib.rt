@@ -30,6 +30,3 @@ pub use bodies::BodyReading;
 pub use fault::EntryFault;
 pub use reading::Reading;
 pub use walk::{Entries, Judged, Judgements, Progress, Reads, StreamWalk};
-
-#[cfg(test)]
-mod tests;
