@@ -1,2 +1,5 @@
+pub mod Capabilities
+pub mod OpenMessage
 pub mod PeerMessage
+pub mod PeerUpMessage
 pub mod Written

@@ -1,5 +1,5 @@
 -- What bytes that were written are: one whole message, and what it does to the tables of whoever reads it.
-use Rattle.std.specs.Prelude.{◌≡◌, ℕ, List, [], ◌∷◌, ◌++◌, length, drop, Some, None, ⊤}
+use Rattle.std.specs.Prelude.{◌≡◌, ℕ, List, [], ◌∷◌, ◌++◌, length, take, drop, Some, None, ⊤}
 use Rattle.bmp_specs.specs.declared.wire.Family.{Family}
 use Rattle.bmp_specs.specs.declared.wire.Family.TheVariants.{V4, V6}
 use Rattle.bmp_specs.specs.Frame.{IsFrame, least}
@@ -16,12 +16,19 @@ route_monitoring_type = 0
 abbrev pub peer_down_type : ℕ
 peer_down_type = 2
 
+abbrev pub peer_up_type : ℕ
+peer_up_type = 3
+
 abbrev pub initiation_type : ℕ
 initiation_type = 4
 
 -- a piece of this form was put behind the bytes
 abbrev pub Appends : (List ℕ → Type 0) → List ℕ → List ℕ → Type 0
 Appends Is old new = (piece : List ℕ) × (new ≡ old ++ piece) × Is piece
+
+-- what stood there stands there still, and behind it perhaps more
+abbrev pub Keeps : List ℕ → List ℕ → Type 0
+Keeps old new = take (length old) new ≡ old
 
 -- One message of this type. Whoever reads it in a state of this kind reads these effects, in this order and no others, and
 -- is then in that state.
@@ -45,6 +52,10 @@ unchanged state = state
 -- the peer is down
 abbrev pub without : KeyValue → ReadingState → ReadingState
 without key state = with_peer state key None
+
+-- the peer is up, with these OPEN messages
+abbrev pub with_opens : KeyValue → OpensValue → ReadingState → ReadingState
+with_opens key opens state = with_peer state key (Some opens)
 
 -- an Initiation Message of one sysDescr, one sysName and no other TLV, in this order
 abbrev pub HasTold : List ℕ → List ℕ → List ℕ → Type 0

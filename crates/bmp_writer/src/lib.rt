@@ -11,12 +11,16 @@
 //! Begin with `specs/Written.antt`, then `src/initiation.rt` and `src/peer.rt`.
 #![tactic(auto)]
 
+mod capabilities;
 mod common;
 mod initiation;
 mod mark;
+mod open_message;
 mod peer;
 mod peer_down;
+mod peer_up;
 
 pub use initiation::put_initiation;
 pub use mark::put_mark;
 pub use peer_down::put_peer_down;
+pub use peer_up::{can_peer_up, put_peer_up};

@@ -15,8 +15,8 @@ const PEER_HEADER: u32 = 42;
 /// The bytes of the longest message of a peer that has no routes and no OPENs.
 const LONGEST: usize = 80;
 
-// "Peer Address": IPv4 in the last four bytes.
-fn raw_address(address: &Addr) -> [u8; 16]
+/// "Peer Address": IPv4 in the last four bytes.
+pub(crate) fn raw_address(address: &Addr) -> [u8; 16]
     ensures same { address_in address.now.family result ≡ address.now }
     ensures size { length result ≡ 16 }
 {
@@ -31,8 +31,8 @@ fn raw_address(address: &Addr) -> [u8; 16]
     }
 }
 
-// The V flag of a family.
-fn flag_of_family(family: Family) -> u8
+/// The V flag of a family.
+pub(crate) fn flag_of_family(family: Family) -> u8
     ensures { result ≡ family_flag family }
 {
     match family {
