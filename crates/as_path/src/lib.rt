@@ -15,8 +15,6 @@ mod faults;
 mod numbers;
 mod path;
 mod segment;
-#[cfg(test)]
-mod tests;
 
 pub use bmp_specs::{SegmentKind, Width};
 pub use faults::PathFault;

@@ -30,6 +30,3 @@ pub use message::{
 pub use open::Open;
 pub use peer::{DownInfo, PeerInfo};
 pub use read::read_open;
-
-#[cfg(test)]
-mod tests;

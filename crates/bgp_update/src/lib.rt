@@ -35,6 +35,3 @@ pub use read::read_update;
 pub use update::Update;
 pub use wire_io::Unplaced;
 pub use withdraw::treat_as_withdraw;
-
-#[cfg(test)]
-mod tests;

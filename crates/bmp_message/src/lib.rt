@@ -34,6 +34,3 @@ pub use fault::EntryFault;
 pub use lenient::LenientReading;
 pub use reading::Reading;
 pub use walk::{Entries, Judged, Judgements, Progress, Reads, StreamWalk};
-
-#[cfg(test)]
-mod tests;

@@ -181,6 +181,3 @@ fn stage_after(kind: u8) -> Stage
         Stage::Between
     }
 }
-
-#[cfg(test)]
-mod tests;

@@ -20,6 +20,3 @@ mod peer_down;
 pub use initiation::put_initiation;
 pub use mark::put_mark;
 pub use peer_down::put_peer_down;
-
-#[cfg(test)]
-mod tests;

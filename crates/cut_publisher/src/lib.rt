@@ -47,6 +47,3 @@ pub use note::Note;
 pub use publication::{Refused, publish};
 pub use station::{Station, open_station};
 pub use subject::{Naming, Subject};
-
-#[cfg(test)]
-mod tests;

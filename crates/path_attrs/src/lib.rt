@@ -27,8 +27,6 @@ mod mp;
 mod others;
 mod part;
 mod read;
-#[cfg(test)]
-mod tests;
 mod values;
 mod width;
 

@@ -19,6 +19,3 @@ mod peer;
 pub use book::PeerBook;
 pub use cursor::PeerLine;
 pub use peer::PeerState;
-
-#[cfg(test)]
-mod tests;

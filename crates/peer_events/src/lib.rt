@@ -26,6 +26,3 @@ pub use peer_down::read_peer_down;
 pub use peer_up::{PeerUp, read_peer_up};
 pub use statistics::{StatList, Statistics, read_statistics};
 pub use termination::read_termination;
-
-#[cfg(test)]
-mod tests;

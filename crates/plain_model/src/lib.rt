@@ -14,8 +14,6 @@
 mod order;
 mod stream;
 mod table;
-#[cfg(test)]
-mod tests;
 mod values;
 
 pub use bmp_specs::{Family, View, Why};

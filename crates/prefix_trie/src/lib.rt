@@ -25,6 +25,3 @@ pub use bits::shared_bits;
 pub use share::{NoMemory, Share};
 pub use steps::Steps;
 pub use trie::Trie;
-
-#[cfg(test)]
-mod tests;

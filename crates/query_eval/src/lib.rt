@@ -31,6 +31,3 @@ mod tables;
 mod within;
 
 pub use reply::answer;
-
-#[cfg(test)]
-mod tests;

@@ -15,8 +15,6 @@ mod put;
 mod query;
 mod select;
 mod selectors;
-#[cfg(test)]
-mod tests;
 mod verb;
 mod words;
 

@@ -15,6 +15,3 @@ mod ring;
 
 pub use keep::Keep;
 pub use ring::Recent;
-
-#[cfg(test)]
-mod tests;

@@ -12,8 +12,6 @@
 mod change;
 mod escaped;
 mod hop;
-#[cfg(test)]
-mod line_tests;
 mod lines;
 mod lists;
 mod mark;
@@ -22,8 +20,6 @@ mod peer;
 mod route;
 mod router;
 mod stat;
-#[cfg(test)]
-mod tests;
 mod values;
 
 pub use bmp_specs::{Cause, Why};

@@ -23,6 +23,3 @@ pub use entry::Entry;
 pub use list::EffectList;
 pub use row::RowKey;
 pub use step::Step;
-
-#[cfg(test)]
-mod tests;

@@ -43,6 +43,3 @@ pub use changes::Changes;
 pub use origin_walk::OriginWalk;
 pub use table::RouteTable;
 pub use walk::{Place, Walk};
-
-#[cfg(test)]
-mod tests;

@@ -13,6 +13,3 @@
 mod watch;
 
 pub use watch::{missed, poll};
-
-#[cfg(test)]
-mod tests;

@@ -34,6 +34,3 @@ mod views;
 
 pub use state::LaneState;
 pub use tables::RouterTables;
-
-#[cfg(test)]
-mod tests;

@@ -39,6 +39,3 @@ pub use mem_port::MemPort;
 pub use mem_yard::{LinkList, MemYard, PortList};
 pub use sure_link::SureLink;
 pub use sure_port::SurePort;
-
-#[cfg(test)]
-mod tests;

@@ -23,6 +23,3 @@ pub use status::Status;
 pub use take::{MOST_READ, MOST_TAKEN};
 pub use top::station;
 pub use words::{Command, WordsFault, read_words};
-
-#[cfg(test)]
-mod tests;

@@ -17,6 +17,3 @@ mod peer;
 
 pub use book::StatsBook;
 pub use counts::Counts;
-
-#[cfg(test)]
-mod tests;

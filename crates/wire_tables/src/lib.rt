@@ -14,8 +14,6 @@
 mod registries;
 mod stat;
 mod table;
-#[cfg(test)]
-mod tests;
 
 pub use bmp_specs::Shape;
 pub use registries::{

@@ -1,0 +1,11 @@
+//! Tests of messages, walks and the plain model, and of messages written, from outside.
+#![tactic(auto)]
+
+#[cfg(test)]
+mod messages;
+#[cfg(test)]
+mod model;
+#[cfg(test)]
+mod walks;
+#[cfg(test)]
+mod written;

@@ -1,0 +1,136 @@
+//! Messages that are written: their bytes, and what a reader makes of them.
+
+use bmp_frames::{Cutter, Next, PeerKey, View, ViewText};
+use bmp_message::Reading;
+use bmp_writer::{put_initiation, put_mark, put_peer_down};
+use ip_prefix::{Addr, Family};
+use rib_model::{Effect, Entry};
+use std::alloc::Global;
+use std::process::Abort;
+use std::test::Fail;
+use wire_io::ByteList;
+
+// A Peer Up Notification of the peer 192.0.2.1 (RFC 7854, section 4.10).
+const PEER_UP: &str = "030000009a03\
+    00000000000000000000000000000000000000000000c00002010000fbf4c00002010000000000000000\
+    000000000000000000000000c00002fe00b3c350\
+    ffffffffffffffffffffffffffffffff002b0104fbf000b4c00002fe0e020c01040001000141040000fbf0\
+    ffffffffffffffffffffffffffffffff002b0104fbf400b4c00002010e020c01040001000141040000fbf4";
+
+// An Initiation, the End-of-RIB markers of two views, and Peer Downs of an IPv4, an IPv6 and a Loc-RIB Instance Peer.
+const WRITTEN: &str = "0300000014040001000474657374000200027231\
+    03000000470000500000000000000000000000000000000000000000c000020100000000000000000000000000000000\
+    ffffffffffffffffffffffffffffffff00170200000000\
+    030000004d0000400000000000000000000000000000000000000000c000020100000000000000000000000000000000\
+    ffffffffffffffffffffffffffffffff001d0200000006800f03000201\
+    03000000310200000000000000000000000000000000000000000000c000020100000000000000000000000000000000\
+    02\
+    0300000031020180000000000000000720010db800000000000000000000000100000000000000000000000000000000\
+    06\
+    030000003102030000000000000000070000000000000000000000000000000000000000000000000000000000000000\
+    04";
+
+// What a reader makes of them.
+const READ: &str = "up;name r1;descr test;mark 0-0000000000000000-192.0.2.1 adj-out-post 4;\
+    mark 0-0000000000000000-192.0.2.1 adj-in-post 6;down 0-0000000000000000-192.0.2.1 2;\
+    down 1-0000000000000007-2001:db8::1 6;down 3-0000000000000007-0.0.0.0 4;";
+
+// Writes an effect in words.
+fn describe(out: &mut Vec<u8>, effect: &Effect) -> Result<(), Fail> {
+    match effect {
+        Effect::Name(name) => {
+            out.extend_from_slice(b"name ")?;
+            out.extend_from_slice(name.as_slice())?;
+        }
+        Effect::Descr(descr) => {
+            out.extend_from_slice(b"descr ")?;
+            out.extend_from_slice(descr.as_slice())?;
+        }
+        Effect::Mark { key, view, family } => {
+            out.extend_from_slice(b"mark ")?;
+            out.extend_from_slice(key.text().as_slice())?;
+            out.push(b' ')?;
+            out.extend_from_slice(view.text().as_slice())?;
+            match family {
+                Family::V4 => out.extend_from_slice(b" 4")?,
+                Family::V6 => out.extend_from_slice(b" 6")?,
+            }
+        }
+        Effect::Down { key, info } => {
+            out.extend_from_slice(b"down ")?;
+            out.extend_from_slice(key.text().as_slice())?;
+            out.extend_from_slice(&[b' ', b'0' + info.reason % 10])?;
+        }
+        Effect::Up { .. } => out.extend_from_slice(b"up")?,
+        _ => out.extend_from_slice(b"other")?,
+    }
+    out.push(b';')?;
+    Ok(())
+}
+
+// Reads the messages of a stream, and writes what they do.
+fn read<R: Abort>(rt: &R, alloc: Global, stream: &[u8]) -> Result<Vec<u8>, Fail> {
+    let mut cutter = Cutter::new(alloc);
+    let mut reading = Reading::new(alloc);
+    let mut said = Vec::new(alloc);
+    assert!(rt; stream.len() <= 1000 && cutter.offset() + cutter.rest() <= 1000);
+    cutter.feed(stream).ok().ok_or("no memory")?;
+    for _ in 0..7 {
+        let Next::Frame { kind, .. } = cutter.next() else {
+            return Err("no message".into());
+        };
+        let body = cutter.body();
+        assert!(rt; body.len() <= 1000);
+        match reading.entry(kind, body) {
+            Ok(Entry::Message { effects, .. }) => {
+                for effect in effects.as_slice() {
+                    describe(&mut said, effect)?;
+                }
+            }
+            _ => return Err("no entry".into()),
+        }
+    }
+    assert_eq!(rt; cutter.next(), Next::More);
+    assert_eq!(rt; cutter.rest(), 0);
+    Ok(said)
+}
+
+#[test]
+fn written_messages_are_read(rt: HostRuntime) -> Result<(), Fail> {
+    let alloc = rt.alloc();
+    let peer = PeerKey {
+        kind: 0,
+        distinguisher: 0,
+        address: Addr::v4([192, 0, 2, 1]),
+    };
+    let other = PeerKey {
+        kind: 1,
+        distinguisher: 7,
+        address: Addr::v6([0x20, 1, 0x0d, 0xb8, 0, 0, 0, 0, 0, 0, 0, 0, 0, 0, 0, 1]),
+    };
+    let local = PeerKey {
+        kind: 3,
+        distinguisher: 7,
+        address: Addr::v4([0, 0, 0, 0]),
+    };
+    let mut out = ByteList::new(alloc);
+    put_initiation(&mut out, b"r1", b"test")
+        .ok()
+        .ok_or("no memory")?;
+    put_mark(&mut out, &peer, View::OutPost, Family::V4)
+        .ok()
+        .ok_or("no memory")?;
+    put_mark(&mut out, &peer, View::InPost, Family::V6)
+        .ok()
+        .ok_or("no memory")?;
+    put_peer_down(&mut out, &peer, 2).ok().ok_or("no memory")?;
+    put_peer_down(&mut out, &other, 6).ok().ok_or("no memory")?;
+    put_peer_down(&mut out, &local, 4).ok().ok_or("no memory")?;
+    let wanted = hex::decode(alloc, WRITTEN)?;
+    assert_eq!(rt; out.as_slice(), wanted.as_slice());
+    let mut stream = hex::decode(alloc, PEER_UP)?;
+    stream.extend_from_slice(out.as_slice())?;
+    let said = read(&rt, alloc, stream.as_slice())?;
+    assert_eq!(rt; said.as_slice(), READ.as_bytes());
+    Ok(())
+}
