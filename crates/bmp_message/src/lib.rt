@@ -21,6 +21,9 @@ mod bodies;
 mod effects;
 mod events;
 mod fault;
+mod forms;
+mod in_forms;
+mod lenient;
 mod reading;
 mod routes;
 mod types;
@@ -28,5 +31,6 @@ mod walk;
 
 pub use bodies::BodyReading;
 pub use fault::EntryFault;
+pub use lenient::LenientReading;
 pub use reading::Reading;
 pub use walk::{Entries, Judged, Judgements, Progress, Reads, StreamWalk};
