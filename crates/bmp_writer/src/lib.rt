@@ -1,14 +1,15 @@
 //! BMP messages, written: the reverse of reading.
 //!
 //! Each call appends one whole message to a list of bytes (RFC 7854, section 4), or for want of memory
-//! leaves it as it was. A message is put together in an array, so that the list takes all of it or
-//! nothing.
+//! leaves it as it was.
 //!
 //! Proved: whoever reads the message under the definitions of `bmp_specs` reads the effects that the call
 //! names, in that order and no others, in any state of its peers; an End-of-RIB marker where the peer is
-//! up, with whatever OPENs. A Per-Peer Header names no AS, no identifier and no time, and its A flag is
-//! clear. A Peer Down Notification has no data, an Initiation Message no further TLVs.
-//! Begin with `specs/Written.antt`, then `src/initiation.rt` and `src/peer.rt`.
+//! up, with whatever OPENs. A Peer Up Notification tells all of a peer but whether an OPEN has extended
+//! parameters; `can_peer_up` says exactly where it can, and its OPENs are some that can be read. The
+//! Per-Peer Header of any other message names no AS and no identifier, and no header has a time; its A flag
+//! is clear. A Peer Down Notification has no data, an Initiation Message no further TLVs.
+//! Begin with `specs/Written.antt`, then `src/initiation.rt`, `src/peer.rt` and `src/peer_up.rt`.
 #![tactic(auto)]
 
 mod capabilities;

@@ -117,10 +117,10 @@ fn put_message(out: &mut ByteList, key: &PeerKey, info: &PeerInfo) -> Result<(),
     put_table(out, &info.table)
 }
 
-/// Appends a Peer Up Notification (RFC 7854, section 4.10) that tells the AS, the BGP Identifier, the local address, the
-/// ports and the OPEN messages. Of a Loc-RIB Instance Peer it has the F flag and the table name (RFC 9069, sections 4.2
-/// and 5.2). The capabilities of each OPEN stand in one optional parameter, so they take at most 253 bytes. An OPEN
-/// with extended parameters (RFC 9072) is written without any. After `NoMemory` the list is as before.
+/// Appends a Peer Up Notification (RFC 7854, section 4.10) that tells the AS, the BGP Identifier, the local address,
+/// the ports and the OPEN messages. Of a Loc-RIB Instance Peer it has the F flag and the table name (RFC 9069,
+/// sections 4.2 and 5.2). The capabilities of each OPEN stand in one optional parameter, so they take at most 253
+/// bytes. An OPEN with extended parameters (RFC 9072) is written without them. After `NoMemory` the list is as before.
 pub fn put_peer_up(out: &mut ByteList, key: &PeerKey, info: &PeerInfo) -> Result<(), NoMemory>
     requires { CanCarry key.now info.now }
     ensures ok { OnOk result (IsSome info.now.sent → IsSome info.now.received → Appends (IsWritten peer_up_type Always (up key.now (with_unextended info.now) ∷ []) (with_opens key.now (record { sent = unextended info.now.sent; received = unextended info.now.received }))) out.old out.new) }

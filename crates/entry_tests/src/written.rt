@@ -2,7 +2,7 @@
 
 use bmp_frames::{Cutter, Next, PeerKey, View, ViewText};
 use bmp_message::Reading;
-use bmp_writer::{put_initiation, put_mark, put_peer_down};
+use bmp_writer::{can_peer_up, put_initiation, put_mark, put_peer_down, put_peer_up};
 use ip_prefix::{Addr, Family};
 use rib_model::{Effect, Entry};
 use std::alloc::Global;
@@ -16,6 +16,21 @@ const PEER_UP: &str = "030000009a03\
     000000000000000000000000c00002fe00b3c350\
     ffffffffffffffffffffffffffffffff002b0104fbf000b4c00002fe0e020c01040001000141040000fbf0\
     ffffffffffffffffffffffffffffffff002b0104fbf400b4c00002010e020c01040001000141040000fbf4";
+
+// The same, where path identifiers are used for IPv4 unicast (RFC 7911, section 4).
+const WITH_PATHS: &str = "03000000a603\
+    00000000000000000000000000000000000000000000c00002010000fbf4c00002010000000000000000\
+    000000000000000000000000c00002fe00b3c350\
+    ffffffffffffffffffffffffffffffff00310104fbf000b4c00002fe14021201040001000141040000fbf0450400010101\
+    ffffffffffffffffffffffffffffffff00310104fbf400b4c000020114021201040001000141040000fbf4450400010102";
+
+// The Peer Up Notification of a Loc-RIB Instance Peer that is filtered, with its table name (RFC 9069, section 5.2).
+const LOC_RIB_UP: &str = "03000000a403\
+    03800000000000000000000000000000000000000000000000000000fbf0c00002fe0000000000000000\
+    0000000000000000000000000000000000000000\
+    ffffffffffffffffffffffffffffffff002b0104fbf000b4c00002fe0e020c01040001000141040000fbf0\
+    ffffffffffffffffffffffffffffffff002b0104fbf000b4c00002fe0e020c01040001000141040000fbf0\
+    00030006676c6f62616c";
 
 // An Initiation, the End-of-RIB markers of two views, and Peer Downs of an IPv4, an IPv6 and a Loc-RIB Instance Peer.
 const WRITTEN: &str = "0300000014040001000474657374000200027231\
@@ -132,5 +147,43 @@ fn written_messages_are_read(rt: HostRuntime) -> Result<(), Fail> {
     stream.extend_from_slice(out.as_slice())?;
     let said = read(&rt, alloc, stream.as_slice())?;
     assert_eq!(rt; said.as_slice(), READ.as_bytes());
+    Ok(())
+}
+
+// Reads a Peer Up Notification, and writes what it told.
+fn written_again(alloc: Global, message: &[u8]) -> Option<ByteList> {
+    let mut reading = Reading::new(alloc);
+    if message.len() < 6 || message.len() > 1000 {
+        return None;
+    }
+    let Ok(Entry::Message { effects, .. }) = reading.entry(3, &message[6..]) else {
+        return None;
+    };
+    let mut out = ByteList::new(alloc);
+    for effect in effects.as_slice() {
+        put_up(&mut out, effect)?;
+    }
+    Some(out)
+}
+
+fn put_up(out: &mut ByteList, effect: &Effect) -> Option<()> {
+    let Effect::Up { key, info } = effect else {
+        return None;
+    };
+    if can_peer_up(key, info) {
+        put_peer_up(out, key, info).ok()
+    } else {
+        None
+    }
+}
+
+#[test]
+fn peer_up_is_written_as_it_was_read(rt: HostRuntime) -> Result<(), Fail> {
+    let alloc = rt.alloc();
+    for text in [PEER_UP, WITH_PATHS, LOC_RIB_UP] {
+        let message = hex::decode(alloc, text)?;
+        let written = written_again(alloc, message.as_slice()).ok_or("not written")?;
+        assert_eq!(rt; written.as_slice(), message.as_slice());
+    }
     Ok(())
 }
