@@ -5,3 +5,4 @@ pub mod OneBody
 pub mod Counting
 pub mod Judging
 pub mod Framing
+pub mod Withdrawing

@@ -24,6 +24,7 @@ mod read;
 mod shared;
 mod sizes;
 mod update;
+mod withdraw;
 
 pub use bmp_specs::IdUse;
 pub use fault::UpdateFault;
@@ -33,3 +34,4 @@ pub use list::NlriList;
 pub use read::read_update;
 pub use update::Update;
 pub use wire_io::Unplaced;
+pub use withdraw::treat_as_withdraw;

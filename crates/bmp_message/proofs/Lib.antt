@@ -4,3 +4,9 @@ pub mod Meanings
 pub mod Reaching
 pub mod Judging
 pub mod Making
+pub mod Choosing
+pub mod InForms
+pub mod KnownStates
+pub mod LenientTells
+pub mod LenientEntries
+pub mod LenientRoutes

@@ -102,7 +102,7 @@ no_termination state body not m next (is, e, same) = not is
 -- messages with a Per-Peer Header
 
 -- a header has 42 bytes
-header_length : (bytes : List ℕ) (h : HeaderValue) → IsHeader bytes h → length bytes ≡ 42
+pub header_length : (bytes : List ℕ) (h : HeaderValue) → IsHeader bytes h → length bytes ≡ 42
 header_length bytes h (a, ra, sa, pa, (b, rb, sb, pb, (c, rc, sc, pc, (d, rd, sd, pd, (e, re, se, pe, (f, rf, sf, pf, (g, rg, sg, pg, ph))))))) =
     let la : length bytes ≡ length a + length ra = ap length sa.joined ∙ length-append a ra in
     let lb : length ra ≡ length b + length rb = ap length sb.joined ∙ length-append b rb in

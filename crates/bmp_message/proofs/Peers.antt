@@ -54,7 +54,7 @@ turned Equal = refl
 turned Greater = refl
 
 -- two keys tie in either order
-tied : (a b : KeyValue) → is_eq (key_cmp a b) ≡ is_eq (key_cmp b a)
+pub tied : (a b : KeyValue) → is_eq (key_cmp a b) ≡ is_eq (key_cmp b a)
 tied a b = ap is_eq (key_total.antisymm a b) ∙ turned (key_cmp b a)
 
 chosen : (b c : Bool) (w x : Option Kept) → b ≡ c → opens_in (cond b w x) ≡ cond c (opens_in w) (opens_in x)

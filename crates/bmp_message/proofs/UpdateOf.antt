@@ -13,7 +13,7 @@ use Rattle.bmp_specs.proofs.BgpMessageCode.{IsBgpMessage-one}
 abbrev pub update_with : List ℕ → BgpMessageValue
 update_with body = record { kind = update_type; body = body }
 
-as_update : (rest : List ℕ) (m : BgpMessageValue) → m.kind ≡ update_type → IsBgpMessage rest m → IsBgpMessage rest (update_with m.body)
+pub as_update : (rest : List ℕ) (m : BgpMessageValue) → m.kind ≡ update_type → IsBgpMessage rest m → IsBgpMessage rest (update_with m.body)
 as_update rest m e is = subst (λ (k : ℕ). IsBgpMessage rest (record { kind = k; body = m.body })) e is
 
 -- where the bytes are no UPDATE message

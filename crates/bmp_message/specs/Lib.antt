@@ -2,3 +2,5 @@ pub mod State
 pub mod Effects
 pub mod StreamWalk
 pub mod Types
+pub mod BodyForms
+pub mod Lenient

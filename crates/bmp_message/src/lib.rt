@@ -12,15 +12,25 @@
 //! `StreamWalk` gives are those of the one walk of the bytes fed, by the meaning of bodies that its reading
 //! has. `Reading::judge` and `Judgements` move alike and give no effects, for who wants types and lengths
 //! alone; of an UPDATE they make nothing.
+//!
+//! `LenientReading` reads messages as routers send them, beside what the RFCs give a value: prefixes without
+//! the path identifiers that were agreed on, AS numbers of two octets where the header says four, the routes
+//! of a Loc-RIB that no Peer Up told of, and malformed attributes, whose routes it withdraws (RFC 7606). Its
+//! calls have the same clauses by `specs/LenientBody.antt` of `bmp_specs`.
+//!
 //! Begin with `specs/MessageBody.antt` and `specs/MessageEffects.antt` of `bmp_specs`, then
 //! `src/bodies.rt`, `src/reading.rt` and `src/walk.rt`; `src/routes.rt` and `src/events.rt` read what stands
-//! behind the headers.
+//! behind the headers, `src/in_forms.rt` an UPDATE in the form that fits, and `src/lenient.rt` keeps which
+//! did last.
 #![tactic(auto)]
 
 mod bodies;
 mod effects;
 mod events;
 mod fault;
+mod forms;
+mod in_forms;
+mod lenient;
 mod reading;
 mod routes;
 mod types;
@@ -28,5 +38,6 @@ mod walk;
 
 pub use bodies::BodyReading;
 pub use fault::EntryFault;
+pub use lenient::LenientReading;
 pub use reading::Reading;
 pub use walk::{Entries, Judged, Judgements, Progress, Reads, StreamWalk};

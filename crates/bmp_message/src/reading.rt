@@ -12,7 +12,7 @@ ghost use Rattle.rib_model.specs.Entries.{entry_value};
 ghost use Rattle.rib_model.specs.Effects.{effect_values};
 
 mod judge;
-mod makes;
+pub(crate) mod makes;
 
 use crate::effects::only;
 use crate::types::{MessageType, PeerMessage};

@@ -1,4 +1,4 @@
-ghost use Rattle.std.specs.Prelude.{◌≡◌, ◌≤◌, ◌↔◌, ℕ, List, length, IsTrue, IfOk, IfSome, IfNone, IsErrOf};
+ghost use Rattle.std.specs.Prelude.{◌≡◌, ◌≤◌, ◌+◌, ◌++◌, ◌↔◌, ℕ, List, length, IsTrue, IfOk, OnOk, IfSome, IfNone, IsErrOf};
 ghost use Rattle.bmp_specs.specs.BgpMessage.{IsBgpMessage, update_type};
 ghost use Rattle.bmp_specs.specs.MessageBody.{IsRouteMonitoring, id_use as ids_of, side_of as side_in, width_of as width_in};
 ghost use Rattle.bmp_specs.specs.MessageEffects.{effects_of};
@@ -30,7 +30,7 @@ fn side_of(head: &PeerHeader) -> Side
 }
 
 // The width of AS numbers.
-fn width_of(head: &PeerHeader) -> Width
+pub(crate) fn width_of(head: &PeerHeader) -> Width
     ensures { result ≡ width_in head.now }
 {
     if head.two_byte() {
@@ -41,7 +41,7 @@ fn width_of(head: &PeerHeader) -> Width
 }
 
 // Which families use path identifiers, by what the peer's OPENs agreed on.
-fn id_use(peer: &PeerInfo, head: &PeerHeader) -> IdUse
+pub(crate) fn id_use(peer: &PeerInfo, head: &PeerHeader) -> IdUse
     ensures { result ≡ ids_of (opens_of peer.now) head.now }
 {
     let side = side_of(head);
@@ -52,7 +52,7 @@ fn id_use(peer: &PeerInfo, head: &PeerHeader) -> IdUse
 }
 
 // The body of the UPDATE message that the bytes are, all of them (RFC 4271, section 4.1).
-fn update_body(bytes: &[u8]) -> Option<&[u8]>
+pub(crate) fn update_body(bytes: &[u8]) -> Option<&[u8]>
     ensures found { IfSome result (λ body. IsBgpMessage bytes.now (record { kind = update_type; body = body.now })) }
     ensures none { IfNone result ((body : List ℕ) → IsBgpMessage bytes.now (record { kind = update_type; body = body }) → ⊥) }
 {
@@ -95,7 +95,7 @@ pub(crate) fn judge_routes(peer: &PeerInfo, head: &PeerHeader, rest: &[u8]) -> b
 }
 
 // How many items the effects of the UPDATE are.
-fn count(update: &Update) -> usize
+pub(crate) fn count(update: &Update) -> usize
     ensures { result ≤ 5 }
 {
     let withdrawn = one_if(!update.withdrawn.as_slice().is_empty());
@@ -106,8 +106,25 @@ fn count(update: &Update) -> usize
     withdrawn + plain + multi + mark + unread
 }
 
-// The effects of the UPDATE: what is withdrawn, what is announced, and the End-of-RIB marker. Its lists of
+// Appends the effects of the UPDATE: what is withdrawn, what is announced, and the End-of-RIB marker. Its lists of
 // prefixes are handed on as they are.
+pub(crate) fn add_routes(
+    effects: &mut EffectList,
+    key: &PeerKey,
+    view: View,
+    update: Update,
+) -> Result<(), NoMemory>
+    ensures effects { OnOk result (effect_values effects.new ≡ effect_values effects.old ++ effects_of (routes key.now view update)) }
+    ensures items { OnOk result (length effects.new ≤ length effects.old + 5) }
+{
+    add_withdrawals(effects, key, view, update.withdrawn)?;
+    add_announcements(effects, key, view, update.plain, update.plain_attrs)?;
+    add_announcements(effects, key, view, update.multi, update.multi_attrs)?;
+    add_mark(effects, key, view, update.mark)?;
+    add_unread(effects, update.unread)
+}
+
+// The effects of the UPDATE.
 fn effects_of_update(
     alloc: Global,
     key: &PeerKey,
@@ -118,11 +135,7 @@ fn effects_of_update(
     ensures items { IfOk result (λ effects. length effects ≤ 5) }
 {
     let mut effects = EffectList::with_capacity(alloc, count(&update))?;
-    add_withdrawals(&mut effects, key, view, update.withdrawn)?;
-    add_announcements(&mut effects, key, view, update.plain, update.plain_attrs)?;
-    add_announcements(&mut effects, key, view, update.multi, update.multi_attrs)?;
-    add_mark(&mut effects, key, view, update.mark)?;
-    add_unread(&mut effects, update.unread)?;
+    add_routes(&mut effects, key, view, update)?;
     Ok(effects)
 }
 

@@ -361,7 +361,7 @@ fn statistic(alloc: Global, out: &mut Vec<u8>, stat: &Stat) -> Result<(), Fail> 
 }
 
 // Writes an effect in words, one for each route.
-fn describe(alloc: Global, out: &mut Vec<u8>, effect: &Effect) -> Result<(), Fail> {
+pub(crate) fn describe(alloc: Global, out: &mut Vec<u8>, effect: &Effect) -> Result<(), Fail> {
     match effect {
         Effect::Up { key, info } => {
             word(out, b"up")?;

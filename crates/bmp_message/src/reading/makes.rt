@@ -1,23 +1,29 @@
-ghost use Rattle.std.specs.Prelude.{◌≡◌, ⊤, List, [], ◌∷◌, IfOk, IsErr, IsErrOf, IsOkAnd, MatchResult, Err};
+ghost use Rattle.std.specs.Prelude.{◌≡◌, ⊤, List, [], ◌∷◌, ◌++◌, IfOk, IsErr, IsErrOf, IsOkAnd, MatchResult, Err};
+ghost use Rattle.std.specs.Arc.{arc_value};
+ghost use Rattle.bmp_specs.specs.LenientBody.{IsLenientUpdate};
 ghost use Rattle.bmp_specs.specs.MessageBody.{IsRouteMonitoring};
 ghost use Rattle.bmp_specs.specs.MessageEffects.{effects_of};
 ghost use Rattle.bmp_specs.specs.PeerHeader.{view_of};
+ghost use Rattle.bmp_specs.specs.UpdateForms.{FormsValue};
 ghost use Rattle.bmp_specs.specs.Values.{EffectValue, UpdateValue, orphan as orphan_value, passed as passed_value, routes as routes_of};
+ghost use Rattle.bmp_message.specs.Lenient.{up_if};
 ghost use Rattle.bmp_message.specs.State.{opens_of};
 ghost use Rattle.rib_model.specs.Effects.{effect_values};
 
 use crate::effects::only;
-use crate::routes;
+use crate::forms::Forms;
+use crate::{in_forms, routes};
 use bgp_open::PeerInfo;
 use bmp_frames::{PeerHeader, PeerKey};
 use rib_model::{Effect, EffectList};
 use std::alloc::Global;
+use std::sync::Arc;
 use wire_io::{BodyFault, NoMemory};
 
 // What is made of the effects of a message.
 pub(crate) trait Makes {
     // What is made.
-    type Made;
+    type Made: Drop;
 
     // It is made of these effects.
     ghost is_of: { Self.Made → List EffectValue → Type 0 };
@@ -50,6 +56,20 @@ pub(crate) trait Makes {
         ensures ok { IfOk result (λ made. (u : UpdateValue) × IsRouteMonitoring (opens_of peer.now) head.now rest.now u × is_of made (effects_of (routes_of key.now (view_of head.now) u))) }
         ensures broken { IsErrOf result BodyFault.Broken → (u : UpdateValue) → IsRouteMonitoring (opens_of peer.now) head.now rest.now u → ⊥ }
         ensures wants { IsErrOf result BodyFault.NoMemory → wants };
+
+    // Makes it of a Route Monitoring message that is read in the forms in which routers send it, after one of the same
+    // peer and view in the last forms, with the Up of the peer before it where that is implied; and tells the forms.
+    fn in_forms(
+        alloc: Global,
+        peer: &Arc<PeerInfo>,
+        implied: bool,
+        head: &PeerHeader,
+        key: &PeerKey,
+        rest: &[u8],
+        last: &Forms,
+    ) -> Result<(Self::Made, Forms), BodyFault>
+        ensures ok { IfOk result (λ r. (u : UpdateValue) × IsLenientUpdate (opens_of (arc_value peer.now)) head.now rest.now last.now r.1 u × is_of r.0 (up_if implied key.now (arc_value peer.now) ++ effects_of (routes_of key.now (view_of head.now) u))) }
+        ensures broken { IsErrOf result BodyFault.Broken → (taken : FormsValue) (u : UpdateValue) → IsLenientUpdate (opens_of (arc_value peer.now)) head.now rest.now last.now taken u → ⊥ };
 }
 
 // Makes it of the list of the effects, if there is one.
@@ -95,6 +115,18 @@ impl Makes for WithEffects {
     ) -> Result<EffectList, BodyFault> {
         routes::route_monitoring(alloc, peer, head, key, rest)
     }
+
+    fn in_forms(
+        alloc: Global,
+        peer: &Arc<PeerInfo>,
+        implied: bool,
+        head: &PeerHeader,
+        key: &PeerKey,
+        rest: &[u8],
+        last: &Forms,
+    ) -> Result<(EffectList, Forms), BodyFault> {
+        in_forms::effects_in_forms(alloc, peer, implied, head, key, rest, last)
+    }
 }
 
 // Nothing is made: the message is judged alone.
@@ -128,6 +160,21 @@ impl Makes for WithoutEffects {
             Ok(())
         } else {
             Err(BodyFault::Broken)
+        }
+    }
+
+    fn in_forms(
+        _alloc: Global,
+        peer: &Arc<PeerInfo>,
+        _implied: bool,
+        head: &PeerHeader,
+        _key: &PeerKey,
+        rest: &[u8],
+        last: &Forms,
+    ) -> Result<((), Forms), BodyFault> {
+        match in_forms::judge_in_forms(peer, head, rest, last) {
+            Some(taken) => Ok(((), taken)),
+            None => Err(BodyFault::Broken),
         }
     }
 }

@@ -1,0 +1,76 @@
+ghost use Rattle.std.specs.Prelude.{◌≡◌, ◌≤◌, IfOk};
+ghost use Rattle.std.specs.Option.{option_map};
+ghost use Rattle.bmp_specs.specs.FramedUpdate.{FitsFamily};
+ghost use Rattle.bmp_specs.specs.TreatAsWithdraw.{IsTreatedAsWithdraw, no_attributes};
+ghost use Rattle.bmp_specs.specs.Update.{passed_over};
+ghost use Rattle.bmp_specs.specs.declared.wire.Family.TheVariants.{V4, V6};
+ghost use Rattle.path_attrs.specs.Judged.{mp_value};
+ghost use Rattle.bgp_update.specs.Framed.{framed_value};
+
+use crate::frame::{FramedUpdate, contained_routes};
+use crate::list::NlriList;
+use crate::multi::unicast_family;
+use crate::update::Update;
+use bmp_specs::IdUse;
+use path_attrs::{Attrs, MpSlice, Numbers, OtherList};
+use std::alloc::Global;
+use std::sync::Arc;
+use wire_io::NoMemory;
+
+// 1 where the attribute is of a family that isn't read.
+fn passed_over(part: &Option<MpSlice<'_>>) -> u32
+    ensures is { result ≡ passed_over (option_map mp_value part.now) }
+    ensures one { result ≤ 1 }
+{
+    match part {
+        None => 0,
+        Some(part) => match unicast_family(part.afi, part.safi) {
+            None => 1,
+            Some(_) => 0,
+        },
+    }
+}
+
+// The attributes of no route.
+fn no_attrs(alloc: Global) -> Attrs
+    ensures { result ≡ no_attributes }
+{
+    Attrs {
+        origin: None,
+        path: None,
+        hop: None,
+        med: None,
+        pref: None,
+        atomic: false,
+        aggregator: None,
+        communities: Numbers::new(alloc),
+        others: OtherList::new(alloc),
+    }
+}
+
+/// The UPDATE message "treated as though all contained routes had been withdrawn" (RFC 7606, section 2), place by
+/// place. Its attributes count as one part that wasn't read, and so does each multiprotocol attribute of a family that
+/// isn't read.
+pub fn treat_as_withdraw(
+    alloc: Global,
+    framed: &FramedUpdate<'_>,
+    ids: IdUse,
+) -> Result<Update, NoMemory>
+    requires v4 { FitsFamily (framed_value framed.now) V4 ids.v4 }
+    requires v6 { FitsFamily (framed_value framed.now) V6 ids.v6 }
+    ensures { IfOk result (IsTreatedAsWithdraw ids (framed_value framed.now)) }
+{
+    let withdrawn = contained_routes(alloc, framed, ids)?;
+    let unread = 1 + (passed_over(&framed.reach) + passed_over(&framed.unreach));
+    let plain_attrs = Arc::new(alloc, no_attrs(alloc))?;
+    let multi_attrs = Arc::try_clone(&plain_attrs)?;
+    Ok(Update {
+        withdrawn,
+        plain: NlriList::new(alloc),
+        plain_attrs,
+        multi: NlriList::new(alloc),
+        multi_attrs,
+        mark: None,
+        unread,
+    })
+}

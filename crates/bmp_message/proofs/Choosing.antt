@@ -1,0 +1,70 @@
+-- Which form of an UPDATE message is taken.
+use Rattle.std.proofs.Common.{◌≡◌, ◌⊎◌, ℕ, Bool, true, false, cond, not, ◌&&◌, inl, inr, List, refl, sym, ap, subst, ◌∙◌}
+use Rattle.std.specs.Prelude.{MatchBool, ⊤}
+use Rattle.bmp_specs.specs.declared.wire.Width.{Width}
+use Rattle.bmp_specs.specs.declared.wire.Width.TheVariants.{Two}
+use Rattle.bmp_specs.specs.Attributes.{AreAttributes}
+use Rattle.bmp_specs.specs.MessageBody.{width_of}
+use Rattle.bmp_specs.specs.PeerHeader.{HeaderValue}
+use Rattle.bmp_specs.specs.UpdateForms.{FitsWidth, HasNoAsZero, Takes, departs, may_have_two_octets, width_in}
+use Rattle.bmp_specs.specs.Values.{AttrsReadValue, OpensValue}
+use Rattle.path_attrs.specs.Framed.{HasValueIn}
+
+-- the last form fits
+pub takes_last : (Fits : Bool → Type 0) (last : Bool) → Fits last → Takes Fits last last
+takes_last Fits last fits = record { fits = fits; first = inl refl }
+
+-- the other one does, and the last doesn't
+pub takes_other : (Fits : Bool → Type 0) (last : Bool) → ¬ (Fits last) → Fits (not last) → Takes Fits last (not last)
+takes_other Fits last none fits = record { fits = fits; first = inr none }
+
+-- a family for which identifiers were agreed on has the other form, and one for which they weren't has no other
+pub identified : (Fits : Bool → Type 0) (last agreed : Bool) → agreed ≡ true → Fits last → Fits (not (not last) && agreed)
+identified Fits true agreed e fits = subst Fits (sym e) fits
+identified Fits false agreed e fits = fits
+
+pub no_other : (Fits : Bool → Type 0) (last agreed : Bool) → agreed ≡ false → ¬ (Fits (not last && agreed)) → (bare : Bool) → Fits (not bare && agreed) → ⊥
+no_other Fits last agreed e none bare fits = none (subst Fits (neither bare ∙ sym (neither last)) fits)
+  where
+    alone : (b : Bool) → (b && false) ≡ false
+    alone true = refl
+    alone false = refl
+
+    neither : (b : Bool) → (not b && agreed) ≡ false
+    neither b = ap (λ (a : Bool). not b && a) e ∙ alone (not b)
+
+pub no_form : (Fits : Bool → Type 0) (last agreed : Bool) → agreed ≡ true → ¬ (Fits (not last && agreed)) → ¬ (Fits last) → (bare : Bool) → Fits (not bare && agreed) → ⊥
+no_form Fits true agreed e none other true fits = none fits
+no_form Fits true agreed e none other false fits = other (subst Fits e fits)
+no_form Fits false agreed e none other true fits = other fits
+no_form Fits false agreed e none other false fits = none fits
+
+pub no_width : (Fits : Bool → Type 0) (last : Bool) → ¬ (Fits last) → ¬ (Fits (not last)) → (b : Bool) → Fits b → ⊥
+no_width Fits true none other true fits = none fits
+no_width Fits true none other false fits = other fits
+no_width Fits false none other true fits = other fits
+no_width Fits false none other false fits = none fits
+
+module _ (opens : OpensValue) (h : HeaderValue) (field : List ℕ) where
+  pub fits_in : (width : Width) (nonzero two_octets : Bool) → width ≡ width_in opens h two_octets → nonzero ≡ departs opens h two_octets → HasValueIn width field nonzero → FitsWidth opens h field two_octets
+  fits_in width nonzero two_octets w n p =
+      let here = subst (λ (x : Bool). HasValueIn (width_in opens h two_octets) field x) n (subst (λ (x : Width). HasValueIn x field nonzero) w p) in
+      record { read = here.read; are = here.are; no_zero = here.no_zero }
+
+  pub has_in : (width : Width) (nonzero two_octets : Bool) → width ≡ width_in opens h two_octets → nonzero ≡ departs opens h two_octets → FitsWidth opens h field two_octets → HasValueIn width field nonzero
+  has_in width nonzero two_octets w n p =
+      let there : HasValueIn (width_in opens h two_octets) field (departs opens h two_octets) = record { read = p.read; are = p.are; no_zero = p.no_zero } in
+      subst (λ (x : Width). HasValueIn x field nonzero) (sym w) (subst (λ (x : Bool). HasValueIn (width_in opens h two_octets) field x) (sym n) there)
+
+  -- where two octets aren't tried both forms are one
+  never : (two_octets : Bool) → may_have_two_octets opens h ≡ false → departs opens h two_octets ≡ false
+  never true e = e
+  never false e = refl
+
+  as_departing : (d two_octets : Bool) → departs opens h two_octets ≡ d → FitsWidth opens h field two_octets → HasValueIn (cond d Two (width_of h)) field d
+  as_departing d two_octets e p =
+      let there : HasValueIn (width_in opens h two_octets) field (departs opens h two_octets) = record { read = p.read; are = p.are; no_zero = p.no_zero } in
+      subst (λ (x : Bool). HasValueIn (cond x Two (width_of h)) field x) e there
+
+  pub one_width : may_have_two_octets opens h ≡ false → (last : Bool) → ¬ (FitsWidth opens h field last) → (b : Bool) → FitsWidth opens h field b → ⊥
+  one_width e last none b fits = none (fits_in (width_of h) false last (sym (ap (λ (x : Bool). cond x Two (width_of h)) (never last e))) (sym (never last e)) (as_departing false b (never b e) fits))
