@@ -21,6 +21,7 @@ pub record ShownValue : Type 0 where
 abbrev pub nothing_shown : ShownValue
 nothing_shown = record { in_pre = as_agreed; in_post = as_agreed; out_pre = as_agreed; out_post = as_agreed; loc = as_agreed }
 
+-- the forms in a view, and others in their place
 abbrev pub forms_at : ShownValue → View → FormsValue
 forms_at s InPre = s.in_pre
 forms_at s InPost = s.in_post
@@ -63,6 +64,7 @@ shown_known None view = as_agreed
 shown_known (Some None) view = as_agreed
 shown_known (Some (Some peer)) view = forms_at peer.shown view
 
+-- the same peer after an UPDATE message in these forms
 abbrev pub with_shown_in : Option UpPeerValue → View → FormsValue → Option UpPeerValue
 with_shown_in None view forms = None
 with_shown_in (Some peer) view forms = Some (record peer { shown = with_forms peer.shown view forms })

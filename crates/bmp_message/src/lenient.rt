@@ -293,8 +293,9 @@ impl LenientReading {
     ///
     /// `BodyFault::Broken` only where the body has no such entry after the messages before it. A refusal leaves the
     /// reading as it was. A Route Monitoring message that has a value in the forms of the last one of its peer and view
-    /// is read once, and any other one at most twice more, where it stands, before what it means is made. Time and
-    /// memory are linear in the body and the effects.
+    /// is read once, unless AS numbers of two octets were read there where the header says four. Of any other one at
+    /// most two forms of each family's prefixes and of the attributes are judged where they stand, before it is made.
+    /// Time and memory are linear in the body and the effects.
     pub fn entry(&mut self, kind: u8, body: &[u8]) -> Result<Entry, BodyFault>
         requires { length body.now ≤ most_body }
         ensures ok { IfOk result (λ entry. IsLenientEntry (lenient_state self.old) kind body.now (entry_value entry) (lenient_state self.new)) }

@@ -12,9 +12,16 @@
 //! `StreamWalk` gives are those of the one walk of the bytes fed, by the meaning of bodies that its reading
 //! has. `Reading::judge` and `Judgements` move alike and give no effects, for who wants types and lengths
 //! alone; of an UPDATE they make nothing.
+//!
+//! `LenientReading` reads messages as routers send them, beside what the RFCs give a value: prefixes without
+//! the path identifiers that were agreed on, AS numbers of two octets where the header says four, the routes
+//! of a Loc-RIB that no Peer Up told of, and malformed attributes, whose routes it withdraws (RFC 7606). Its
+//! calls have the same clauses by `specs/LenientBody.antt` of `bmp_specs`.
+//!
 //! Begin with `specs/MessageBody.antt` and `specs/MessageEffects.antt` of `bmp_specs`, then
 //! `src/bodies.rt`, `src/reading.rt` and `src/walk.rt`; `src/routes.rt` and `src/events.rt` read what stands
-//! behind the headers.
+//! behind the headers, `src/in_forms.rt` an UPDATE in the form that fits, and `src/lenient.rt` keeps which
+//! did last.
 #![tactic(auto)]
 
 mod bodies;

@@ -7,7 +7,6 @@ use Rattle.bmp_specs.specs.declared.causes.Cause.{Cause}
 use Rattle.bmp_specs.specs.declared.causes.Cause.TheVariants.{Ended, Terminated, CutShort, Broken, ReadFault, Full}
 use Rattle.bmp_specs.specs.Life.{LastRead, gave, gave_none, failed, most_taken, IsUndecided, IsCause}
 use Rattle.bmp_specs.specs.Meaning.{Meaning, WalksBy}
-use Rattle.bmp_specs.specs.MessageEffects.{strict}
 use Rattle.bmp_specs.specs.Values.{EntryValue}
 use Rattle.bmp_specs.specs.Walk.{Verdict, whole, more, terminated, broken}
 use Rattle.bmp_specs.proofs.LifeOne.{cause_of_termination, cause_of_break, cause_of_fullness, cause_of_end, cause_of_cut, cause_of_fault}
@@ -45,16 +44,16 @@ module _ (meaning : Meaning) (bytes : List ℕ) (messages : List EntryValue) (of
   come_full rest full w = record { offset = offset; verdict = verdict_with rest; within = omega (arith, full); walk = w; because = cause_of_fullness (length bytes) gave (verdict_with rest) offset (undecided rest) full }
 
 -- the walk ended in the bytes
-pub come_early : (bytes : List ℕ) (messages : List EntryValue) (cause : Cause) → EndsBy bytes messages cause → (after : List ℕ) (last : LastRead) → length (bytes ++ after) ≤ most_taken → HasCome strict (record { bytes = bytes ++ after; last = last }) messages cause
-come_early bytes messages Terminated (offset, ends) after last within = record { offset = offset; verdict = terminated; within = within; walk = ends after; because = cause_of_termination (length (bytes ++ after)) last offset }
-come_early bytes messages (Broken offset why) ends after last within = record { offset = offset; verdict = broken why; within = within; walk = ends after; because = cause_of_break (length (bytes ++ after)) last why offset }
-come_early bytes messages Ended ends after last within = absurd ends
-come_early bytes messages (CutShort offset) ends after last within = absurd ends
-come_early bytes messages (ReadFault offset) ends after last within = absurd ends
-come_early bytes messages Full ends after last within = absurd ends
+pub come_early : (meaning : Meaning) (bytes : List ℕ) (messages : List EntryValue) (cause : Cause) → EndsBy meaning bytes messages cause → (after : List ℕ) (last : LastRead) → length (bytes ++ after) ≤ most_taken → HasCome meaning (record { bytes = bytes ++ after; last = last }) messages cause
+come_early meaning bytes messages Terminated (offset, ends) after last within = record { offset = offset; verdict = terminated; within = within; walk = ends after; because = cause_of_termination (length (bytes ++ after)) last offset }
+come_early meaning bytes messages (Broken offset why) ends after last within = record { offset = offset; verdict = broken why; within = within; walk = ends after; because = cause_of_break (length (bytes ++ after)) last why offset }
+come_early meaning bytes messages Ended ends after last within = absurd ends
+come_early meaning bytes messages (CutShort offset) ends after last within = absurd ends
+come_early meaning bytes messages (ReadFault offset) ends after last within = absurd ends
+come_early meaning bytes messages Full ends after last within = absurd ends
 
-pub come_early_here : (bytes : List ℕ) (messages : List EntryValue) (cause : Cause) (last : LastRead) → EndsBy bytes messages cause → length bytes ≤ most_taken → HasCome strict (record { bytes = bytes; last = last }) messages cause
-come_early_here bytes messages cause last ends within = subst (λ (l : List ℕ). HasCome strict (record { bytes = l; last = last }) messages cause) (append-nil bytes) (come_early bytes messages cause ends [] last (omega (arith, within, length-append bytes [])))
+pub come_early_here : (meaning : Meaning) (bytes : List ℕ) (messages : List EntryValue) (cause : Cause) (last : LastRead) → EndsBy meaning bytes messages cause → length bytes ≤ most_taken → HasCome meaning (record { bytes = bytes; last = last }) messages cause
+come_early_here meaning bytes messages cause last ends within = subst (λ (l : List ℕ). HasCome meaning (record { bytes = l; last = last }) messages cause) (append-nil bytes) (come_early meaning bytes messages cause ends [] last (omega (arith, within, length-append bytes [])))
 
 -- a connection that ended isn't decided by its bytes
 pub not_early : (rest offset : ℕ) → IsEarly (cause_at_end rest offset) → ⊥

@@ -9,14 +9,13 @@ use Rattle.bmp_specs.specs.declared.causes.Cause.TheVariants.{Ended, Terminated,
 use Rattle.bmp_specs.specs.Check.{length_of}
 use Rattle.bmp_specs.specs.Lines.{stop_line}
 use Rattle.bmp_specs.specs.Meaning.{Meaning}
-use Rattle.bmp_specs.specs.MessageBody.{no_peers}
-use Rattle.bmp_specs.specs.MessageEffects.{strict}
 use Rattle.bmp_specs.specs.Values.{EntryValue, opened}
 use Rattle.wire_io.specs.declared.sink.Failed.{Failed}
 use Rattle.wire_io.specs.Aside.{Aside, Plan}
 use Rattle.wire_io.specs.Faults.{HasCause}
 use Rattle.wire_io.specs.Writes.{Writes}
 use Rattle.wire_io.proofs.Joins.{join, appends_none, keeps_appends}
+use Rattle.bmp_message.specs.Effects.{GivesMessages}
 use Rattle.station_doors.specs.Doors.{YardValue, HandsOut, TakesBack, one_more, untouched}
 use Rattle.query_eval.specs.Replies.{PutsReply}
 use Rattle.station_top.specs.Station.{LendsWhereTold, IsWritten, IsTaken, FromYard, IsReplyTo, IsStopped, refused, replied, starved, unready, commanded, Concludes, Answers, AnswersFault}
@@ -54,13 +53,13 @@ pub breaks_off : {P : Type 0} (meaning : Meaning) (shows : P → Aside) (calls :
 breaks_off meaning shows calls old mid new number port after h breaks back = lends (BreaksOff meaning) shows calls old mid new number port after h breaks back
 
 -- The messages of an input have fewer than 2^64 bytes, and are fewer than 2^57.
-pub record IsShort (Stands : List EntryValue → Type 0) (old new : Option YardValue) (number : ℕ) (taken : Taken) (t : IsTaken strict Stands old new number taken) : Type 0 where
+pub record IsShort (meaning : Meaning) (Stands : List EntryValue → Type 0) (old new : Option YardValue) (number : ℕ) (taken : Taken) (t : IsTaken meaning Stands old new number taken) : Type 0 where
   pub bytes : sum_by length_of (opened ∷ t.messages) < 2 ^ 64
   pub count : taken.revision ≤ 2 ^ 57
 
-pub short : (Stands : List EntryValue → Type 0) (old new : Option YardValue) (number : ℕ) (taken : Taken) (t : IsTaken strict Stands old new number taken) → IsShort Stands old new number taken t
-short Stands old new number taken t =
-    let long = walk_lengths no_peers t.input.bytes t.messages t.come.offset t.come.verdict t.come.walk in
+pub short : (meaning : Meaning) (gives : GivesMessages meaning) (Stands : List EntryValue → Type 0) (old new : Option YardValue) (number : ℕ) (taken : Taken) (t : IsTaken meaning Stands old new number taken) → IsShort meaning Stands old new number taken t
+short meaning gives Stands old new number taken t =
+    let long = walk_lengths meaning gives meaning.start t.input.bytes t.messages t.come.offset t.come.verdict t.come.walk in
     record {
       bytes = omega (arith, sum_by-cons length_of opened t.messages, long.bytes, long.within, t.come.within);
       count = omega (arith, t.count, long.count, long.within, t.come.within);
@@ -88,9 +87,9 @@ module _ {O : Type 0} {faults : O → ℕ} {told : O → Option (List ℕ)} {asi
   stopped a b IsReply cause reply is w = record { text = reply ++ stop_line cause; is_reply = (reply, is, refl); written = w }
 
   -- the input was taken, and the reply was written
-  pub concludes_replied : (Stands : List EntryValue → Type 0) (Replies : List EntryValue → List ℕ → Type 0) (old new : Option YardValue) (number : ℕ) (taken : Taken) (t : IsTaken strict Stands old new number taken) (a b : O) (r : Result (Unit {0}) Failed) (status : Status)
-      → PutsReply faults told aside (IsStopped (Replies (opened ∷ t.messages)) taken.cause) a r b → OnOk r (status ≡ status_of taken.cause) → OnErr r (status ≡ WriteFault) → Concludes strict Replies old new number (told a) (told b) status
-  concludes_replied Stands Replies old new number taken t a b r status puts fine fault =
+  pub concludes_replied : (meaning : Meaning) (Stands : List EntryValue → Type 0) (Replies : List EntryValue → List ℕ → Type 0) (old new : Option YardValue) (number : ℕ) (taken : Taken) (t : IsTaken meaning Stands old new number taken) (a b : O) (r : Result (Unit {0}) Failed) (status : Status)
+      → PutsReply faults told aside (IsStopped (Replies (opened ∷ t.messages)) taken.cause) a r b → OnOk r (status ≡ status_of taken.cause) → OnErr r (status ≡ WriteFault) → Concludes meaning Replies old new number (told a) (told b) status
+  concludes_replied meaning Stands Replies old new number taken t a b r status puts fine fault =
       let reply = puts.is_reply.0 in
       let w = subst (λ (text : List ℕ). Writes faults told aside a text r b) puts.is_reply.2 puts.written in
       record {
@@ -115,8 +114,8 @@ answers_write cause status before now (Ok u) has fine fault = record { rose = λ
 answers_write cause status before now (Err e) has fine fault = record { rose = λ _. has.failed; calm = λ other. absurd (other fault) }
 
 -- the input was taken, and there was no memory for what a reply is given from
-pub concludes_unready : (Stands : List EntryValue → Type 0) (Replies : List EntryValue → List ℕ → Type 0) (old new : Option YardValue) (number : ℕ) (taken : Taken) (told : Option (List ℕ)) → IsTaken strict Stands old new number taken → Concludes strict Replies old new number told told NoMemory
-concludes_unready Stands Replies old new number taken told t = record { meant = NoMemory; text = []; runs = unready t.input t.messages taken.cause t.come t.no_further t.lends; written = inl (refl, appends_none told) }
+pub concludes_unready : (meaning : Meaning) (Stands : List EntryValue → Type 0) (Replies : List EntryValue → List ℕ → Type 0) (old new : Option YardValue) (number : ℕ) (taken : Taken) (told : Option (List ℕ)) → IsTaken meaning Stands old new number taken → Concludes meaning Replies old new number told told NoMemory
+concludes_unready meaning Stands Replies old new number taken told t = record { meant = NoMemory; text = []; runs = unready t.input t.messages taken.cause t.come t.no_further t.lends; written = inl (refl, appends_none told) }
 
 -- the port was refused, or there was no memory: nothing is written
 pub concludes_unread : {A : Type 0} (meaning : Meaning) (Stands : A → List EntryValue → Type 0) (Replies : List EntryValue → List ℕ → Type 0) (old new : Option YardValue) (number : ℕ) (told : Option (List ℕ)) (status : Status) → FromYard meaning Stands old new number (Err status) → Concludes meaning Replies old new number told told status

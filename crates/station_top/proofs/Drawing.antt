@@ -1,8 +1,9 @@
--- The entries of a walk, handed to a account one after another.
+-- The entries of a walk, handed to an account one after another.
 use Rattle.std.proofs.Common.{◌≡◌, ℕ, ◌+◌, ◌-◌, ◌^◌, min, List, [], ◌∷◌, ◌++◌, Option, Some, None, sym, subst, arith, length-append}
 use Rattle.bmp_specs.specs.declared.causes.Why.{Why}
 use Rattle.bmp_specs.specs.declared.causes.Cause.{Cause}
 use Rattle.bmp_specs.specs.declared.causes.Cause.TheVariants.{Terminated, Broken}
+use Rattle.bmp_specs.specs.Meaning.{Meaning}
 use Rattle.bmp_specs.specs.Values.{EntryValue, opened}
 use Rattle.bmp_specs.specs.Walk.{broken}
 use Rattle.bmp_message.specs.StreamWalk.{WalkValue, HasReached, EndsAt, GoesOn}
@@ -14,32 +15,20 @@ noted_more : (Stands Next : List EntryValue → Type 0) (messages : List EntryVa
     → HasNoted Next (messages ++ e ∷ []) now
 noted_more Stands Next messages e revision now n step more = record { noted = step (opened ∷ messages) n.noted; count = omega (arith, n.count, more, length-append messages (e ∷ [])) }
 
--- who stands for some entries in one sense does so in another
-module _ (Stands Other : List EntryValue → Type 0) (turn : (es : List EntryValue) → Stands es → Other es) (fed : List ℕ) (walk : WalkValue) (revision : ℕ) where
-  noted_as : (messages : List EntryValue) → HasNoted Stands messages revision → HasNoted Other messages revision
-  noted_as messages n = record { noted = turn (opened ∷ messages) n.noted; count = n.count }
-
-  pub drawn_as : HasDrawn Stands fed walk revision → HasDrawn Other fed walk revision
-  drawn_as h = record { messages = h.messages; reached = h.reached; noted = noted_as h.messages h.noted }
-
-  pub draws_as : (end : Option Cause) → Draws Stands fed walk revision end → Draws Other fed walk revision end
-  draws_as None d = record { messages = d.messages; reached = d.reached; walks = d.walks; noted = noted_as d.messages d.noted }
-  draws_as (Some cause) d = record { messages = d.messages; ends = d.ends; noted = noted_as d.messages d.noted }
-
-module _ (Stands : List EntryValue → Type 0) (fed : List ℕ) (walk : WalkValue) (revision : ℕ) (h : HasDrawn Stands fed walk revision) (new : WalkValue) {T : Type 0} (IsOf : T → EntryValue → Type 0) where
-  pub draws_entry : (Next : List EntryValue → Type 0) (item : T) (now : ℕ) → ((given : List EntryValue) → HasReached fed given walk → GoesOn IsOf fed given new (progress.Message item))
-      → ((e : EntryValue) → IsOf item e → (es : List EntryValue) → Stands es → Next (es ++ e ∷ [])) → now ≡ min (revision + 1) (2 ^ 64 - 1) → HasDrawn Next fed new now
+module _ (R : Type 0) (meaning : Meaning) (state : R → meaning.State) (Stands : List EntryValue → Type 0) (fed : List ℕ) (walk : WalkValue R) (revision : ℕ) (h : HasDrawn meaning state Stands fed walk revision) (new : WalkValue R) {T : Type 0} (IsOf : T → EntryValue → Type 0) where
+  pub draws_entry : (Next : List EntryValue → Type 0) (item : T) (now : ℕ) → ((given : List EntryValue) → HasReached meaning state fed given walk → GoesOn meaning state IsOf fed given new (progress.Message item))
+      → ((e : EntryValue) → IsOf item e → (es : List EntryValue) → Stands es → Next (es ++ e ∷ [])) → now ≡ min (revision + 1) (2 ^ 64 - 1) → HasDrawn meaning state Next fed new now
   draws_entry Next item now goes step more =
       let p = goes h.messages h.reached in
       record { messages = h.messages ++ p.0 ∷ []; reached = p.2; noted = noted_more Stands Next h.messages p.0 revision now h.noted (step p.0 p.1) more }
 
-  pub draws_more : ((given : List EntryValue) → HasReached fed given walk → GoesOn IsOf fed given new progress.More) → IsDrained Stands fed new revision
+  pub draws_more : ((given : List EntryValue) → HasReached meaning state fed given walk → GoesOn meaning state IsOf fed given new progress.More) → IsDrained meaning state Stands fed new revision
   draws_more goes = let p = goes h.messages h.reached in record { messages = h.messages; reached = p.0; walks = p.1; noted = h.noted }
 
-  pub draws_terminated : ((given : List EntryValue) → HasReached fed given walk → GoesOn IsOf fed given new progress.Terminated) → IsEnded Stands fed revision Terminated
+  pub draws_terminated : ((given : List EntryValue) → HasReached meaning state fed given walk → GoesOn meaning state IsOf fed given new progress.Terminated) → IsEnded meaning Stands fed revision Terminated
   draws_terminated goes = let p = goes h.messages h.reached in record { messages = h.messages; ends = (new.offset, p.1); noted = h.noted }
 
-  pub draws_broken : (offset : ℕ) (why : Why) → offset ≡ new.offset → ((given : List EntryValue) → HasReached fed given walk → GoesOn IsOf fed given new (progress.Broken why)) → IsEnded Stands fed revision (Broken offset why)
+  pub draws_broken : (offset : ℕ) (why : Why) → offset ≡ new.offset → ((given : List EntryValue) → HasReached meaning state fed given walk → GoesOn meaning state IsOf fed given new (progress.Broken why)) → IsEnded meaning Stands fed revision (Broken offset why)
   draws_broken offset why place goes =
       let p = goes h.messages h.reached in
-      record { messages = h.messages; ends = subst (λ (n : ℕ). EndsAt fed h.messages n (broken why)) (sym place) p.1; noted = h.noted }
+      record { messages = h.messages; ends = subst (λ (n : ℕ). EndsAt meaning fed h.messages n (broken why)) (sym place) p.1; noted = h.noted }

@@ -19,14 +19,11 @@ use Rattle.station_top.specs.Replay.{Gathers, Settled, IsCutOfEntries, IsReplyOf
 use Rattle.station_top.specs.declared.replay.Replay.{Replay}
 
 -- the opening was taken
-pub begun : (replay : Replay) → StandsFor replay.tables (opened ∷ []) → replay.gathered ≡ [] → Settled replay (opened ∷ [])
+pub begun : (replay : Replay) → StandsFor replay.tables (opened ∷ []) → replay.gathered ≡ [] → Gathers replay (opened ∷ [])
 begun replay stands none = record {
-  gathers = record {
-    taken = Opened ∷ [];
-    stands = stands;
-    values = ap (λ (more : List Entry). entry_values (Opened ∷ more)) (sym none);
-  };
-  none = none;
+  taken = Opened ∷ [];
+  stands = stands;
+  values = ap (λ (more : List Entry). entry_values (Opened ∷ more)) (sym none);
 }
 
 -- the entries of the one lane

@@ -7,15 +7,14 @@ use Rattle.std.specs.Io.KnownBytes.{Consumes, Keeps}
 use Rattle.bmp_specs.specs.declared.causes.Cause.{Cause}
 use Rattle.bmp_specs.specs.declared.causes.Cause.TheVariants.{ReadFault, Full}
 use Rattle.bmp_specs.specs.Life.{LastRead, gave, gave_none, failed, most_taken, most_read, IsReadNoFurther}
-use Rattle.bmp_specs.specs.MessageBody.{no_peers}
-use Rattle.bmp_specs.specs.Meaning.{WalksBy}
-use Rattle.bmp_specs.specs.MessageEffects.{strict}
+use Rattle.bmp_specs.specs.Meaning.{Meaning, WalksBy}
 use Rattle.bmp_specs.specs.Values.{EntryValue, opened}
 use Rattle.bmp_specs.specs.Walk.{Verdict}
 use Rattle.wire_io.specs.declared.sink.Failed.{Failed}
 use Rattle.wire_io.specs.Aside.{Aside, Given, Plan}
 use Rattle.wire_io.specs.Faults.{Rose}
 use Rattle.station_doors.specs.Doors.{Reads, AsPlanned, GivesBytes, given_more, read_of}
+use Rattle.bmp_message.specs.Effects.{GivesMessages}
 use Rattle.bmp_message.specs.StreamWalk.{WalkValue, HasReached, rest_of, verdict_with}
 use Rattle.station_top.specs.Account.{HasNoted, HasDrawn, IsDrained, IsEnded}
 use Rattle.station_top.specs.Take.{GivesMore, IsNew, Takes, TakesBytes, Gives, ReadsAsPlanned, cause_at_end}
@@ -133,14 +132,14 @@ goes_more a0 a b calls0 c d n m buf g r p some within room size = record {
 }
 
 -- the bytes taken so far, of a connection that goes on, and what was drawn of them
-pub record Taking (Stands : List EntryValue → Type 0) (first now : Aside) (calls0 calls taken : ℕ) (walk : WalkValue) (revision : ℕ) : Type 0 where
+pub record Taking {R : Type 0} (meaning : Meaning) (state : R → meaning.State) (Stands : List EntryValue → Type 0) (first now : Aside) (calls0 calls taken : ℕ) (walk : WalkValue R) (revision : ℕ) : Type 0 where
   pub goes : Goes first now calls0 calls taken
-  pub drained : IsDrained Stands goes.bytes walk revision
+  pub drained : IsDrained meaning state Stands goes.bytes walk revision
 
 -- nothing was taken
-pub taking_none : (Stands : List EntryValue → Type 0) (a : Aside) (calls : ℕ) (walk : WalkValue) → IsNew a → Stands (opened ∷ []) → HasReached [] [] walk → (walk.offset ≡ 0) × (walk.cutter.offset + length walk.cutter.pending ≡ 0) → Taking Stands a a calls calls 0 walk 1
+pub taking_none : {R : Type 0} (meaning : Meaning) (state : R → meaning.State) (Stands : List EntryValue → Type 0) (a : Aside) (calls : ℕ) (walk : WalkValue R) → IsNew a → Stands (opened ∷ []) → HasReached meaning state [] [] walk → (walk.offset ≡ 0) × (walk.cutter.offset + length walk.cutter.pending ≡ 0) → Taking meaning state Stands a a calls calls 0 walk 1
 unfolding goes_none
-taking_none Stands a calls walk new first reached (place, none) = record {
+taking_none meaning state Stands a calls walk new first reached (place, none) = record {
   goes = goes_none a calls new;
   drained = record {
     messages = [];
@@ -151,17 +150,17 @@ taking_none Stands a calls walk new first reached (place, none) = record {
 }
 
 -- as many entries as there are: fewer than 64 bits hold
-exact : (Stands : List EntryValue → Type 0) (bytes : List ℕ) (messages : List EntryValue) (offset revision : ℕ) (v : Verdict) → length bytes ≤ most_taken → WalksBy strict bytes messages offset v → HasNoted Stands messages revision
+exact : (meaning : Meaning) (gives : GivesMessages meaning) (Stands : List EntryValue → Type 0) (bytes : List ℕ) (messages : List EntryValue) (offset revision : ℕ) (v : Verdict) → length bytes ≤ most_taken → WalksBy meaning bytes messages offset v → HasNoted Stands messages revision
     → revision ≡ length (opened ∷ messages)
-exact Stands bytes messages offset revision v within w noted = let long = walk_lengths no_peers bytes messages offset v w in omega (arith, within, noted.count, long.count, long.within)
+exact meaning gives Stands bytes messages offset revision v within w noted = let long = walk_lengths meaning gives meaning.start bytes messages offset v w in omega (arith, within, noted.count, long.count, long.within)
 
 -- a walk that waits was read no further
-waits : (bytes : List ℕ) (messages : List EntryValue) (offset rest : ℕ) → WalksBy strict bytes messages offset (verdict_with rest) → IsReadNoFurther strict bytes
-waits bytes messages offset rest w = subst (λ (l : List ℕ). IsReadNoFurther strict l) (append-nil bytes) (read_no_further strict bytes messages offset (verdict_with rest) w (undecided rest) [] (omega arith))
+waits : (meaning : Meaning) (bytes : List ℕ) (messages : List EntryValue) (offset rest : ℕ) → WalksBy meaning bytes messages offset (verdict_with rest) → IsReadNoFurther meaning bytes
+waits meaning bytes messages offset rest w = subst (λ (l : List ℕ). IsReadNoFurther meaning l) (append-nil bytes) (read_no_further meaning bytes messages offset (verdict_with rest) w (undecided rest) [] (omega arith))
 
-module _ (Stands : List EntryValue → Type 0) (a0 a : Aside) (calls0 c n : ℕ) (walk : WalkValue) (revision : ℕ) (t : Taking Stands a0 a calls0 c n walk revision) where
+module _ (R : Type 0) (meaning : Meaning) (state : R → meaning.State) (gives : GivesMessages meaning) (Stands : List EntryValue → Type 0) (a0 a : Aside) (calls0 c n : ℕ) (walk : WalkValue R) (revision : ℕ) (t : Taking meaning state Stands a0 a calls0 c n walk revision) where
   -- a read gave none
-  pub takes_end : (b : Aside) (d' : ℕ) (buf : List ℕ) (taken : Taken) → Reads a b (Ok 0) buf → AsPlanned a.plan c d' (Ok 0) → 0 < length buf → n < most_taken → taken ≡ record { cause = cause_at_end (rest_of walk) walk.offset; revision = revision } → Takes strict Stands a0 b calls0 taken
+  pub takes_end : (b : Aside) (d' : ℕ) (buf : List ℕ) (taken : Taken) → Reads a b (Ok 0) buf → AsPlanned a.plan c d' (Ok 0) → 0 < length buf → n < most_taken → taken ≡ record { cause = cause_at_end (rest_of walk) walk.offset; revision = revision } → Takes meaning Stands a0 b calls0 taken
   takes_end b d' buf taken r p some room is =
       let g = t.goes in
       let d = t.drained in
@@ -179,20 +178,20 @@ module _ (Stands : List EntryValue → Type 0) (a0 a : Aside) (calls0 c n : ℕ)
           closed = r.closed ∙ g.closed;
           refused = r.refused ∙ g.refused;
           within = omega (arith, g.count, room);
-          no_further = waits g.bytes d.messages walk.offset (rest_of walk) d.walks;
+          no_further = waits meaning g.bytes d.messages walk.offset (rest_of walk) d.walks;
           end = λ _. r.rest.1 refl some;
           planned = λ none. last_none a0.plan a.plan c d' g.bytes g.plan (g.planned none) p;
           open_faults = r.calm ∙ g.open_faults;
           read_faults = r.cause.fine ∙ g.read_faults;
         };
-        come = come_end strict g.bytes d.messages walk.offset (rest_of walk) (omega (arith, g.count, room)) d.walks;
+        come = come_end meaning g.bytes d.messages walk.offset (rest_of walk) (omega (arith, g.count, room)) d.walks;
         noted = d.noted.noted;
-        count = exact Stands g.bytes d.messages walk.offset revision (verdict_with (rest_of walk)) (omega (arith, g.count, room)) d.walks d.noted;
+        count = exact meaning gives Stands g.bytes d.messages walk.offset revision (verdict_with (rest_of walk)) (omega (arith, g.count, room)) d.walks d.noted;
         early = λ e. absurd (not_early (rest_of walk) walk.offset e);
       })
 
   -- a read failed
-  pub takes_fault : (b : Aside) (d' : ℕ) (buf : List ℕ) (e : Failed) (taken : Taken) → Reads a b (Err e) buf → AsPlanned a.plan c d' (Err e) → n < most_taken → taken ≡ record { cause = ReadFault n; revision = revision } → Takes strict Stands a0 b calls0 taken
+  pub takes_fault : (b : Aside) (d' : ℕ) (buf : List ℕ) (e : Failed) (taken : Taken) → Reads a b (Err e) buf → AsPlanned a.plan c d' (Err e) → n < most_taken → taken ≡ record { cause = ReadFault n; revision = revision } → Takes meaning Stands a0 b calls0 taken
   takes_fault b d' buf e taken r p room is =
       let g = t.goes in
       let d = t.drained in
@@ -210,20 +209,20 @@ module _ (Stands : List EntryValue → Type 0) (a0 a : Aside) (calls0 c n : ℕ)
           closed = r.closed ∙ g.closed;
           refused = r.refused ∙ g.refused;
           within = omega (arith, g.count, room);
-          no_further = waits g.bytes d.messages walk.offset (rest_of walk) d.walks;
+          no_further = waits meaning g.bytes d.messages walk.offset (rest_of walk) d.walks;
           end = λ other. absurd (cc other);
           planned = λ none. last_failed a0.plan a.plan c d' g.bytes e g.plan (g.planned none) p;
           open_faults = r.calm ∙ g.open_faults;
           read_faults = subst (λ (k : ℕ). Rose k b.read_faults) g.read_faults r.cause.failed;
         };
-        come = come_fault strict g.bytes d.messages walk.offset (rest_of walk) (omega (arith, g.count, room)) d.walks;
+        come = come_fault meaning g.bytes d.messages walk.offset (rest_of walk) (omega (arith, g.count, room)) d.walks;
         noted = d.noted.noted;
-        count = exact Stands g.bytes d.messages walk.offset revision (verdict_with (rest_of walk)) (omega (arith, g.count, room)) d.walks d.noted;
+        count = exact meaning gives Stands g.bytes d.messages walk.offset revision (verdict_with (rest_of walk)) (omega (arith, g.count, room)) d.walks d.noted;
         early = λ e. absurd e;
       })
 
   -- the limit of one connection was reached
-  pub takes_full : (taken : Taken) → n ≡ most_taken → taken ≡ record { cause = Full; revision = revision } → Takes strict Stands a0 a calls0 taken
+  pub takes_full : (taken : Taken) → n ≡ most_taken → taken ≡ record { cause = Full; revision = revision } → Takes meaning Stands a0 a calls0 taken
   takes_full taken full is =
       let g = t.goes in
       let d = t.drained in
@@ -240,36 +239,36 @@ module _ (Stands : List EntryValue → Type 0) (a0 a : Aside) (calls0 c n : ℕ)
           closed = g.closed;
           refused = g.refused;
           within = omega (arith, g.count, full);
-          no_further = waits g.bytes d.messages walk.offset (rest_of walk) d.walks;
+          no_further = waits meaning g.bytes d.messages walk.offset (rest_of walk) d.walks;
           end = λ other. absurd (cc other);
           planned = λ none. last_gave a0.plan c g.bytes (g.planned none);
           open_faults = g.open_faults;
           read_faults = g.read_faults;
         };
-        come = come_full strict g.bytes d.messages walk.offset (rest_of walk) (g.count ∙ full) d.walks;
+        come = come_full meaning g.bytes d.messages walk.offset (rest_of walk) (g.count ∙ full) d.walks;
         noted = d.noted.noted;
-        count = exact Stands g.bytes d.messages walk.offset revision (verdict_with (rest_of walk)) (omega (arith, g.count, full)) d.walks d.noted;
+        count = exact meaning gives Stands g.bytes d.messages walk.offset revision (verdict_with (rest_of walk)) (omega (arith, g.count, full)) d.walks d.noted;
         early = λ e. absurd e;
       })
 
   -- a piece was fed to the walk
-  pub drawn_fed : (piece : List ℕ) (fed : WalkValue) → ((bytes : List ℕ) (given : List EntryValue) → HasReached bytes given walk → HasReached (bytes ++ piece) given fed) → HasDrawn Stands (t.goes.bytes ++ piece) fed revision
+  pub drawn_fed : (piece : List ℕ) (fed : WalkValue R) → ((bytes : List ℕ) (given : List EntryValue) → HasReached meaning state bytes given walk → HasReached meaning state (bytes ++ piece) given fed) → HasDrawn meaning state Stands (t.goes.bytes ++ piece) fed revision
   drawn_fed piece fed run = record { messages = t.drained.messages; reached = run t.goes.bytes t.drained.messages t.drained.reached; noted = t.drained.noted }
 
   -- a read gave bytes, all their messages were drawn, and the walk goes on
-  pub taking_more : (Next : List EntryValue → Type 0) (b : Aside) (d' m : ℕ) (buf : List ℕ) (new : WalkValue) (now : ℕ) → Reads a b (Ok m) buf → AsPlanned a.plan c d' (Ok m) → m ≢ 0 → m ≤ length buf → n + m ≤ most_taken → m ≤ most_read → IsDrained Next (t.goes.bytes ++ take m buf) new now
-      → Taking Next a0 b calls0 d' (n + m) new now
+  pub taking_more : (Next : List EntryValue → Type 0) (b : Aside) (d' m : ℕ) (buf : List ℕ) (new : WalkValue R) (now : ℕ) → Reads a b (Ok m) buf → AsPlanned a.plan c d' (Ok m) → m ≢ 0 → m ≤ length buf → n + m ≤ most_taken → m ≤ most_read → IsDrained meaning state Next (t.goes.bytes ++ take m buf) new now
+      → Taking meaning state Next a0 b calls0 d' (n + m) new now
   unfolding goes_more
   taking_more Next b d' m buf new now r p some within room size drained = record { goes = goes_more a0 a b calls0 c d' n m buf t.goes r p some within room size; drained = drained }
 
   -- the walk ended in the bytes of a read
   pub takes_early : (Next : List EntryValue → Type 0) (b : Aside) (d' m : ℕ) (buf : List ℕ) (cause : Cause) (now : ℕ) (taken : Taken) → Reads a b (Ok m) buf → AsPlanned a.plan c d' (Ok m) → m ≢ 0 → m ≤ length buf → n + m ≤ most_taken → m ≤ most_read
-      → IsEnded Next (t.goes.bytes ++ take m buf) now cause → taken ≡ record { cause = cause; revision = now } → Takes strict Next a0 b calls0 taken
+      → IsEnded meaning Next (t.goes.bytes ++ take m buf) now cause → taken ≡ record { cause = cause; revision = now } → Takes meaning Next a0 b calls0 taken
   unfolding goes_more
   takes_early Next b d' m buf cause now taken r p some within room size ended is =
       let g = goes_more a0 a b calls0 c d' n m buf t.goes r p some within room size in
       let long : length g.bytes ≤ most_taken = omega (arith, g.count, room) in
-      let come = come_early_here g.bytes ended.messages cause gave ended.ends long in
+      let come = come_early_here meaning g.bytes ended.messages cause gave ended.ends long in
       rw is (record {
         bytes = g.bytes;
         last = gave;
@@ -283,7 +282,7 @@ module _ (Stands : List EntryValue → Type 0) (a0 a : Aside) (calls0 c n : ℕ)
           closed = g.closed;
           refused = g.refused;
           within = long;
-          no_further = read_no_further strict t.goes.bytes t.drained.messages walk.offset (verdict_with (rest_of walk)) t.drained.walks (undecided (rest_of walk)) (take m buf) (omega (arith, size, length-take m buf));
+          no_further = read_no_further meaning t.goes.bytes t.drained.messages walk.offset (verdict_with (rest_of walk)) t.drained.walks (undecided (rest_of walk)) (take m buf) (omega (arith, size, length-take m buf));
           end = λ other. absurd (cc other);
           planned = λ none. last_gave a0.plan d' g.bytes (g.planned none);
           open_faults = g.open_faults;
@@ -291,12 +290,12 @@ module _ (Stands : List EntryValue → Type 0) (a0 a : Aside) (calls0 c n : ℕ)
         };
         come = come;
         noted = ended.noted.noted;
-        count = exact Next g.bytes ended.messages come.offset now come.verdict long come.walk ended.noted;
-        early = λ _. come_early g.bytes ended.messages cause ended.ends;
+        count = exact meaning gives Next g.bytes ended.messages come.offset now come.verdict long come.walk ended.noted;
+        early = λ _. come_early meaning g.bytes ended.messages cause ended.ends;
       })
 
   -- want of memory came behind a read that gave bytes
-  pub breaks : (b : Aside) (d' m : ℕ) (buf : List ℕ) → Reads a b (Ok m) buf → AsPlanned a.plan c d' (Ok m) → m ≢ 0 → m ≤ length buf → n + m ≤ most_taken → m ≤ most_read → (bytes : List ℕ) × TakesBytes strict a0 b calls0 bytes gave
+  pub breaks : (b : Aside) (d' m : ℕ) (buf : List ℕ) → Reads a b (Ok m) buf → AsPlanned a.plan c d' (Ok m) → m ≢ 0 → m ≤ length buf → n + m ≤ most_taken → m ≤ most_read → (bytes : List ℕ) × TakesBytes meaning a0 b calls0 bytes gave
   unfolding goes_more
   breaks b d' m buf r p some within room size =
       let g = goes_more a0 a b calls0 c d' n m buf t.goes r p some within room size in (
@@ -310,7 +309,7 @@ module _ (Stands : List EntryValue → Type 0) (a0 a : Aside) (calls0 c n : ℕ)
           closed = g.closed;
           refused = g.refused;
           within = omega (arith, g.count, room);
-          no_further = read_no_further strict t.goes.bytes t.drained.messages walk.offset (verdict_with (rest_of walk)) t.drained.walks (undecided (rest_of walk)) (take m buf) (omega (arith, size, length-take m buf));
+          no_further = read_no_further meaning t.goes.bytes t.drained.messages walk.offset (verdict_with (rest_of walk)) t.drained.walks (undecided (rest_of walk)) (take m buf) (omega (arith, size, length-take m buf));
           end = λ other. absurd (cc other);
           planned = λ none. last_gave a0.plan d' g.bytes (g.planned none);
           open_faults = g.open_faults;

@@ -2,8 +2,7 @@
 use Rattle.std.specs.Prelude.{◌≡◌, ℕ, List, ◌∷◌, length, Option, Some, None}
 use Rattle.bmp_specs.specs.declared.causes.Cause.{Cause}
 use Rattle.bmp_specs.specs.declared.causes.Cause.TheVariants as cause
-use Rattle.bmp_specs.specs.Meaning.{WalksBy}
-use Rattle.bmp_specs.specs.MessageEffects.{strict}
+use Rattle.bmp_specs.specs.Meaning.{Meaning, WalksBy}
 use Rattle.bmp_specs.specs.Reply.{told_count}
 use Rattle.bmp_specs.specs.Values.{EntryValue, opened}
 use Rattle.bmp_specs.specs.Walk.{terminated, broken}
@@ -14,35 +13,36 @@ pub record HasNoted (Stands : List EntryValue → Type 0) (messages : List Entry
   pub noted : Stands (opened ∷ messages)
   pub count : revision ≡ told_count (length (opened ∷ messages))
 
--- a walk of these bytes gave the messages that were noted
-pub record HasDrawn (Stands : List EntryValue → Type 0) (fed : List ℕ) (walk : WalkValue) (revision : ℕ) : Type 0 where
+-- A walk of these bytes gave the messages that were noted, in this meaning of bodies. The state says what its reading
+-- knows.
+pub record HasDrawn {R : Type 0} (meaning : Meaning) (state : R → meaning.State) (Stands : List EntryValue → Type 0) (fed : List ℕ) (walk : WalkValue R) (revision : ℕ) : Type 0 where
   pub messages : List EntryValue
-  pub reached : HasReached fed messages walk
+  pub reached : HasReached meaning state fed messages walk
   pub noted : HasNoted Stands messages revision
 
 -- The walk of these bytes, whatever comes after them, has these messages and ends for this cause.
-abbrev pub EndsBy : List ℕ → List EntryValue → Cause → Type 0
-EndsBy fed messages cause.Terminated = (offset : ℕ) × EndsAt fed messages offset terminated
-EndsBy fed messages (cause.Broken offset why) = EndsAt fed messages offset (broken why)
-EndsBy fed messages cause.Ended = ⊥
-EndsBy fed messages (cause.CutShort offset) = ⊥
-EndsBy fed messages (cause.ReadFault offset) = ⊥
-EndsBy fed messages cause.Full = ⊥
+abbrev pub EndsBy : Meaning → List ℕ → List EntryValue → Cause → Type 0
+EndsBy meaning fed messages cause.Terminated = (offset : ℕ) × EndsAt meaning fed messages offset terminated
+EndsBy meaning fed messages (cause.Broken offset why) = EndsAt meaning fed messages offset (broken why)
+EndsBy meaning fed messages cause.Ended = ⊥
+EndsBy meaning fed messages (cause.CutShort offset) = ⊥
+EndsBy meaning fed messages (cause.ReadFault offset) = ⊥
+EndsBy meaning fed messages cause.Full = ⊥
 
 -- all whole messages of the bytes were noted, and the walk goes on where more comes
-pub record IsDrained (Stands : List EntryValue → Type 0) (fed : List ℕ) (walk : WalkValue) (revision : ℕ) : Type 0 where
+pub record IsDrained {R : Type 0} (meaning : Meaning) (state : R → meaning.State) (Stands : List EntryValue → Type 0) (fed : List ℕ) (walk : WalkValue R) (revision : ℕ) : Type 0 where
   pub messages : List EntryValue
-  pub reached : HasReached fed messages walk
-  pub walks : WalksBy strict fed messages walk.offset (verdict_with (rest_of walk))
+  pub reached : HasReached meaning state fed messages walk
+  pub walks : WalksBy meaning fed messages walk.offset (verdict_with (rest_of walk))
   pub noted : HasNoted Stands messages revision
 
 -- all messages of the bytes were noted, and the walk ends here
-pub record IsEnded (Stands : List EntryValue → Type 0) (fed : List ℕ) (revision : ℕ) (cause : Cause) : Type 0 where
+pub record IsEnded (meaning : Meaning) (Stands : List EntryValue → Type 0) (fed : List ℕ) (revision : ℕ) (cause : Cause) : Type 0 where
   pub messages : List EntryValue
-  pub ends : EndsBy fed messages cause
+  pub ends : EndsBy meaning fed messages cause
   pub noted : HasNoted Stands messages revision
 
 -- what was drawn of a walk
-abbrev pub Draws : (List EntryValue → Type 0) → List ℕ → WalkValue → ℕ → Option Cause → Type 0
-Draws Stands fed walk revision None = IsDrained Stands fed walk revision
-Draws Stands fed walk revision (Some cause) = IsEnded Stands fed revision cause
+abbrev pub Draws : {R : Type 0} (meaning : Meaning) (state : R → meaning.State) → (List EntryValue → Type 0) → List ℕ → WalkValue R → ℕ → Option Cause → Type 0
+Draws meaning state Stands fed walk revision None = IsDrained meaning state Stands fed walk revision
+Draws meaning state Stands fed walk revision (Some cause) = IsEnded meaning Stands fed revision cause

@@ -1,4 +1,4 @@
--- What a replay stands for: the entries that its tables have, and those of a read that they don't have yet.
+-- What a replay stands for: the entries that its tables have, and those that are gathered and that they don't have yet.
 use Rattle.std.specs.Prelude.{◌≡◌, ◌≢◌, ℕ, List, [], ◌∷◌, ◌++◌, length}
 use Rattle.bmp_specs.specs.Query.{quit}
 use Rattle.bmp_specs.specs.QueryReply.{IsReply}

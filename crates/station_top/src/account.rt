@@ -35,13 +35,8 @@ pub trait Account {
     /// What it comes to.
     type Told: Replies + Drop;
 
-    /// It stands for these entries, with those that were only gathered.
-    ghost gathers: { Self → List EntryValue → Type 0 };
-
     /// It stands for these entries.
     ghost stands: { Self → List EntryValue → Type 0 };
-
-    ghost none_gathered: { (self : Self) (entries : List EntryValue) → stands self entries → gathers self entries };
 
     /// The account of an opening.
     fn begin(alloc: Global) -> Result<Self, NoMemory>
@@ -49,13 +44,9 @@ pub trait Account {
         Self: Sized,
         ensures { IfOk result (λ account. stands account (opened ∷ [])) };
 
-    /// Gathers what was made of the next message. After want of memory the account may only be dropped.
-    fn gather(&mut self, item: <Self::Wants as Reads>::Item) -> Result<(), NoMemory>
-        ensures { OnOk result ((entry : EntryValue) → Self.Wants.is_of item entry → (entries : List EntryValue) → gathers self.old entries → gathers self.new (entries ++ entry ∷ [])) };
-
-    /// Takes what was gathered. After want of memory the account may only be dropped.
-    fn settle(&mut self) -> Result<(), NoMemory>
-        ensures { OnOk result ((entries : List EntryValue) → gathers self.old entries → stands self.new entries) };
+    /// Notes what was made of the next message. After want of memory the account may only be dropped.
+    fn note(&mut self, item: <Self::Wants as Reads>::Item) -> Result<(), NoMemory>
+        ensures { OnOk result ((entry : EntryValue) → Self.Wants.is_of item entry → (entries : List EntryValue) → stands self.old entries → stands self.new (entries ++ entry ∷ [])) };
 
     /// What the account comes to. The revision is the number of entries.
     fn ready(self, alloc: Global, revision: u64) -> Result<Self::Told, NoMemory>

@@ -99,11 +99,7 @@ impl Account for Counts {
 
     type Told = Counts;
 
-    ghost gathers = { AreCounts };
-
     ghost stands = { AreCounts };
-
-    ghost none_gathered = { λ _ _ counts. counts };
 
     // An opening isn't counted.
     fn begin(alloc: Global) -> Result<Counts, NoMemory> {
@@ -112,12 +108,8 @@ impl Account for Counts {
     }
 
     // The effects of a message aren't made, since no count needs them.
-    fn gather(&mut self, item: Judged) -> Result<(), NoMemory> {
+    fn note(&mut self, item: Judged) -> Result<(), NoMemory> {
         self.count(item.kind, item.length);
-        Ok(())
-    }
-
-    fn settle(&mut self) -> Result<(), NoMemory> {
         Ok(())
     }
 

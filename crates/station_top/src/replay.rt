@@ -1,4 +1,8 @@
-//! The tables that the input leaves, brought up to date with each read.
+//! The tables that the input leaves, brought up to date with many messages at once.
+
+ghost use Rattle.std.specs.Prelude.{◌++◌, ◌∷◌, [], List, OnOk};
+ghost use Rattle.bmp_specs.specs.Values.{EntryValue};
+ghost use Rattle.rib_model.specs.Entries.{entry_value};
 
 use crate::account::{Account, Replies};
 use bmp_message::Entries;
@@ -11,26 +15,61 @@ use std::alloc::Global;
 use std::sync::Arc;
 use wire_io::{Failed, List, NoMemory, Sink, Unplaced};
 
-/// The tables of the one router, and the entries of a read that they don't have yet.
+/// So many bytes of messages are gathered before the tables take them. Nobody looks at the tables meanwhile, and each
+/// time that they take some their rows are merged with those that were there.
+const BATCH: u64 = 8_388_608;
+
+/// The tables of the one router, and the entries that were gathered since they took some.
 #[derive(Drop)]
 pub struct Replay {
     alloc: Global,
     tables: RouterTables,
     gathered: List<Entry>,
+    // the bytes of their messages
+    bytes: u64,
+}
+
+// The bytes of an entry's message.
+fn bytes_of(entry: &Entry) -> u64 {
+    match entry {
+        Entry::Message { length, .. } => *length as u64,
+        _ => 0,
+    }
+}
+
+impl Replay {
+    ghost use Rattle.station_top.specs.Replay.{Gathers, Settled};
+
+    // Lets the tables take what was gathered.
+    fn settle(&mut self) -> Result<(), NoMemory>
+        ensures { OnOk result ((entries : List EntryValue) → Gathers self.old entries → Settled self.new entries) }
+    {
+        self.tables.extend(self.gathered.as_slice())?;
+        self.gathered = List::new(self.alloc);
+        self.bytes = 0;
+        Ok(())
+    }
+
+    // Gathers an entry.
+    fn gather(&mut self, entry: Entry) -> Result<(), NoMemory>
+        ensures { OnOk result ((entries : List EntryValue) → Gathers self.old entries → Gathers self.new (entries ++ entry_value entry ∷ [])) }
+    {
+        self.bytes = self.bytes.saturating_add(bytes_of(&entry));
+        match self.gathered.push(entry) {
+            Ok(()) => Ok(()),
+            Err(Unplaced::NoMemory { .. }) => Err(NoMemory),
+        }
+    }
 }
 
 impl Account for Replay {
-    ghost use Rattle.station_top.specs.Replay.{Gathers, Settled};
+    ghost use Rattle.station_top.specs.Replay.{Gathers};
 
     type Wants = Entries;
 
     type Told = Cut<RouterTables>;
 
-    ghost gathers = { Gathers };
-
-    ghost stands = { Settled };
-
-    ghost none_gathered = { λ _ _ settled. settled.gathers };
+    ghost stands = { Gathers };
 
     fn begin(alloc: Global) -> Result<Replay, NoMemory> {
         let mut tables = RouterTables::new(alloc)?;
@@ -39,24 +78,22 @@ impl Account for Replay {
             alloc,
             tables,
             gathered: List::new(alloc),
+            bytes: 0,
         })
     }
 
-    fn gather(&mut self, entry: Entry) -> Result<(), NoMemory> {
-        match self.gathered.push(entry) {
-            Ok(()) => Ok(()),
-            Err(Unplaced::NoMemory { .. }) => Err(NoMemory),
+    fn note(&mut self, entry: Entry) -> Result<(), NoMemory> {
+        self.gather(entry)?;
+        if self.bytes < BATCH {
+            return Ok(());
         }
-    }
-
-    fn settle(&mut self) -> Result<(), NoMemory> {
-        self.tables.extend(self.gathered.as_slice())?;
-        self.gathered = List::new(self.alloc);
-        Ok(())
+        self.settle()
     }
 
     fn ready(self, alloc: Global, revision: u64) -> Result<Cut<RouterTables>, NoMemory> {
-        let Replay { tables, .. } = self;
+        let mut replay = self;
+        replay.settle()?;
+        let Replay { tables, .. } = replay;
         let lane = CutLane {
             value: Arc::new(alloc, tables)?,
             count: revision,

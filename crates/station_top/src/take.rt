@@ -1,6 +1,5 @@
 ghost use Rattle.std.specs.Prelude.{◌≡◌, ℕ, List, ◌∷◌, [], IsTrue, IfOk, OnErr};
 ghost use Rattle.bmp_specs.specs.Life.{gave};
-ghost use Rattle.bmp_specs.specs.MessageEffects.{strict};
 ghost use Rattle.bmp_specs.specs.Values.{opened};
 ghost use Rattle.wire_io.specs.Aside.{Plan};
 ghost use Rattle.station_doors.specs.Doors.{untouched};
@@ -9,7 +8,7 @@ ghost use Rattle.station_top.specs.Account.{HasDrawn, Draws};
 ghost use Rattle.station_top.specs.Take.{IsNew, Takes, TakesBytes, TakesInput, BreaksOff, cause_at_end};
 
 use crate::account::Account;
-use bmp_message::{Progress, StreamWalk};
+use bmp_message::{BodyReading, Progress, StreamWalk};
 use bmp_specs::Cause;
 use station_doors::Port;
 use std::alloc::Global;
@@ -28,20 +27,20 @@ pub struct Taken {
     pub revision: u64,
 }
 
-// Takes the one input connection of a port into an account, and closes it. Where there is none it is an empty one. The
-// account takes its opening and its messages. After want of memory the port shows what it gave until then: a front of
+// Takes the one input connection of a port into an account, read by `R`, and closes it. Where there is none it is an empty
+// one. The account takes its opening and its messages. After want of memory the port shows what it gave until then: a front of
 // its first connection, or nothing.
-pub fn take_input<P: Port, A: Account + Drop>(
+pub fn take_input<P: Port, A: Account + Drop, R: BodyReading + Drop>(
     alloc: Global,
     port: &mut P,
 ) -> Result<(A, Taken), NoMemory>
-    ensures takes { IfOk result (λ r. TakesInput strict (A.stands r.0) (P.aside port.old) (P.aside port.new) (P.calls port.old) r.1) }
-    ensures breaks { OnErr result ((plan : Plan) → P.aside port.old ≡ untouched plan → P.calls port.old ≡ 0 → BreaksOff strict plan (P.aside port.new)) }
+    ensures takes { IfOk result (λ r. TakesInput R.meaning (A.stands r.0) (P.aside port.old) (P.aside port.new) (P.calls port.old) r.1) }
+    ensures breaks { OnErr result ((plan : Plan) → P.aside port.old ≡ untouched plan → P.calls port.old ≡ 0 → BreaksOff R.meaning plan (P.aside port.new)) }
 {
     let mut account = A::begin(alloc)?;
     match port.next_connection() {
         Ok(true) => {
-            let taken = take_bytes(alloc, port, &mut account);
+            let taken = take_bytes::<P, A, R>(alloc, port, &mut account);
             port.close();
             match taken {
                 Ok(taken) => Ok((account, taken)),
@@ -62,18 +61,18 @@ fn untaken(cause: Cause) -> Taken
 
 // Takes the present connection to its end, to the end of its walk, or to the limit of one connection. After want of
 // memory no read had failed or told the end.
-fn take_bytes<P: Port, A: Account>(
+fn take_bytes<P: Port, A: Account, R: BodyReading + Drop>(
     alloc: Global,
     port: &mut P,
     account: &mut A,
 ) -> Result<Taken, NoMemory>
     requires new { IsNew (P.aside port.old) }
     requires opened { A.stands account.old (opened ∷ []) }
-    ensures takes { IfOk result (Takes strict (A.stands account.new) (P.aside port.old) (P.aside port.new) (P.calls port.old)) }
-    ensures breaks { OnErr result ((bytes : List ℕ) × TakesBytes strict (P.aside port.old) (P.aside port.new) (P.calls port.old) bytes gave) }
+    ensures takes { IfOk result (Takes R.meaning (A.stands account.new) (P.aside port.old) (P.aside port.new) (P.calls port.old)) }
+    ensures breaks { OnErr result ((bytes : List ℕ) × TakesBytes R.meaning (P.aside port.old) (P.aside port.new) (P.calls port.old) bytes gave) }
     ensures is_open { IsTrue (P.aside port.new).is_open }
 {
-    let mut walk = StreamWalk::new(alloc);
+    let mut walk: StreamWalk<R> = StreamWalk::new(alloc);
     let mut buf = [0u8; MOST_READ as usize];
     let mut taken = 0;
     let mut revision = 1;
@@ -104,7 +103,7 @@ fn take_bytes<P: Port, A: Account>(
 }
 
 // Why a connection ended whose bytes the walk was fed.
-fn at_end(walk: &StreamWalk) -> Cause
+fn at_end<R: BodyReading>(walk: &StreamWalk<R>) -> Cause
     ensures { result ≡ cause_at_end (rest_of walk.now) walk.now.offset }
 {
     if walk.rest() == 0 {
@@ -116,19 +115,19 @@ fn at_end(walk: &StreamWalk) -> Cause
     }
 }
 
-// Lets the account gather all whole messages and counts them, and tells the cause where the walk ends.
-fn gather_all<A: Account>(
-    walk: &mut StreamWalk,
+// Lets the account note all whole messages and counts them, and tells the cause where the walk ends.
+fn drain<A: Account, R: BodyReading>(
+    walk: &mut StreamWalk<R>,
     account: &mut A,
     revision: &mut u64,
 ) -> Result<Option<Cause>, NoMemory>
-    ensures draws { IfOk result (λ end. (fed : List ℕ) → HasDrawn (A.gathers account.old) fed walk.old revision.old → Draws (A.gathers account.new) fed walk.new revision.new end) }
+    ensures draws { IfOk result (λ end. (fed : List ℕ) → HasDrawn R.meaning R.state (A.stands account.old) fed walk.old revision.old → Draws R.meaning R.state (A.stands account.new) fed walk.new revision.new end) }
     ensures fed { IfOk result (λ end. fed_of walk.new ≡ fed_of walk.old) }
 {
     loop {
         match walk.next::<A::Wants>()? {
             Progress::Message(item) => {
-                account.gather(item)?;
+                account.note(item)?;
                 *revision = revision.saturating_add(1);
             }
             Progress::More => return Ok(None),
@@ -139,18 +138,4 @@ fn gather_all<A: Account>(
             })),
         }
     }
-}
-
-// Lets the account take all whole messages, as many as there are in one go, and tells the cause where the walk ends.
-fn drain<A: Account>(
-    walk: &mut StreamWalk,
-    account: &mut A,
-    revision: &mut u64,
-) -> Result<Option<Cause>, NoMemory>
-    ensures draws { IfOk result (λ end. (fed : List ℕ) → HasDrawn (A.stands account.old) fed walk.old revision.old → Draws (A.stands account.new) fed walk.new revision.new end) }
-    ensures fed { IfOk result (λ end. fed_of walk.new ≡ fed_of walk.old) }
-{
-    let end = gather_all(walk, account, revision)?;
-    account.settle()?;
-    Ok(end)
 }

@@ -16,6 +16,7 @@ use crate::counts::Counts;
 use crate::replay::Replay;
 use crate::take::{Taken, take_input};
 use crate::words::{Command, WordsFault, read_words};
+use bmp_message::{BodyReading, Reading};
 use bmp_specs::Cause;
 use core::mem::replace_with;
 use reply_text::put_stop;
@@ -29,8 +30,11 @@ const USAGE: &str =
 
 // Takes the one input connection of the yard's port 0 into an account, and gives the port back. YardFault where the
 // yard refused the port, NoMemory on want of memory.
-fn take_from<Y: Yard, A: Account + Drop>(alloc: Global, yard: &mut Y) -> Result<(A, Taken), Status>
-    ensures from { FromYard strict A.stands (Y.told yard.old) (Y.told yard.new) (Y.calls yard.old) result }
+fn take_from<Y: Yard, A: Account + Drop, R: BodyReading + Drop>(
+    alloc: Global,
+    yard: &mut Y,
+) -> Result<(A, Taken), Status>
+    ensures from { FromYard R.meaning A.stands (Y.told yard.old) (Y.told yard.new) (Y.calls yard.old) result }
     ensures rose { result ≡ Err Status.YardFault → Rose (Y.faults yard.old) (Y.faults yard.new) }
     ensures calm { (result ≡ Err Status.YardFault → ⊥) → Y.faults yard.new ≡ Y.faults yard.old }
     ensures calls { Y.calls yard.new ≡ one_more (Y.calls yard.old) }
@@ -38,7 +42,7 @@ fn take_from<Y: Yard, A: Account + Drop>(alloc: Global, yard: &mut Y) -> Result<
     let Ok(mut port) = yard.port(0) else {
         return Err(Status::YardFault);
     };
-    let taken = take_input(alloc, &mut port);
+    let taken = take_input::<Y::Port, A, R>(alloc, &mut port);
     yard.take_port(0, port);
     match taken {
         Ok(taken) => Ok(taken),
@@ -113,21 +117,20 @@ fn unless_failed(write: Result<(), Failed>, status: Status) -> Status
 }
 
 // Takes the input into an account, and writes the reply that is asked for and the stop line.
-fn run<A: Account + Drop, Y: Yard, O: Sink>(
+fn run<A: Account + Drop, R: BodyReading + Drop, Y: Yard, O: Sink>(
     alloc: Global,
     ask: &<A::Told as Replies>::Ask,
     yard: &mut Y,
     out: &mut O,
 ) -> Status
     requires { A.Told.may_ask ask.now }
-    ensures concludes { Concludes strict (A.Told.replies ask.now) (Y.told yard.old) (Y.told yard.new) (Y.calls yard.old) (O.told out.old) (O.told out.new) result }
+    ensures concludes { Concludes R.meaning (A.Told.replies ask.now) (Y.told yard.old) (Y.told yard.new) (Y.calls yard.old) (O.told out.old) (O.told out.new) result }
     ensures calls { Y.calls yard.new ≡ one_more (Y.calls yard.old) }
     ensures out { AnswersFault (O.faults out.old) (O.faults out.new) result Status.WriteFault }
     ensures yard { AnswersFault (Y.faults yard.old) (Y.faults yard.new) result Status.YardFault }
     ensures aside { O.aside out.new ≡ O.aside out.old }
 {
-    let taken: Result<(A, Taken), Status> = take_from(alloc, yard);
-    match taken {
+    match take_from::<Y, A, R>(alloc, yard) {
         Ok((account, taken)) => match account.ready(alloc, taken.revision) {
             Ok(told) => unless_failed(
                 write_reply(out, &told, ask, taken.cause),
@@ -154,8 +157,8 @@ fn run_command<Y: Yard, O: Sink>(
     ensures aside { O.aside out.new ≡ O.aside out.old }
 {
     match command {
-        Command::Replay(query) => run::<Replay, Y, O>(alloc, &query, yard, out),
-        Command::Check => run::<Counts, Y, O>(alloc, &(), yard, out),
+        Command::Replay(query) => run::<Replay, Reading, Y, O>(alloc, &query, yard, out),
+        Command::Check => run::<Counts, Reading, Y, O>(alloc, &(), yard, out),
     }
 }
 

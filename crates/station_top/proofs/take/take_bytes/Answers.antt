@@ -7,7 +7,7 @@ use Rattle.station_top.proofs.take.take_bytes.Goals as goal
 
 pub loop-taken-init : goal.loop-taken-init
 loop-taken-init g c = record {
-  taking = taking_none (g.A.Account.stands c.args.account.now) (g.P.Port.aside c.args.port.now) (g.P.Port.calls c.args.port.now) c.new-walk.result c.requires.new c.requires.opened c.new-walk.ensures.run c.new-walk.ensures.start;
+  taking = taking_none g.R.BodyReading.meaning g.R.BodyReading.state (g.A.Account.stands c.args.account.now) (g.P.Port.aside c.args.port.now) (g.P.Port.calls c.args.port.now) c.new-walk.result c.requires.new c.requires.opened c.new-walk.ensures.run c.new-walk.ensures.start;
   within = omega arith;
   room = refl;
 }
@@ -16,13 +16,13 @@ pub returns-in-Ok-eq0-clause-takes : goal.returns-in-Ok-eq0-clause-takes
 returns-in-Ok-eq0-clause-takes g c =
     let l = c.loop-taken in
     let some : 0 < length c.read.new.buf = omega (arith, length-take c.min-size.result l.buf) in
-    takes_end (g.A.Account.stands l.account) _ _ _ _ l.taken l.walk l.revision l.invariant.taking _ _ c.read.new.buf _ (rw c.in-Ok-eq0.field-0-test at c.in-Ok-eq0.ensures.reads) (rw c.in-Ok-eq0.field-0-test at c.in-Ok-eq0.ensures.planned) some c.loop-taken-test.true
+    takes_end _ g.R.BodyReading.meaning g.R.BodyReading.state g.met.R.BodyReading.gives_messages (g.A.Account.stands l.account) _ _ _ _ l.taken l.walk l.revision l.invariant.taking _ _ c.read.new.buf _ (rw c.in-Ok-eq0.field-0-test at c.in-Ok-eq0.ensures.reads) (rw c.in-Ok-eq0.field-0-test at c.in-Ok-eq0.ensures.planned) some c.loop-taken-test.true
     (ap (λ (k : Cause). let t : Taken = record { cause = k; revision = l.revision } in t) c.at_end.ensures)
 
 pub returns-in-Err-clause-takes : goal.returns-in-Err-clause-takes
 returns-in-Err-clause-takes g c =
     let l = c.loop-taken in
-    takes_fault (g.A.Account.stands l.account) _ _ _ _ l.taken l.walk l.revision l.invariant.taking _ _ c.read.new.buf _ _ c.in-Err.ensures.reads c.in-Err.ensures.planned c.loop-taken-test.true refl
+    takes_fault _ g.R.BodyReading.meaning g.R.BodyReading.state g.met.R.BodyReading.gives_messages (g.A.Account.stands l.account) _ _ _ _ l.taken l.walk l.revision l.invariant.taking _ _ c.read.new.buf _ _ c.in-Err.ensures.reads c.in-Err.ensures.planned c.loop-taken-test.true refl
 
 pub returns-in-Some-clause-takes : goal.returns-in-Some-clause-takes
 returns-in-Some-clause-takes g c =
@@ -34,9 +34,9 @@ returns-in-Some-clause-takes g c =
     let room : l.taken + m ≤ 70368744177664 = omega (arith, within, length-take c.min-size.result l.buf) in
     let piece : take m (buf ++ drop c.min-size.result l.buf) ≡ take m buf = take-append-le m buf (drop c.min-size.result l.buf) within in
     let fed = rw piece at c.in_ok-feed-in-Ok.ensures.run in
-    let drawn = drawn_fed (g.A.Account.stands l.account) _ _ _ _ l.taken l.walk l.revision l.invariant.taking (take m buf) c.feed.new.self fed in
+    let drawn = drawn_fed _ g.R.BodyReading.meaning g.R.BodyReading.state g.met.R.BodyReading.gives_messages (g.A.Account.stands l.account) _ _ _ _ l.taken l.walk l.revision l.invariant.taking (take m buf) c.feed.new.self fed in
     let draws = rw c.in-Some.is at c.in_ok-cause-in-Ok.ensures.draws in
-    takes_early (g.A.Account.stands l.account) _ _ _ _ l.taken l.walk l.revision l.invariant.taking (g.A.Account.stands c.drain.new.account) _ _ m buf c.in-Some.cause c.drain.new.revision _ c.in-Ok.ensures.reads c.in-Ok.ensures.planned c.in-Ok.count-test.1 within room size
+    takes_early _ g.R.BodyReading.meaning g.R.BodyReading.state g.met.R.BodyReading.gives_messages (g.A.Account.stands l.account) _ _ _ _ l.taken l.walk l.revision l.invariant.taking (g.A.Account.stands c.drain.new.account) _ _ m buf c.in-Some.cause c.drain.new.revision _ c.in-Ok.ensures.reads c.in-Ok.ensures.planned c.in-Ok.count-test.1 within room size
     (draws _ drawn) refl
 
 pub loop-taken-preserved : goal.loop-taken-preserved
@@ -49,10 +49,10 @@ loop-taken-preserved g c =
     let room : l.taken + m ≤ 70368744177664 = omega (arith, within, length-take c.min-size.result l.buf) in
     let piece : take m (buf ++ drop c.min-size.result l.buf) ≡ take m buf = take-append-le m buf (drop c.min-size.result l.buf) within in
     let fed = rw piece at c.in_ok-feed-in-Ok.ensures.run in
-    let drawn = drawn_fed (g.A.Account.stands l.account) _ _ _ _ l.taken l.walk l.revision l.invariant.taking (take m buf) c.feed.new.self fed in
+    let drawn = drawn_fed _ g.R.BodyReading.meaning g.R.BodyReading.state g.met.R.BodyReading.gives_messages (g.A.Account.stands l.account) _ _ _ _ l.taken l.walk l.revision l.invariant.taking (take m buf) c.feed.new.self fed in
     let draws = rw c.in_default.is at c.in_ok-cause-in-Ok.ensures.draws in
     record {
-      taking = taking_more (g.A.Account.stands l.account) _ _ _ _ l.taken l.walk l.revision l.invariant.taking (g.A.Account.stands c.drain.new.account) _ _ m buf c.drain.new.walk c.drain.new.revision c.in-Ok.ensures.reads c.in-Ok.ensures.planned c.in-Ok.count-test.1 within room size
+      taking = taking_more _ g.R.BodyReading.meaning g.R.BodyReading.state g.met.R.BodyReading.gives_messages (g.A.Account.stands l.account) _ _ _ _ l.taken l.walk l.revision l.invariant.taking (g.A.Account.stands c.drain.new.account) _ _ m buf c.drain.new.walk c.drain.new.revision c.in-Ok.ensures.reads c.in-Ok.ensures.planned c.in-Ok.count-test.1 within room size
           (draws _ drawn);
       within = room;
       room = omega (arith, length-append buf (drop c.min-size.result l.buf), length-take c.min-size.result l.buf, length-drop c.min-size.result l.buf, l.invariant.room);
@@ -62,7 +62,7 @@ pub returns-clause-takes : goal.returns-clause-takes
 returns-clause-takes g c =
     let l = c.loop-taken in
     let full : l.taken ≡ 70368744177664 = omega (arith, l.invariant.within) in
-    takes_full (g.A.Account.stands l.account) _ _ _ _ l.taken l.walk l.revision l.invariant.taking _ full refl
+    takes_full _ g.R.BodyReading.meaning g.R.BodyReading.state g.met.R.BodyReading.gives_messages (g.A.Account.stands l.account) _ _ _ _ l.taken l.walk l.revision l.invariant.taking _ full refl
 
 pub returns-in_err-feed-in-Ok-clause-breaks : goal.returns-in_err-feed-in-Ok-clause-breaks
 returns-in_err-feed-in-Ok-clause-breaks g c =
@@ -72,7 +72,7 @@ returns-in_err-feed-in-Ok-clause-breaks g c =
     let within : m ≤ length buf = omega (arith, c.in-Ok.ensures.bound.0) in
     let size : m ≤ 65536 = omega (arith, within, length-take c.min-size.result l.buf) in
     let room : l.taken + m ≤ 70368744177664 = omega (arith, within, length-take c.min-size.result l.buf) in
-    on_error _ (breaks (g.A.Account.stands l.account) _ _ _ _ l.taken l.walk l.revision l.invariant.taking _ _ m buf c.in-Ok.ensures.reads c.in-Ok.ensures.planned c.in-Ok.count-test.1 within room size)
+    on_error _ (breaks _ g.R.BodyReading.meaning g.R.BodyReading.state g.met.R.BodyReading.gives_messages (g.A.Account.stands l.account) _ _ _ _ l.taken l.walk l.revision l.invariant.taking _ _ m buf c.in-Ok.ensures.reads c.in-Ok.ensures.planned c.in-Ok.count-test.1 within room size)
 
 pub returns-in_err-cause-in-Ok-clause-breaks : goal.returns-in_err-cause-in-Ok-clause-breaks
 returns-in_err-cause-in-Ok-clause-breaks g c =
@@ -82,4 +82,4 @@ returns-in_err-cause-in-Ok-clause-breaks g c =
     let within : m ≤ length buf = omega (arith, c.in-Ok.ensures.bound.0) in
     let size : m ≤ 65536 = omega (arith, within, length-take c.min-size.result l.buf) in
     let room : l.taken + m ≤ 70368744177664 = omega (arith, within, length-take c.min-size.result l.buf) in
-    on_error _ (breaks (g.A.Account.stands l.account) _ _ _ _ l.taken l.walk l.revision l.invariant.taking _ _ m buf c.in-Ok.ensures.reads c.in-Ok.ensures.planned c.in-Ok.count-test.1 within room size)
+    on_error _ (breaks _ g.R.BodyReading.meaning g.R.BodyReading.state g.met.R.BodyReading.gives_messages (g.A.Account.stands l.account) _ _ _ _ l.taken l.walk l.revision l.invariant.taking _ _ m buf c.in-Ok.ensures.reads c.in-Ok.ensures.planned c.in-Ok.count-test.1 within room size)

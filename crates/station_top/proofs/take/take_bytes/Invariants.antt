@@ -4,7 +4,7 @@ use Rattle.station_top.proofs.take.take_bytes.Given as goal
 
 abbrev pub invariant-loop-taken : goal.invariant-loop-taken
 invariant-loop-taken g l = record {
-  taking : Taking (g.A.Account.stands l.account) (g.P.Port.aside l.initial.port) (g.P.Port.aside l.port) (g.P.Port.calls l.initial.port) (g.P.Port.calls l.port) l.taken l.walk l.revision;
+  taking : Taking g.R.BodyReading.meaning g.R.BodyReading.state (g.A.Account.stands l.account) (g.P.Port.aside l.initial.port) (g.P.Port.aside l.port) (g.P.Port.calls l.initial.port) (g.P.Port.calls l.port) l.taken l.walk l.revision;
   within : l.taken ≤ 70368744177664;
   room : length l.buf ≡ 65536;
 }
