@@ -4,10 +4,12 @@
 #![tactic(auto)]
 
 mod frames;
+mod lane;
 mod publisher;
 mod routes;
 mod tables;
 
+use lane::Versions;
 use publisher::Call;
 use std::{env, io};
 use tables::Order;
@@ -28,12 +30,17 @@ fn main(rt: HostRuntime) -> io::Result<()> {
         Some("map_shuffled") => tables::map(&rt, Order::Shuffled, number),
         Some("runs") => routes::runs(&rt, Order::Prefix, number),
         Some("runs_shuffled") => routes::runs(&rt, Order::Shuffled, number),
+        Some("lane") => lane::run(&rt, Versions::Last),
+        Some("lane_keep") => lane::run(&rt, Versions::EveryTenth),
+        Some("lane_seek") => lane::seek(&rt, number, times),
+        Some("lane_walk") => lane::walk(&rt, number),
         _ => {
             println!(rt; "usage: bench frames [PIECE] | publish [N] | snapshot [N]")?;
             println!(rt;
                 "       bench trie [N [TIMES]] | shuffled [N [TIMES]] | map [N] | map_shuffled [N]"
             )?;
-            println!(rt; "       bench runs [N] | runs_shuffled [N]")
+            println!(rt; "       bench runs [N] | runs_shuffled [N]")?;
+            println!(rt; "       bench lane | lane_keep | lane_seek [N [TIMES]] | lane_walk [N]")
         }
     }
 }
