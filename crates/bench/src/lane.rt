@@ -1,7 +1,7 @@
 ghost use Rattle.std.specs.Prelude.{◌≡◌, ◌<◌, length};
 
 use bmp_frames::{PeerKey, View};
-use bmp_message::{Entries, Progress, StreamWalk};
+use bmp_message::{Entries, Progress, Reading, StreamWalk};
 use ip_prefix::{Addr, Family, Nlri};
 use prefix_trie::Steps;
 use rand_core::utils::NextWord;
@@ -48,7 +48,7 @@ pub enum Versions {
 #[derive(Drop)]
 struct Lane {
     alloc: Global,
-    walk: StreamWalk,
+    walk: StreamWalk<Reading>,
     tables: RouterTables,
     entries: u64,
     reads: u64,
@@ -95,7 +95,7 @@ impl Lane {
 }
 
 // The entries of the whole messages that were fed. None where no memory is left.
-fn whole(alloc: Global, walk: &mut StreamWalk) -> Option<Vec<Entry>> {
+fn whole(alloc: Global, walk: &mut StreamWalk<Reading>) -> Option<Vec<Entry>> {
     let mut entries = Vec::new(alloc);
     while let Progress::Message(entry) = walk.next::<Entries>().ok()? {
         entries.push(entry).ok()?;
