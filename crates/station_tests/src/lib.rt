@@ -1,9 +1,11 @@
-//! Tests of the published history, of ports and links, and of the station, from outside.
+//! Tests of the published history, of ports and links, of sessions, and of the station, from outside.
 #![tactic(auto)]
 
 #[cfg(test)]
 mod doors;
 #[cfg(test)]
 mod publications;
+#[cfg(test)]
+mod sessions;
 #[cfg(test)]
 mod station;
