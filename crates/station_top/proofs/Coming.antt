@@ -1,7 +1,6 @@
 -- The one input connection of a port, opened, taken and closed.
-use Rattle.std.proofs.Common.{◌≡◌, ℕ, ◌<◌, length, take, drop, List, [], ◌∷◌, ◌++◌, Option, Some, None, Bool, true, false, Result, Ok, Err, refl, ap, sym, ◌∙◌, subst, inr, arith}
-use Rattle.std.specs.Prelude.{◌↔◌, IfSome, IfOk, OnErr}
-use Rattle.wire_io.specs.declared.bytes.NoMemory.{NoMemory}
+use Rattle.std.proofs.Common.{◌≡◌, ℕ, ◌<◌, length, take, drop, List, [], ◌∷◌, ◌++◌, Option, Some, None, Bool, true, false, Ok, Err, refl, ap, sym, ◌∙◌, subst, inr, arith}
+use Rattle.std.specs.Prelude.{◌↔◌, IfSome}
 use Rattle.std.specs.Io.KnownBytes.{Consumes, IsAtEnd}
 use Rattle.bmp_specs.specs.declared.causes.Cause.TheVariants.{Ended, ReadFault}
 use Rattle.bmp_specs.specs.Life.{LastRead, gave, gave_none, failed, most_taken}

@@ -8,6 +8,7 @@ use Rattle.bmp_specs.specs.declared.causes.Cause.TheVariants as cause
 use Rattle.bmp_specs.specs.declared.causes.Cause.TheVariants.{Ended, Terminated, CutShort, Broken, Full}
 use Rattle.bmp_specs.specs.Check.{length_of}
 use Rattle.bmp_specs.specs.Lines.{stop_line}
+use Rattle.bmp_specs.specs.LenientBody.{meaning_of}
 use Rattle.bmp_specs.specs.Meaning.{Meaning}
 use Rattle.bmp_specs.specs.Values.{EntryValue, opened}
 use Rattle.wire_io.specs.declared.sink.Failed.{Failed}
@@ -18,11 +19,11 @@ use Rattle.wire_io.proofs.Joins.{join, appends_none, keeps_appends}
 use Rattle.bmp_message.specs.Effects.{GivesMessages}
 use Rattle.station_doors.specs.Doors.{YardValue, HandsOut, TakesBack, one_more, untouched}
 use Rattle.query_eval.specs.Replies.{PutsReply}
-use Rattle.station_top.specs.Station.{LendsWhereTold, IsWritten, IsTaken, FromYard, IsReplyTo, IsStopped, refused, replied, starved, unready, commanded, Concludes, Answers, AnswersFault}
+use Rattle.station_top.specs.Station.{LendsWhereTold, IsWritten, IsTaken, FromYard, IsReplyTo, IsStopped, refused, replied, starved, unready, called, Concludes, Answers, AnswersFault}
 use Rattle.station_top.specs.Status.{status_of}
 use Rattle.station_top.specs.Take.{TakesInput, BreaksOff}
-use Rattle.station_top.specs.Words.{IsCommand}
-use Rattle.station_top.specs.declared.words.Command.{Command}
+use Rattle.station_top.specs.Words.{IsCall}
+use Rattle.station_top.specs.declared.words.Call.{Call}
 use Rattle.station_top.specs.declared.status.Status.{Status}
 use Rattle.station_top.specs.declared.status.Status.TheVariants.{Done, Stopped, Usage, ReadFault, WriteFault, NoMemory, YardFault}
 use Rattle.station_top.specs.declared.take.Taken.{Taken}
@@ -127,7 +128,7 @@ concludes_unread meaning Stands Replies old new number told Usage from = absurd 
 concludes_unread meaning Stands Replies old new number told ReadFault from = absurd from
 concludes_unread meaning Stands Replies old new number told WriteFault from = absurd from
 
--- the words are a command
-pub answers_commanded : (meaning : Meaning) (command : Command) (words : List (List ℕ)) (old new : Option YardValue) (number calls : ℕ) (told0 told1 : Option (List ℕ)) (status : Status) → IsCommand command words → calls ≡ one_more number → Concludes meaning (IsReplyTo command) old new number told0 told1 status
-    → Answers meaning words old new number calls told0 told1 status
-answers_commanded meaning command words old new number calls told0 told1 status is counted c = rw counted (record { meant = c.meant; text = c.text; means = commanded command c.meant c.text is c.runs; written = c.written })
+-- the words are a call
+pub answers_called : (call : Call) (words : List (List ℕ)) (old new : Option YardValue) (number calls : ℕ) (told0 told1 : Option (List ℕ)) (status : Status) → IsCall call words → calls ≡ one_more number → Concludes (meaning_of call.lenient) (IsReplyTo call.command) old new number told0 told1 status
+    → Answers words old new number calls told0 told1 status
+answers_called call words old new number calls told0 told1 status is counted c = rw counted (record { meant = c.meant; text = c.text; means = called call c.meant c.text is c.runs; written = c.written })

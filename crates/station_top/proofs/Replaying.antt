@@ -1,6 +1,6 @@
 -- The tables of a replay, brought up to date, and the cut that is made of them.
-use Rattle.std.proofs.Common.{◌≡◌, ℕ, zero, suc, ◌≤◌, ◌^◌, List, [], ◌∷◌, ◌++◌, Option, Result, length, refl, sym, ap, ◌∙◌, subst, append-nil, append_assoc, arith}
-use Rattle.std.proofs.lemmas.List.{map-append, length-map}
+use Rattle.std.proofs.Common.{◌≡◌, ℕ, zero, suc, List, [], ◌∷◌, ◌++◌, Option, Result, length, refl, sym, ap, ◌∙◌, subst, append-nil, arith}
+use Rattle.std.proofs.lemmas.List.{length-map}
 use Rattle.bmp_specs.specs.QueryReply.{IsReply}
 use Rattle.bmp_specs.specs.Values.{EntryValue, opened}
 use Rattle.cut_publisher.specs.declared.history.Event.{Event}

@@ -4,6 +4,7 @@ use Rattle.std.specs.Io.KnownBytes.{Appends}
 use Rattle.bmp_specs.specs.declared.causes.Cause.{Cause}
 use Rattle.bmp_specs.specs.Check.{check_lines}
 use Rattle.bmp_specs.specs.Lines.{stop_line, usage_line}
+use Rattle.bmp_specs.specs.LenientBody.{meaning_of}
 use Rattle.bmp_specs.specs.Life.{IsReadNoFurther}
 use Rattle.bmp_specs.specs.Meaning.{Meaning}
 use Rattle.bmp_specs.specs.Query.{quit}
@@ -17,10 +18,11 @@ use Rattle.station_doors.specs.Doors.{YardValue, one_more}
 use Rattle.station_top.specs.Input.{HasCome}
 use Rattle.station_top.specs.Take.{BreaksOff, Comes}
 use Rattle.station_top.specs.Status.{status_of}
-use Rattle.station_top.specs.Words.{IsCommand, TakeMemory}
+use Rattle.station_top.specs.Words.{IsCall, TakeMemory}
 use Rattle.station_top.specs.declared.status.Status.{Status}
 use Rattle.station_top.specs.declared.status.Status.TheVariants.{Done, Stopped, Usage, ReadFault, WriteFault, NoMemory, YardFault}
 use Rattle.station_top.specs.declared.take.Taken.{Taken}
+use Rattle.station_top.specs.declared.words.Call.{Call}
 use Rattle.station_top.specs.declared.words.Command.{Command}
 use Rattle.station_top.specs.declared.words.Command.TheVariants.{Replay, Check}
 
@@ -76,14 +78,14 @@ pub data Runs (meaning : Meaning) (Replies : List EntryValue → List ℕ → Ty
       → LendsWhereTold (λ plan shows. Comes meaning plan shows input messages cause) old new number → Runs meaning Replies old new number NoMemory []
 
 -- What a call comes to by its words and the yard, before anything is written: how many calls of the yard were made
--- then, the status that is meant, and the text.
-pub data Means (meaning : Meaning) (words : List (List ℕ)) (old new : Option YardValue) (number : ℕ) : ℕ → Status → List ℕ → Type 0 where
+-- then, the status that is meant, and the text. Bodies mean what the call's reading says.
+pub data Means (words : List (List ℕ)) (old new : Option YardValue) (number : ℕ) : ℕ → Status → List ℕ → Type 0 where
   -- the words are no command: the usage line, and the yard is asked for nothing
-  usage : ((command : Command) → IsCommand command words → ⊥) → new ≡ old → Means meaning words old new number number Usage usage_line
+  usage : ((call : Call) → IsCall call words → ⊥) → new ≡ old → Means words old new number number Usage usage_line
   -- want of memory while the words were read: nothing is written, and the yard is asked for nothing
-  unread : TakeMemory words → new ≡ old → Means meaning words old new number number NoMemory []
-  -- they are this command
-  commanded : (command : Command) (status : Status) (text : List ℕ) → IsCommand command words → Runs meaning (IsReplyTo command) old new number status text → Means meaning words old new number (one_more number) status text
+  unread : TakeMemory words → new ≡ old → Means words old new number number NoMemory []
+  -- they are this call
+  called : (call : Call) (status : Status) (text : List ℕ) → IsCall call words → Runs (meaning_of call.lenient) (IsReplyTo call.command) old new number status text → Means words old new number (one_more number) status text
 
 -- The text was written and the status is the one that is meant; or a write failed, and a front of the text was written.
 abbrev pub IsWritten : Option (List ℕ) → Option (List ℕ) → List ℕ → Status → Status → Type 0
@@ -97,10 +99,10 @@ pub record Concludes (meaning : Meaning) (Replies : List EntryValue → List ℕ
   pub written : IsWritten told0 told1 text meant status
 
 -- what a call answers, and what it wrote
-pub record Answers (meaning : Meaning) (words : List (List ℕ)) (old new : Option YardValue) (number calls : ℕ) (told0 told1 : Option (List ℕ)) (status : Status) : Type 0 where
+pub record Answers (words : List (List ℕ)) (old new : Option YardValue) (number calls : ℕ) (told0 told1 : Option (List ℕ)) (status : Status) : Type 0 where
   pub meant : Status
   pub text : List ℕ
-  pub means : Means meaning words old new number calls meant text
+  pub means : Means words old new number calls meant text
   pub written : IsWritten told0 told1 text meant status
 
 -- the status is this one exactly where the count rose

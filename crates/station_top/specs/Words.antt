@@ -1,8 +1,9 @@
 -- The words that are a command.
-use Rattle.std.specs.Prelude.{◌≡◌, ◌≢◌, ℕ, List, [], ◌∷◌, codes}
+use Rattle.std.specs.Prelude.{◌≡◌, ◌≢◌, ℕ, Bool, true, false, List, [], ◌∷◌, codes}
 use Rattle.std.specs.List.{join_with_byte}
 use Rattle.bmp_specs.specs.Query.{QueryValue, quit, space, IsQuery}
 use Rattle.query_lang.specs.Queries.{query_value}
+use Rattle.station_top.specs.declared.words.Call.{Call}
 use Rattle.station_top.specs.declared.words.Command.{Command}
 use Rattle.station_top.specs.declared.words.Command.TheVariants.{Replay, Check}
 
@@ -21,6 +22,20 @@ pub record IsReplay (query : QueryValue) (words : List (List ℕ)) : Type 0 wher
 abbrev pub IsCommand : Command → List (List ℕ) → Type 0
 IsCommand (Replay query) words = IsReplay (query_value query) words
 IsCommand Check words = words ≡ codes "check" ∷ []
+
+-- Where `--lenient` stands in front of the words, they are that word and these; else they are these.
+abbrev pub IsPlain : Bool → List (List ℕ) → List (List ℕ) → Type 0
+IsPlain true given plain = given ≡ codes "--lenient" ∷ plain
+IsPlain false given plain = (plain ≡ given) × ((more : List (List ℕ)) → given ≢ codes "--lenient" ∷ more)
+
+-- The words are those of the command, with `--lenient` right after the first one exactly where the call is lenient.
+pub record IsCall (call : Call) (words : List (List ℕ)) : Type 0 where
+  pub first : List ℕ
+  pub given : List (List ℕ)
+  pub plain : List (List ℕ)
+  pub spelled : words ≡ first ∷ given
+  pub is_plain : IsPlain call.lenient given plain
+  pub is_command : IsCommand call.command (first ∷ plain)
 
 -- to read the words takes memory: their first is `replay`
 abbrev pub TakeMemory : List (List ℕ) → Type 0

@@ -2,10 +2,12 @@
 //!
 //! `station` is the top call: the program hands it its words, the yard and standard output, and ends with
 //! the status that it answers. It answers two commands: `replay` with a query, its reply on what a router's
-//! stream leaves in its tables, and `check`, how many messages of each type the stream has.
+//! stream leaves in its tables, and `check`, how many messages of each type the stream has. Both read the
+//! stream by the RFCs alone, or with `--lenient` right after the command as routers send it.
 //!
 //! Proved: which status comes, by the words and by what a yard in memory tells; which bytes were written,
-//! by the walk of the bytes that were taken, in whatever pieces they came; that a write fault and a yard's
+//! by the walk of the bytes that were taken, in whatever pieces they came and by the meaning of bodies that the
+//! words ask for; that a write fault and a yard's
 //! fault are answered exactly where one was counted; how many calls of the yard were made; and that the
 //! port is given back as it is.
 //! Begin with `specs/Station.antt`, then `src/top.rt`.
@@ -22,4 +24,4 @@ mod words;
 pub use status::Status;
 pub use take::{MOST_READ, MOST_TAKEN};
 pub use top::station;
-pub use words::{Command, WordsFault, read_words};
+pub use words::{Call, Command, WordsFault, read_words};

@@ -2,7 +2,7 @@ ghost use Rattle.std.specs.Prelude.{◌≡◌, ℕ, [], ◌∷◌, ◌++◌, Lis
 ghost use Rattle.std.specs.String.{string_bytes};
 ghost use Rattle.std.specs.Io.KnownBytes.{append_known};
 ghost use Rattle.bmp_specs.specs.Values.{EntryValue};
-ghost use Rattle.bmp_specs.specs.MessageEffects.{strict};
+ghost use Rattle.bmp_specs.specs.LenientBody.{meaning_of};
 ghost use Rattle.wire_io.specs.Aside.{laid_over};
 ghost use Rattle.wire_io.specs.Faults.{Rose};
 ghost use Rattle.station_doors.specs.Doors.{one_more};
@@ -15,8 +15,8 @@ use crate::account::{Account, Replies};
 use crate::counts::Counts;
 use crate::replay::Replay;
 use crate::take::{Taken, take_input};
-use crate::words::{Command, WordsFault, read_words};
-use bmp_message::{BodyReading, Reading};
+use crate::words::{Call, Command, WordsFault, read_words};
+use bmp_message::{BodyReading, LenientReading, Reading};
 use bmp_specs::Cause;
 use core::mem::replace_with;
 use reply_text::put_stop;
@@ -142,23 +142,41 @@ fn run<A: Account + Drop, R: BodyReading + Drop, Y: Yard, O: Sink>(
     }
 }
 
-// Runs the command.
-fn run_command<Y: Yard, O: Sink>(
+// The same, where bodies are read leniently or by the RFCs alone.
+fn run_by<A: Account + Drop, Y: Yard, O: Sink>(
     alloc: Global,
-    command: Command,
+    lenient: bool,
+    ask: &<A::Told as Replies>::Ask,
     yard: &mut Y,
     out: &mut O,
 ) -> Status
-    requires { MayAsk command }
-    ensures concludes { Concludes strict (IsReplyTo command) (Y.told yard.old) (Y.told yard.new) (Y.calls yard.old) (O.told out.old) (O.told out.new) result }
+    requires { A.Told.may_ask ask.now }
+    ensures concludes { Concludes (meaning_of lenient) (A.Told.replies ask.now) (Y.told yard.old) (Y.told yard.new) (Y.calls yard.old) (O.told out.old) (O.told out.new) result }
     ensures calls { Y.calls yard.new ≡ one_more (Y.calls yard.old) }
     ensures out { AnswersFault (O.faults out.old) (O.faults out.new) result Status.WriteFault }
     ensures yard { AnswersFault (Y.faults yard.old) (Y.faults yard.new) result Status.YardFault }
     ensures aside { O.aside out.new ≡ O.aside out.old }
 {
+    if lenient {
+        run::<A, LenientReading, Y, O>(alloc, ask, yard, out)
+    } else {
+        run::<A, Reading, Y, O>(alloc, ask, yard, out)
+    }
+}
+
+// Runs the command of a call.
+fn run_call<Y: Yard, O: Sink>(alloc: Global, call: Call, yard: &mut Y, out: &mut O) -> Status
+    requires { MayAsk call.command }
+    ensures concludes { Concludes (meaning_of call.lenient) (IsReplyTo call.command) (Y.told yard.old) (Y.told yard.new) (Y.calls yard.old) (O.told out.old) (O.told out.new) result }
+    ensures calls { Y.calls yard.new ≡ one_more (Y.calls yard.old) }
+    ensures out { AnswersFault (O.faults out.old) (O.faults out.new) result Status.WriteFault }
+    ensures yard { AnswersFault (Y.faults yard.old) (Y.faults yard.new) result Status.YardFault }
+    ensures aside { O.aside out.new ≡ O.aside out.old }
+{
+    let Call { command, lenient } = call;
     match command {
-        Command::Replay(query) => run::<Replay, Reading, Y, O>(alloc, &query, yard, out),
-        Command::Check => run::<Counts, Reading, Y, O>(alloc, &(), yard, out),
+        Command::Replay(query) => run_by::<Replay, Y, O>(alloc, lenient, &query, yard, out),
+        Command::Check => run_by::<Counts, Y, O>(alloc, lenient, &(), yard, out),
     }
 }
 
@@ -169,6 +187,9 @@ fn run_command<Y: Yard, O: Sink>(
 /// 2^46 bytes, give the port back, and then write the reply on what the messages of the stream said and the stop
 /// line. The words after `replay`, joined by single spaces, are the query; its reply is on lane 0, on the opening
 /// and the messages, and not on the closing. Other words are usage.
+///
+/// The bodies of the messages are read by the RFCs alone, and where the second word is `--lenient`, as routers send
+/// them (`lenient` of `bmp_specs`).
 pub fn station<Y: Yard, O: Sink>(
     alloc: Global,
     words: &[String],
@@ -176,7 +197,7 @@ pub fn station<Y: Yard, O: Sink>(
     out: &mut O,
 ) -> Status
     // Which status, by the words and what the yard tells; what was written; how many calls of the yard were made.
-    ensures answers { Answers strict (map string_bytes words.now) (Y.told yard.old) (Y.told yard.new) (Y.calls yard.old) (Y.calls yard.new) (O.told out.old) (O.told out.new) result }
+    ensures answers { Answers (map string_bytes words.now) (Y.told yard.old) (Y.told yard.new) (Y.calls yard.old) (Y.calls yard.new) (O.told out.old) (O.told out.new) result }
 
     // A write fault is answered exactly where a write failed, and a yard's fault exactly where the yard failed.
     ensures out { AnswersFault (O.faults out.old) (O.faults out.new) result Status.WriteFault }
@@ -185,7 +206,7 @@ pub fn station<Y: Yard, O: Sink>(
     ensures aside { O.aside out.new ≡ O.aside out.old }
 {
     match read_words(alloc, words) {
-        Ok(command) => run_command(alloc, command, yard, out),
+        Ok(call) => run_call(alloc, call, yard, out),
         Err(WordsFault::Usage) => unless_failed(write_all(out, USAGE.as_bytes()), Status::Usage),
         Err(WordsFault::NoMemory) => Status::NoMemory,
     }

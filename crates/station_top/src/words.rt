@@ -3,14 +3,15 @@ ghost use Rattle.std.specs.List.{join_with_byte};
 ghost use Rattle.std.specs.String.{string_bytes};
 ghost use Rattle.bmp_specs.specs.Query.{QueryValue, quit, space};
 ghost use Rattle.query_lang.specs.Queries.{query_value};
-ghost use Rattle.station_top.specs.Words.{IsAsking, IsCommand, TakeMemory};
+ghost use Rattle.station_top.specs.Words.{IsAsking, IsCall, IsCommand, IsPlain, TakeMemory};
+ghost use Rattle.station_top.specs.declared.words.Call.{Call as AnyCall};
 ghost use Rattle.station_top.specs.declared.words.Command.{Command as AnyCommand};
 
 use query_lang::{Query, parse};
 use std::alloc::Global;
 use thiserror::Error;
 
-/// What the words of a call ask for.
+/// What is asked for.
 #[derive(Clone, Copy)]
 pub enum Command {
     /// `replay` and a query other than `quit`: its reply on what the input leaves.
@@ -18,6 +19,15 @@ pub enum Command {
 
     /// `check`: how many messages of each type the input has.
     Check,
+}
+
+/// What the words of a call ask for.
+#[derive(Clone, Copy)]
+pub struct Call {
+    pub command: Command,
+
+    /// Whether bodies are read leniently, as routers send them, or by the RFCs alone.
+    pub lenient: bool,
 }
 
 /// Why the words give no command.
@@ -42,6 +52,12 @@ fn is_check(word: &str) -> bool
     ensures { IsTrue result ↔ (word.now ≡ codes "check") }
 {
     word == "check"
+}
+
+fn is_lenient(word: &str) -> bool
+    ensures { IsTrue result ↔ (word.now ≡ codes "--lenient") }
+{
+    word == "--lenient"
 }
 
 // The query, where it has a reply.
@@ -80,23 +96,53 @@ fn read_asked(alloc: Global, words: &[String]) -> Result<Query, WordsFault>
     }
 }
 
-/// The command that the words of a call are, which don't hold the program's name. `Usage` exactly where they are none;
-/// after `NoMemory` nothing was read of them but their first, `replay`.
-pub fn read_words(alloc: Global, words: &[String]) -> Result<Command, WordsFault>
-    // The command is the one that the words are.
-    ensures ok { IfOk result (λ command. IsCommand command (map string_bytes words.now)) }
+// The command that a word and those after it are.
+fn read_command(alloc: Global, first: &str, plain: &[String]) -> Result<Command, WordsFault>
+    ensures ok { IfOk result (λ command. IsCommand command (first.now ∷ map string_bytes plain.now)) }
+    ensures usage { result ≡ Err WordsFault.Usage → (command : AnyCommand) → IsCommand command (first.now ∷ map string_bytes plain.now) → ⊥ }
+    ensures memory { result ≡ Err WordsFault.NoMemory → first.now ≡ codes "replay" }
+{
+    if is_replay(first) {
+        return match read_asked(alloc, plain) {
+            Ok(query) => Ok(Command::Replay(query)),
+            Err(fault) => Err(fault),
+        };
+    }
+    if is_check(first) && plain.is_empty() {
+        return Ok(Command::Check);
+    }
+    Err(WordsFault::Usage)
+}
+
+// Whether `--lenient` stands in front of the words, and the words without it.
+fn split_lenient(given: &[String]) -> (bool, &[String])
+    ensures { IsPlain result.0 (map string_bytes given.now) (map string_bytes result.1.now) }
+{
+    match given {
+        [word, plain @ ..] if is_lenient(word.as_str()) => (true, plain),
+        _ => (false, given),
+    }
+}
+
+/// What the words of a call ask for, which don't hold the program's name. `Usage` exactly where they are no command;
+/// after `NoMemory` nothing was read of them but `replay`, which is their first, and a `--lenient` right after it.
+pub fn read_words(alloc: Global, words: &[String]) -> Result<Call, WordsFault>
+    // The call is the one that the words are.
+    ensures ok { IfOk result (λ call. IsCall call (map string_bytes words.now)) }
 
     // They are no command.
-    ensures usage { result ≡ Err WordsFault.Usage → (command : AnyCommand) → IsCommand command (map string_bytes words.now) → ⊥ }
+    ensures usage { result ≡ Err WordsFault.Usage → (call : AnyCall) → IsCall call (map string_bytes words.now) → ⊥ }
 
     ensures memory { result ≡ Err WordsFault.NoMemory → TakeMemory (map string_bytes words.now) }
 {
     match words {
-        [word] if is_check(word.as_str()) => Ok(Command::Check),
-        [word, asked @ ..] if is_replay(word.as_str()) => match read_asked(alloc, asked) {
-            Ok(query) => Ok(Command::Replay(query)),
-            Err(fault) => Err(fault),
-        },
-        _ => Err(WordsFault::Usage),
+        [first, given @ ..] => {
+            let (lenient, plain) = split_lenient(given);
+            match read_command(alloc, first.as_str(), plain) {
+                Ok(command) => Ok(Call { command, lenient }),
+                Err(fault) => Err(fault),
+            }
+        }
+        [] => Err(WordsFault::Usage),
     }
 }

@@ -1,18 +1,17 @@
 use Rattle.std.proofs.Common.{◌≡◌, [], Err, map, refl, inl, ap}
 use Rattle.std.specs.String.{string_bytes}
 use Rattle.bmp_specs.specs.Lines.{usage_line}
-use Rattle.bmp_specs.specs.MessageEffects.{strict}
 use Rattle.wire_io.proofs.Joins.{appends_none}
 use Rattle.station_top.specs.Station.{usage, unread}
 use Rattle.station_top.specs.declared.status.Status.TheVariants.{Usage, NoMemory}
-use Rattle.station_top.proofs.Concluding.{answers_commanded, is_written}
+use Rattle.station_top.proofs.Concluding.{answers_called, is_written}
 use Rattle.station_top.proofs.top.station.Goals as goal
 
 pub returns-in-Ok-clause-answers : goal.returns-in-Ok-clause-answers
 returns-in-Ok-clause-answers g c =
-    let after = c.run_command.new in
-    answers_commanded strict c.in-Ok.command (map string_bytes c.args.words.now) (g.Y.Yard.told c.args.yard.now) (g.Y.Yard.told after.yard) (g.Y.Yard.calls c.args.yard.now) (g.Y.Yard.calls after.yard) (g.O.Sink.told c.args.out.now) (g.O.Sink.told after.out) c.run_command.result
-    c.in-Ok.ensures.ok c.run_command.ensures.calls c.run_command.ensures.concludes
+    let after = c.run_call.new in
+    answers_called c.in-Ok.call (map string_bytes c.args.words.now) (g.Y.Yard.told c.args.yard.now) (g.Y.Yard.told after.yard) (g.Y.Yard.calls c.args.yard.now) (g.Y.Yard.calls after.yard) (g.O.Sink.told c.args.out.now) (g.O.Sink.told after.out) c.run_call.result
+    c.in-Ok.ensures.ok c.run_call.ensures.calls c.run_call.ensures.concludes
 
 pub returns-in-Err-Usage-clause-answers : goal.returns-in-Err-Usage-clause-answers
 returns-in-Err-Usage-clause-answers g c =

@@ -1,4 +1,3 @@
-use Rattle.query_lang.specs.Queries.{query_value}
 use Rattle.station_top.proofs.Commands.{asks_reply, asks_other}
 use Rattle.station_top.proofs.words.read_query.Goals as goal
 
