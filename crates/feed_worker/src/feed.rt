@@ -58,8 +58,8 @@ fn serve_connection<B: BodyReading + Drop, P: Port + Drop, J: Naming, R: Wait>(
 }
 
 /// Serves up to so many connections of the port, one after another: takes each as `B` reads it, publishes its opening,
-/// its messages and its closing, and closes it. `Over` exactly where as many were served, or `next_connection` then gave
-/// no further one: there was none, or it failed. After want of memory the pass published a beginning of the last
+/// its messages and its closing, and closes it. `Over` exactly where as many were served, or `next_connection` then
+/// gave no further one: there was none, or it failed. After want of memory the pass published a beginning of the last
 /// connection's life, which is closed too, and no further one is opened.
 pub fn serve_feed<B: BodyReading + Drop, P: Port + Drop, J: Naming, R: Wait>(
     rt: &R,
