@@ -1,0 +1,66 @@
+-- A connection that was taken is closed.
+use Rattle.std.proofs.Common.{◌≡◌, ℕ, ◌+◌, ◌*◌, ◌<◌, ◌≤◌, ◌^◌, List, [], ◌∷◌, ◌++◌, length, Result, Ok, Err, Some, None, Option, refl, sym, ap, subst, append-nil, append_assoc, arith, length-append}
+use Rattle.std.specs.Prelude.{MatchResult}
+use Rattle.bmp_specs.specs.declared.causes.Cause.{Cause}
+use Rattle.bmp_specs.specs.Meaning.{Meaning}
+use Rattle.bmp_specs.specs.Values.{EntryValue, opened, closed}
+use Rattle.cut_publisher.specs.History.{Fed}
+use Rattle.rib_model.specs.declared.entry.Entry.{Entry}
+use Rattle.station_doors.specs.Doors.{Closes, GivesNext, Opens}
+use Rattle.wire_io.specs.Aside.{Aside, Given, fresh}
+use Rattle.feed_worker.specs.Connection.{EndsFresh, IsNew, TakesConnection, BreaksConnection}
+use Rattle.feed_worker.specs.Feed.{Concludes, IsBegunOf, IsLifeOf, opened_one}
+use Rattle.feed_worker.specs.Publishing.{Grows}
+use Rattle.feed_worker.proofs.Growing.{grows_then, grows_count}
+use Rattle.feed_worker.proofs.Lengths.{few_messages}
+
+-- both answers of a call
+pub both_answers : {A E : Type 0} {P Q : A → Type 0} {R S : E → Type 0} (r : Result A E) → MatchResult r P R → ((a : A) → P a → Q a) → ((e : E) → R e → S e) → MatchResult r Q S
+both_answers (Ok a) m f h = f a m
+both_answers (Err e) m f h = h e m
+
+-- a connection that was opened
+opened_fresh : (a b : Option (List Given)) → GivesNext a b opened_one → EndsFresh b
+opened_fresh None b p = subst EndsFresh (sym p) tt
+opened_fresh (Some gs) b p = subst EndsFresh (sym p) (gs, refl)
+
+pub is_new : (a b : Aside) → Opens a b opened_one → IsNew b
+is_new a b o = record { is_open = o.is_open; none = o.taken; fresh = opened_fresh a.given b.given o.given }
+
+module _ (meaning : Meaning) (a b : Aside) (pass0 pass : Fed Entry) (cause : Cause) (t : TakesConnection meaning a b pass0 pass cause) where
+  -- there is room for the closing
+  pub closing_fits : length pass0.entries + 2 ^ 44 ≤ 2 ^ 57 → length pass.entries < 2 ^ 57
+  closing_fits room = omega (arith, room, grows_count pass0 pass (opened ∷ t.messages) t.grows, few_messages meaning t.input.bytes t.messages t.come.offset t.come.verdict t.come.walk, t.come.within)
+
+  pub concludes : (c : Aside) (new : Fed Entry) → Closes b c → Grows pass new (closed cause ∷ []) → Concludes meaning (IsLifeOf meaning) a c pass0 new
+  concludes c new shut grows = record {
+    taken = b;
+    input = t.input;
+    entries = opened ∷ (t.messages ++ closed cause ∷ []);
+    takes = t.took;
+    closes = shut;
+    is_of = record { messages = t.messages; offset = t.come.offset; verdict = t.come.verdict; cause = cause; within = t.come.within; walk = t.come.walk; because = t.come.because; is = refl };
+    grows = grows_then pass0 pass new (opened ∷ t.messages) (closed cause ∷ []) t.grows grows;
+  }
+
+  -- the closing wasn't published
+  pub concludes_unclosed : (c : Aside) (new : Fed Entry) → Closes b c → new ≡ pass → Concludes meaning (IsBegunOf meaning) a c pass0 new
+  concludes_unclosed c new shut same = record {
+    taken = b;
+    input = t.input;
+    entries = opened ∷ t.messages;
+    takes = t.took;
+    closes = shut;
+    is_of = record {
+      front = t.input.bytes;
+      piece = [];
+      split = sym (append-nil t.input.bytes);
+      short = omega arith;
+      after = [];
+      life = record { messages = t.messages; offset = t.come.offset; verdict = t.come.verdict; within = t.come.within; walk = t.come.walk; is = append-nil (opened ∷ t.messages) };
+    };
+    grows = subst (λ (p : Fed Entry). Grows pass0 p (opened ∷ t.messages)) (sym same) t.grows;
+  }
+
+pub concludes_broken : (meaning : Meaning) (a b c : Aside) (pass0 pass : Fed Entry) → BreaksConnection meaning a b pass0 pass → Closes b c → Concludes meaning (IsBegunOf meaning) a c pass0 pass
+concludes_broken meaning a b c pass0 pass t shut = record { taken = b; input = t.input; entries = t.entries; takes = t.took; closes = shut; is_of = t.begun; grows = t.grows }

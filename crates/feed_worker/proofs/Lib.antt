@@ -1,0 +1,10 @@
+pub mod Fronts
+pub mod Growing
+pub mod Lengths
+pub mod Gathering
+pub mod Ports
+pub mod Causes
+pub mod Taking
+pub mod Concluding
+pub mod Serving
+pub mod GivenConnections

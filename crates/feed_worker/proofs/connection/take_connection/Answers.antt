@@ -1,0 +1,91 @@
+use Rattle.std.proofs.Common.{rules, ◌≡◌, ◌<◌, ◌≤◌, ◌+◌, ◌++◌, refl, length, take, drop, length-append, length-drop, length-take, arith}
+use Rattle.std.proofs.lemmas.List.{take-append-le}
+use Rattle.feed_worker.specs.Connection.{BreaksConnection}
+use Rattle.feed_worker.proofs.Taking.{taking_none, taking_more, is_published, ends, ends_early, faults, fills, breaks, breaks_none}
+use Rattle.feed_worker.proofs.connection.take_connection.Goals as goal
+
+pub returns-in_err-publish_entries : goal.returns-in_err-publish_entries
+returns-in_err-publish_entries g c =
+    let none : BreaksConnection g.B.BodyReading.meaning (g.P.Port.aside c.args.port.now) (g.P.Port.aside c.args.port.now) c.args.pass.now c.publish_entries.new.pass =
+    breaks_none g.B.BodyReading.meaning (g.P.Port.aside c.args.port.now) c.args.pass.now c.publish_entries.new.pass c.requires.new c.in_err-publish_entries.ensures in
+    search rules
+
+pub loop-taken-init : goal.loop-taken-init
+loop-taken-init g c = record {
+  taking = taking_none g.B.BodyReading.meaning g.B.BodyReading.state (g.P.Port.aside c.args.port.now) c.args.pass.now c.publish_entries.new.pass c.new-walk.result c.requires.new c.in_ok-publish_entries.ensures c.new-walk.ensures.run c.new-walk.ensures.start;
+  within = omega arith;
+  room = refl;
+}
+
+pub read-requires-clause-published : goal.read-requires-clause-published
+read-requires-clause-published g c = is_published g.B.BodyReading.meaning g.B.BodyReading.state _ _ _ _ _ _ c.loop-taken.invariant.taking c.requires.new
+
+pub returns-in-Ok-eq0 : goal.returns-in-Ok-eq0
+returns-in-Ok-eq0 g c =
+    let l = c.loop-taken in
+    let some : 0 < length c.read.new.buf = omega (arith, length-take c.min-size.result l.buf) in
+    ends g.B.BodyReading.meaning g.B.BodyReading.state _ _ _ _ l.taken l.walk l.invariant.taking _ c.read.new.buf _ (rw c.in-Ok-eq0.field-0-test at c.in-Ok-eq0.ensures.reads) some c.loop-taken-test.true c.cause_of_end.ensures
+
+pub returns-in-Err : goal.returns-in-Err
+returns-in-Err g c =
+    let l = c.loop-taken in
+    faults g.B.BodyReading.meaning g.B.BodyReading.state _ _ _ _ l.taken l.walk l.invariant.taking _ c.read.new.buf _ _ _ c.in-Err.ensures.reads c.in-Err.ensures.planned c.loop-taken-test.true
+
+pub returns : goal.returns
+returns g c =
+    let l = c.loop-taken in
+    fills g.B.BodyReading.meaning g.B.BodyReading.state _ _ _ _ l.taken l.walk l.invariant.taking (omega (arith, l.invariant.within))
+
+pub returns-in_err-cause-in-Ok : goal.returns-in_err-cause-in-Ok
+returns-in_err-cause-in-Ok g c =
+    let l = c.loop-taken in
+    let m = c.in-Ok.count in
+    let buf = c.read.new.buf in
+    let within : m ≤ length buf = omega (arith, c.in-Ok.ensures.bound.0) in
+    let size : m ≤ 65536 = omega (arith, within, length-take c.min-size.result l.buf) in
+    let room : l.taken + m ≤ 70368744177664 = omega (arith, within, length-take c.min-size.result l.buf) in
+    let begun : BreaksConnection g.B.BodyReading.meaning (g.P.Port.aside c.args.port.now) (g.P.Port.aside c.read.new.self) c.args.pass.now c.publish_piece.new.pass =
+    breaks g.B.BodyReading.meaning g.B.BodyReading.state _ _ _ _ l.taken l.walk l.invariant.taking _ m buf c.in-Ok.ensures.reads c.in-Ok.count-test.1 within size room c.publish_piece.new.pass c.in_err-cause-in-Ok.ensures in
+    search rules
+
+pub returns-in-Some : goal.returns-in-Some
+returns-in-Some g c =
+    let l = c.loop-taken in
+    let m = c.in-Ok.count in
+    let buf = c.read.new.buf in
+    let within : m ≤ length buf = omega (arith, c.in-Ok.ensures.bound.0) in
+    let size : m ≤ 65536 = omega (arith, within, length-take c.min-size.result l.buf) in
+    let room : l.taken + m ≤ 70368744177664 = omega (arith, within, length-take c.min-size.result l.buf) in
+    let piece : take m (buf ++ drop c.min-size.result l.buf) ≡ take m buf = take-append-le m buf (drop c.min-size.result l.buf) within in
+    let t = l.invariant.taking in
+    let published = rw (piece, c.in-Some.is) at c.in_ok-cause-in-Ok.ensures in
+    ends_early g.B.BodyReading.meaning g.B.BodyReading.state _ _ _ _ l.taken l.walk t _ m buf c.in-Ok.ensures.reads c.in-Ok.count-test.1 within size room c.publish_piece.new.pass c.publish_piece.new.walk c.in-Some.cause (published c.args.pass.now t.bytes t.published)
+
+pub loop-taken-preserved : goal.loop-taken-preserved
+loop-taken-preserved g c =
+    let l = c.loop-taken in
+    let m = c.in-Ok.count in
+    let buf = c.read.new.buf in
+    let within : m ≤ length buf = omega (arith, c.in-Ok.ensures.bound.0) in
+    let size : m ≤ 65536 = omega (arith, within, length-take c.min-size.result l.buf) in
+    let room : l.taken + m ≤ 70368744177664 = omega (arith, within, length-take c.min-size.result l.buf) in
+    let piece : take m (buf ++ drop c.min-size.result l.buf) ≡ take m buf = take-append-le m buf (drop c.min-size.result l.buf) within in
+    let t = l.invariant.taking in
+    let published = rw (piece, c.in_default.is) at c.in_ok-cause-in-Ok.ensures in
+    record {
+      taking = taking_more g.B.BodyReading.meaning g.B.BodyReading.state _ _ _ _ l.taken l.walk t _ m buf c.in-Ok.ensures.reads c.in-Ok.count-test.1 within size room c.publish_piece.new.pass c.publish_piece.new.walk (published c.args.pass.now t.bytes t.published);
+      within = room;
+      room = omega (arith, length-append buf (drop c.min-size.result l.buf), length-take c.min-size.result l.buf, length-drop c.min-size.result l.buf, l.invariant.room);
+    }
+
+pub slice_bounds-buf-end-in-Ok : goal.slice_bounds-buf-end-in-Ok
+slice_bounds-buf-end-in-Ok g c =
+    let within : c.in-Ok.count ≤ length c.read.new.buf = omega (arith, c.in-Ok.ensures.bound.0) in
+    omega (arith, within, length-append c.read.new.buf (drop c.min-size.result c.loop-taken.buf))
+
+pub slice_bounds-piece-end : goal.slice_bounds-piece-end
+slice_bounds-piece-end g c =
+    let buf = c.read.new.buf in
+    let rest = drop c.min-size.result c.loop-taken.buf in
+    let within : c.in-Ok.count ≤ length buf = omega (arith, c.in-Ok.ensures.bound.0) in
+    omega (arith, within, length-append buf rest, length-take c.in-Ok.count (buf ++ rest))

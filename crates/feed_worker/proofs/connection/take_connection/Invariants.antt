@@ -1,0 +1,13 @@
+use Rattle.std.proofs.Common.{◌≡◌, ◌-◌, ◌≤◌, length}
+use Rattle.feed_worker.proofs.Taking.{Taking}
+use Rattle.feed_worker.proofs.connection.take_connection.Given as goal
+
+abbrev pub invariant-loop-taken : goal.invariant-loop-taken
+invariant-loop-taken g l = record {
+  taking : Taking g.B.BodyReading.meaning g.B.BodyReading.state (g.P.Port.aside l.initial.port) (g.P.Port.aside l.port) l.fn.pass l.pass l.taken l.walk;
+  within : l.taken ≤ 70368744177664;
+  room : length l.buf ≡ 65536;
+}
+
+abbrev pub decreases-loop-taken : goal.decreases-loop-taken
+decreases-loop-taken g l = 70368744177664 - l.taken

@@ -1,0 +1,12 @@
+use Rattle.std.proofs.Common.{◌≤◌, ◌-◌}
+use Rattle.feed_worker.proofs.Serving.{ServesSoMany}
+use Rattle.feed_worker.proofs.feed.serve_feed.Given as goal
+
+abbrev pub invariant-loop-served : goal.invariant-loop-served
+invariant-loop-served g l = record {
+  serves : ServesSoMany g.B.BodyReading.meaning (g.P.Port.aside l.fn.port) (g.P.Port.aside l.port) l.fn.pass l.pass l.served;
+  most : l.served ≤ l.rounds;
+}
+
+abbrev pub decreases-loop-served : goal.decreases-loop-served
+decreases-loop-served g l = l.rounds - l.served

@@ -1,0 +1,99 @@
+-- One connection of a router: what is taken of it, and what the lane publishes of that.
+use Rattle.std.specs.Prelude.{◌≡◌, IsTrue, ℕ, ◌≤◌, ◌==◌, List, [], ◌∷◌, ◌++◌, Option, None, Some, IfSome, length, if◌then◌else◌}
+use Rattle.std.specs.Io.KnownBytes.{Consumes, IsAtEnd}
+use Rattle.bmp_specs.specs.declared.causes.Cause.{Cause}
+use Rattle.bmp_specs.specs.declared.causes.Cause.TheVariants.{Ended, CutShort}
+use Rattle.bmp_specs.specs.Life.{LastRead, gave, gave_none, failed, most_taken, most_read, IsCause, IsOpenLife, IsReadNoFurther}
+use Rattle.bmp_specs.specs.Meaning.{Meaning, WalksBy}
+use Rattle.bmp_specs.specs.Values.{EntryValue, opened}
+use Rattle.bmp_specs.specs.Walk.{Verdict}
+use Rattle.cut_publisher.specs.History.{Fed}
+use Rattle.rib_model.specs.declared.entry.Entry.{Entry}
+use Rattle.station_doors.specs.Doors.{given_more}
+use Rattle.wire_io.specs.Aside.{Aside, Given, fresh}
+use Rattle.wire_io.specs.Faults.{Rose}
+use Rattle.feed_worker.specs.Publishing.{Grows}
+
+-- where the connections given are told, the last of them gave nothing yet
+abbrev pub EndsFresh : Option (List Given) → Type 0
+EndsFresh None = Unit {0}
+EndsFresh (Some given) = (earlier : List Given) × (given ≡ earlier ++ fresh ∷ [])
+
+-- the present connection is open, and no byte of it was given yet
+pub record IsNew (a : Aside) : Type 0 where
+  pub is_open : IsTrue a.is_open
+  pub none : a.taken ≡ 0
+  pub fresh : EndsFresh a.given
+
+-- the present connection gave these bytes more, and its last read went so
+abbrev pub GivesMore : Option (List Given) → Option (List Given) → List ℕ → LastRead → Type 0
+GivesMore None new bytes last = new ≡ None
+GivesMore (Some old) new bytes last = new ≡ Some (given_more old bytes last)
+
+-- the count of faults before the reads of a connection and after them, where the last one went so
+abbrev pub CountsLast : ℕ → ℕ → LastRead → Type 0
+CountsLast before now gave = now ≡ before
+CountsLast before now gave_none = now ≡ before
+CountsLast before now failed = Rose before now
+
+-- What the reads of a connection do to its port: they gave these bytes, and the last one went so. The connection was
+-- read no further than its walk goes: what was taken before the last read doesn't decide it. A read gave nothing only
+-- at the end, and failed only where the plan has a call that fails.
+pub record TakesBytes (meaning : Meaning) (old new : Aside) (input : Given) : Type 0 where
+  pub plan : new.plan ≡ old.plan
+  pub coming : new.coming ≡ old.coming
+  pub rest : Consumes old.rest new.rest input.bytes
+  pub given : GivesMore old.given new.given input.bytes input.last
+  pub opened : new.opened ≡ old.opened
+  pub closed : new.closed ≡ old.closed
+  pub is_open : IsTrue new.is_open
+  pub taken : new.taken ≡ length input.bytes
+  pub refused : new.refused ≡ old.refused
+  pub within : length input.bytes ≤ most_taken
+  pub no_further : IsReadNoFurther meaning input.bytes
+  pub end : input.last ≡ gave_none → IsAtEnd new.rest
+  pub planned : input.last ≡ failed → IfSome old.plan (λ plan. plan.fails ≡ [] → ⊥)
+  pub open_faults : new.open_faults ≡ old.open_faults
+  pub read_faults : CountsLast old.read_faults new.read_faults input.last
+
+-- by this meaning of bodies the walk of the bytes that were taken has these messages, and this is the cause of the
+-- connection's end
+pub record HasCome (meaning : Meaning) (input : Given) (messages : List EntryValue) (cause : Cause) : Type 0 where
+  pub offset : ℕ
+  pub verdict : Verdict
+  pub within : length input.bytes ≤ most_taken
+  pub walk : WalksBy meaning input.bytes messages offset verdict
+  pub because : IsCause (length input.bytes) input.last verdict offset cause
+
+-- the cause of a connection that ended with so many bytes behind its messages
+abbrev pub cause_at_end : ℕ → ℕ → Cause
+cause_at_end rest offset = if rest == 0 then Ended else CutShort offset
+
+-- The present connection was taken to its end, for this cause: its opening and all messages of what it gave were
+-- published, and nothing else.
+pub record TakesConnection (meaning : Meaning) (old new : Aside) (pass pass' : Fed Entry) (cause : Cause) : Type 0 where
+  pub input : Given
+  pub messages : List EntryValue
+  pub took : TakesBytes meaning old new input
+  pub come : HasCome meaning input messages cause
+  pub grows : Grows pass pass' (opened ∷ messages)
+
+-- A beginning of a life: the first entries of the opening and the messages of a front of these bytes. What stands behind
+-- that front, one read gave.
+pub record IsBegun (meaning : Meaning) (bytes : List ℕ) (entries : List EntryValue) : Type 0 where
+  pub front : List ℕ
+  pub piece : List ℕ
+  pub split : bytes ≡ front ++ piece
+  pub short : length piece ≤ most_read
+  pub after : List EntryValue
+  pub life : IsOpenLife meaning front (entries ++ after)
+
+-- Want of memory came as the present connection was taken: a beginning of its opening and messages was published. No
+-- read had failed or told the end.
+pub record BreaksConnection (meaning : Meaning) (old new : Aside) (pass pass' : Fed Entry) : Type 0 where
+  pub input : Given
+  pub entries : List EntryValue
+  pub took : TakesBytes meaning old new input
+  pub going : input.last ≡ gave
+  pub begun : IsBegun meaning input.bytes entries
+  pub grows : Grows pass pass' entries

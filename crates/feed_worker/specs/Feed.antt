@@ -1,0 +1,107 @@
+-- The connections of a lane, one after another.
+use Rattle.std.specs.Prelude.{◌≡◌, ℕ, ◌<◌, Bool, List, [], ◌∷◌, ◌++◌, length, map, MatchBool, nat_lt, Option, Some, IfSome, OnErr, Result, Ok, Err, true, false}
+use Rattle.bmp_specs.specs.Life.{IsLife}
+use Rattle.bmp_specs.specs.Meaning.{Meaning}
+use Rattle.bmp_specs.specs.Values.{EntryValue}
+use Rattle.cut_publisher.specs.History.{Fed}
+use Rattle.rib_model.specs.declared.entry.Entry.{Entry}
+use Rattle.station_doors.specs.Doors.{Opens, Closes}
+use Rattle.wire_io.specs.Aside.{Aside, Given}
+use Rattle.wire_io.specs.declared.sink.Failed.{Failed}
+use Rattle.feed_worker.specs.Connection.{TakesBytes, IsBegun}
+use Rattle.feed_worker.specs.Publishing.{Grows}
+use Rattle.feed_worker.specs.declared.feed.LaneEnd.{LaneEnd}
+use Rattle.feed_worker.specs.declared.feed.LaneEnd.TheVariants.{Over, NoMemory}
+
+-- one connection: what the port told when it was opened, taken and closed; what it gave; and what was published of it
+pub record Connection : Type 0 where
+  pub opened : Aside
+  pub taken : Aside
+  pub closed : Aside
+  pub input : Given
+  pub life : List EntryValue
+
+abbrev pub input_of : Connection → Given
+input_of c = c.input
+
+-- what was published of these connections, in order
+abbrev pub lives_of : List Connection → List EntryValue
+lives_of [] = []
+lives_of (c ∷ cs) = c.life ++ lives_of cs
+
+abbrev pub opened_one : Result Bool Failed
+opened_one = Ok true
+
+-- the port opened a connection, gave bytes of it, and closed it
+pub record Visits (meaning : Meaning) (old : Aside) (c : Connection) : Type 0 where
+  pub opens : Opens old c.opened opened_one
+  pub takes : TakesBytes meaning c.opened c.taken c.input
+  pub closes : Closes c.taken c.closed
+
+-- one connection after another, each with its whole life
+abbrev pub Serves : Meaning → Aside → Aside → List Connection → Type 0
+Serves meaning old new [] = new ≡ old
+Serves meaning old new (c ∷ cs) = Visits meaning old c × IsLife meaning c.input.bytes c.input.last c.life × Serves meaning c.closed new cs
+
+-- the result of `next_connection` that gave no connection: there was none, or it failed
+abbrev pub IsRefusal : Result Bool Failed → Type 0
+IsRefusal (Ok true) = ⊥
+IsRefusal (Ok false) = Unit {0}
+IsRefusal (Err failed) = Unit {0}
+
+-- A call of `next_connection` gave no connection. It failed only where the plan has a call that fails.
+pub record Refuses (old new : Aside) : Type 0 where
+  pub result : Result Bool Failed
+  pub refused : IsRefusal result
+  pub opens : Opens old new result
+  pub planned : IfSome old.plan (λ plan. OnErr result (plan.fails ≡ [] → ⊥))
+
+-- The present connection, of which nothing was read yet, was read, and then closed. Of the entries that the pass
+-- published of it this holds.
+pub record Concludes (meaning : Meaning) (IsOf : Given → List EntryValue → Type 0) (old new : Aside) (pass pass' : Fed Entry) : Type 0 where
+  pub taken : Aside
+  pub input : Given
+  pub entries : List EntryValue
+  pub takes : TakesBytes meaning old taken input
+  pub closes : Closes taken new
+  pub is_of : IsOf input entries
+  pub grows : Grows pass pass' entries
+
+-- the entries are the life of the connection that gave this, or a beginning of it
+abbrev pub IsLifeOf : Meaning → Given → List EntryValue → Type 0
+IsLifeOf meaning input entries = IsLife meaning input.bytes input.last entries
+
+abbrev pub IsBegunOf : Meaning → Given → List EntryValue → Type 0
+IsBegunOf meaning input entries = IsBegun meaning input.bytes entries
+
+-- Up to so many connections were served, each with its whole life: as many, or fewer, where `next_connection` then gave
+-- no connection.
+pub record ServesAll (meaning : Meaning) (rounds : ℕ) (old new : Aside) (pass pass' : Fed Entry) : Type 0 where
+  pub connections : List Connection
+  pub after : Aside
+  pub serves : Serves meaning old after connections
+  pub grows : Grows pass pass' (lives_of connections)
+  pub stop : MatchBool (nat_lt (length connections) rounds) (Refuses after new) ((length connections ≡ rounds) × (new ≡ after))
+
+-- Want of memory came in the last of the connections, of whose life a beginning was published. It was closed, and no
+-- further one was opened.
+pub record ServesSome (meaning : Meaning) (rounds : ℕ) (old new : Aside) (pass pass' : Fed Entry) : Type 0 where
+  pub connections : List Connection
+  pub after : Aside
+  pub serves : Serves meaning old after connections
+  pub few : length connections < rounds
+  pub last : Connection
+  pub visits : Visits meaning after last
+  pub begun : IsBegun meaning last.input.bytes last.life
+  pub closed : new ≡ last.closed
+  pub grows : Grows pass pass' (lives_of connections ++ last.life)
+
+-- how the work of a lane ended
+abbrev pub ServesFeed : Meaning → ℕ → Aside → Aside → Fed Entry → Fed Entry → LaneEnd → Type 0
+ServesFeed meaning rounds old new pass pass' Over = ServesAll meaning rounds old new pass pass'
+ServesFeed meaning rounds old new pass pass' NoMemory = ServesSome meaning rounds old new pass pass'
+
+-- A port that tells the connections that it gave tells what was read of each that was served.
+abbrev pub PortsTellConnections : Meaning → Type 0
+PortsTellConnections meaning = (connections : List Connection) (old new : Aside) (given : List Given)
+    → Serves meaning old new connections → old.given ≡ Some given → new.given ≡ Some (given ++ map input_of connections)

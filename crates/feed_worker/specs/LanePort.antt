@@ -1,0 +1,26 @@
+-- When a lane may be given more bytes: nothing whole is unpublished.
+use Rattle.std.specs.Prelude.{◌≡◌, ℕ, List, [], ◌∷◌, ◌++◌, Option, None, Some}
+use Rattle.bmp_specs.specs.Meaning.{Meaning, WalksBy}
+use Rattle.bmp_specs.specs.Values.{EntryValue, opened}
+use Rattle.bmp_specs.specs.Walk.{Verdict}
+use Rattle.wire_io.specs.Aside.{Given}
+
+-- by this meaning of bodies the entries since the last opening are exactly the messages of these bytes
+pub record IsPublished (meaning : Meaning) (entries : List EntryValue) (bytes : List ℕ) : Type 0 where
+  pub before : List EntryValue
+  pub messages : List EntryValue
+  pub offset : ℕ
+  pub verdict : Verdict
+  pub walk : WalksBy meaning bytes messages offset verdict
+  pub is : entries ≡ before ++ opened ∷ messages
+
+-- the bytes that the present connection gave
+abbrev pub present_of : List Given → List ℕ
+present_of [] = []
+present_of (g ∷ []) = g.bytes
+present_of (g ∷ h ∷ gs) = present_of (h ∷ gs)
+
+-- the same where the connections given are told
+abbrev pub IsPublishedWhereTold : Meaning → List EntryValue → Option (List Given) → Type 0
+IsPublishedWhereTold meaning entries None = Unit {0}
+IsPublishedWhereTold meaning entries (Some given) = IsPublished meaning entries (present_of given)

@@ -1,0 +1,108 @@
+//! One connection of a router, taken read by read.
+ghost use Rattle.std.specs.Prelude.{◌≡◌, ◌+◌, ◌<◌, ◌≤◌, ◌^◌, ◌∷◌, [], IsTrue, length, MatchResult};
+ghost use Rattle.bmp_specs.specs.Values.{closed};
+ghost use Rattle.bmp_message.specs.StreamWalk.{rest_of};
+ghost use Rattle.station_doors.specs.Doors.{Closes};
+ghost use Rattle.feed_worker.specs.Connection.{IsNew, TakesConnection, BreaksConnection, cause_at_end};
+ghost use Rattle.feed_worker.specs.Publishing.{Grows};
+
+use crate::lane_port::LanePort;
+use crate::publishing::{publish_entries, publish_piece};
+use bmp_message::{BodyReading, StreamWalk};
+use bmp_specs::Cause;
+use cut_publisher::{FeedPass, Naming, Publisher};
+use rib_model::Entry;
+use router_tables::RouterTables;
+use station_doors::Port;
+use std::alloc::Global;
+use std::sync::Wait;
+use wire_io::NoMemory;
+
+/// The most bytes that are taken of one connection, 2^46.
+const MOST_TAKEN: u64 = 0x4000_0000_0000;
+
+/// The most bytes that one read gives.
+const MOST_READ: u64 = 65536;
+
+/// Takes the present connection of the port, of which no byte was given, to its end, and tells why it ended. The pass
+/// publishes its opening, and then its messages as `B` reads them, those of one read in one step. The closing is left
+/// to `close_connection`.
+///
+/// | Cause | Exactly where |
+/// |---|---|
+/// | `Terminated` | a Termination Message was taken (RFC 7854, section 4.5) |
+/// | `Broken` | what stands at the offset is no message, for that reason |
+/// | `Full` | 2^46 bytes were taken |
+/// | `Ended` | the input ended behind a message |
+/// | `CutShort` | the input ended inside the message at the offset |
+/// | `ReadFault` | a read failed; the offset is the number of bytes taken |
+///
+/// Where several fit, it is the first. A connection that ends for one of the first two reasons is read no further than
+/// the read that brought it. After want of memory the pass published a beginning of these entries, and the connection
+/// is still open.
+pub fn take_connection<B: BodyReading + Drop, P: Port + Drop, J: Naming, R: Wait>(
+    rt: &R,
+    alloc: Global,
+    publisher: &Publisher<RouterTables, J>,
+    pass: &mut FeedPass<RouterTables>,
+    port: &mut LanePort<P>,
+) -> Result<Cause, NoMemory>
+    requires station { pass.old.station ≡ J.site }
+    requires room { length pass.old.entries + 2 ^ 44 ≤ 2 ^ 57 }
+    requires new { IsNew (P.aside port.old) }
+    ensures { MatchResult result (TakesConnection B.meaning (P.aside port.old) (P.aside port.new) pass.old pass.new) (λ _. BreaksConnection B.meaning (P.aside port.old) (P.aside port.new) pass.old pass.new) }
+{
+    publish_entries(rt, alloc, publisher, pass, &[Entry::Opened])?;
+    let mut walk = StreamWalk::<B>::new(alloc);
+    let mut buf = [0u8; MOST_READ as usize];
+    let mut taken = 0;
+    while taken < MOST_TAKEN {
+        let size = MOST_READ.min(MOST_TAKEN - taken) as usize;
+        match port.read::<B>(pass, &mut buf[..size]) {
+            Ok(0) => return Ok(cause_of_end(&walk)),
+            Ok(count) => {
+                taken += count as u64;
+                let piece = &buf[..count];
+                if let Some(cause) = publish_piece(rt, alloc, publisher, pass, &mut walk, piece)? {
+                    return Ok(cause);
+                }
+            }
+            Err(_) => return Ok(Cause::ReadFault { offset: taken }),
+        }
+    }
+    Ok(Cause::Full)
+}
+
+/// Why a connection ended of which nothing more came.
+fn cause_of_end<B: BodyReading>(walk: &StreamWalk<B>) -> Cause
+    ensures { result ≡ cause_at_end (rest_of walk.now) walk.now.offset }
+{
+    if walk.rest() == 0 {
+        Cause::Ended
+    } else {
+        Cause::CutShort {
+            offset: walk.offset(),
+        }
+    }
+}
+
+/// Closes the present connection, and publishes that it closed and why. After want of memory it is closed, and the pass
+/// is as before.
+pub fn close_connection<P: Port + Drop, J: Naming, R: Wait>(
+    rt: &R,
+    alloc: Global,
+    publisher: &Publisher<RouterTables, J>,
+    pass: &mut FeedPass<RouterTables>,
+    port: &mut LanePort<P>,
+    cause: Cause,
+) -> Result<(), NoMemory>
+    requires station { pass.old.station ≡ J.site }
+    requires room { length pass.old.entries < 2 ^ 57 }
+    requires is_open { IsTrue (P.aside port.old).is_open }
+    ensures pass { MatchResult result (λ _. Grows pass.old pass.new (closed cause ∷ [])) (λ _. pass.new ≡ pass.old) }
+    ensures closes { Closes (P.aside port.old) (P.aside port.new) }
+    ensures calls { P.calls port.new ≡ P.calls port.old }
+{
+    port.close();
+    publish_entries(rt, alloc, publisher, pass, &[Entry::Closed(cause)])
+}

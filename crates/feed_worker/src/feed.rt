@@ -1,0 +1,89 @@
+//! The connections of a lane, one after another.
+ghost use Rattle.std.specs.Prelude.{◌≡◌, ◌+◌, ◌≤◌, ◌^◌, false, IsTrue, length, MatchResult};
+ghost use Rattle.station_doors.specs.Doors.{Opens};
+ghost use Rattle.feed_worker.specs.Connection.{IsNew};
+ghost use Rattle.feed_worker.specs.Feed.{Concludes, IsBegunOf, IsLifeOf, Refuses, ServesFeed, opened_one};
+
+use crate::connection::{close_connection, take_connection};
+use crate::lane_port::LanePort;
+use bmp_message::BodyReading;
+use cut_publisher::{FeedPass, Naming, Publisher};
+use router_tables::RouterTables;
+use station_doors::Port;
+use std::alloc::Global;
+use std::sync::Wait;
+use wire_io::NoMemory;
+
+/// How the work of a lane ended.
+#[derive(Clone, Copy, Debug, PartialEq, Eq)]
+pub enum LaneEnd {
+    /// As many connections were served as it was to serve, or there was no further one.
+    Over,
+
+    /// Want of memory.
+    NoMemory,
+}
+
+/// Whether the next connection was opened. There may be none, or opening it may fail.
+fn opens<P: Port + Drop>(port: &mut LanePort<P>) -> bool
+    ensures opens { IsTrue result → Opens (P.aside port.old) (P.aside port.new) opened_one }
+    ensures refuses { result ≡ false → Refuses (P.aside port.old) (P.aside port.new) }
+{
+    match port.next_connection() {
+        Ok(more) => more,
+        Err(_) => false,
+    }
+}
+
+/// Takes the present connection, of which nothing was read yet, and closes it.
+fn serve_connection<B: BodyReading + Drop, P: Port + Drop, J: Naming, R: Wait>(
+    rt: &R,
+    alloc: Global,
+    publisher: &Publisher<RouterTables, J>,
+    pass: &mut FeedPass<RouterTables>,
+    port: &mut LanePort<P>,
+) -> Result<(), NoMemory>
+    requires station { pass.old.station ≡ J.site }
+    requires room { length pass.old.entries + 2 ^ 44 ≤ 2 ^ 57 }
+    requires new { IsNew (P.aside port.old) }
+    ensures { MatchResult result (λ _. Concludes B.meaning (IsLifeOf B.meaning) (P.aside port.old) (P.aside port.new) pass.old pass.new) (λ _. Concludes B.meaning (IsBegunOf B.meaning) (P.aside port.old) (P.aside port.new) pass.old pass.new) }
+{
+    match take_connection::<B, P, J, R>(rt, alloc, publisher, pass, port) {
+        Ok(cause) => close_connection(rt, alloc, publisher, pass, port, cause),
+        Err(fault) => {
+            port.close();
+            Err(fault)
+        }
+    }
+}
+
+/// Serves up to so many connections of the port, one after another: takes each as `B` reads it, publishes its opening,
+/// its messages and its closing, and closes it. `Over` exactly where as many were served, or `next_connection` then
+/// gave no further one: there was none, or it failed. After want of memory the pass published a beginning of the last
+/// connection's life, which is closed too, and no further one is opened.
+pub fn serve_feed<B: BodyReading + Drop, P: Port + Drop, J: Naming, R: Wait>(
+    rt: &R,
+    alloc: Global,
+    publisher: &Publisher<RouterTables, J>,
+    pass: &mut FeedPass<RouterTables>,
+    port: &mut LanePort<P>,
+    rounds: u32,
+) -> LaneEnd
+    requires station { pass.old.station ≡ J.site }
+    requires room { length pass.old.entries ≤ 2 ^ 56 }
+    requires rounds { rounds ≤ 4096 }
+    ensures { ServesFeed B.meaning rounds (P.aside port.old) (P.aside port.new) pass.old pass.new result }
+{
+    let mut served = 0;
+    while served < rounds {
+        if !opens(port) {
+            return LaneEnd::Over;
+        }
+        match serve_connection::<B, P, J, R>(rt, alloc, publisher, pass, port) {
+            Ok(()) => {}
+            Err(_) => return LaneEnd::NoMemory,
+        }
+        served += 1;
+    }
+    LaneEnd::Over
+}

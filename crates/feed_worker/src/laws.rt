@@ -1,0 +1,9 @@
+//! What follows of the connections that were served, for those who gather them.
+ghost use Rattle.feed_worker.specs.Feed.{PortsTellConnections};
+
+use bmp_message::BodyReading;
+
+/// A port that tells the connections that it gave tells what was read of each that was served.
+pub fn ports_tell_connections<B: BodyReading>()
+    ensures { PortsTellConnections B.meaning }
+{}

@@ -1,0 +1,24 @@
+//! The work of a lane: the connections of one router, one after another, published read by read.
+//!
+//! A router's BMP session is a TCP connection (RFC 7854, section 3.2), and its messages come in pieces. A lane
+//! publishes that a connection opened, then its messages, and then that it closed and why. All whole messages of one
+//! read are published in one step with the tables that they leave (`router_tables`, `cut_publisher`), before more is
+//! asked for. So what askers see is behind by less than one read.
+//!
+//! Proved: `take_connection` publishes the opening and exactly the messages of the bytes that it took, in order, and
+//! answers the cause of the connection's end; `close_connection` publishes that cause; `serve_feed` publishes the
+//! lives of all connections that it opened. A `LanePort` gives bytes only where the messages of all earlier ones are
+//! published. After want of memory a beginning of the last connection's life was published.
+//! Begin with `specs/Connection.antt`, `specs/Feed.antt` and `specs/LanePort.antt`, then `src/connection.rt`.
+#![tactic(auto)]
+
+mod connection;
+mod feed;
+mod lane_port;
+mod laws;
+mod publishing;
+
+pub use connection::{close_connection, take_connection};
+pub use feed::{LaneEnd, serve_feed};
+pub use lane_port::LanePort;
+pub use laws::ports_tell_connections;
