@@ -1,7 +1,6 @@
 pub mod Doors
 pub mod LastRead
 pub mod Connections
-pub mod LanePort
 pub mod MemPort
 pub mod SurePort
 pub mod MemLink

@@ -7,8 +7,7 @@
 //! `MemPort`, `MemLink` and `MemYard` hold everything in memory and tell it to contracts: the plan, each byte
 //! that was given, how the last read went, what was written and what came back. `SurePort` and `SureLink` are
 //! of the same kind and never fail. `HostYard` is standard input and TCP, and tells counts, and what its input
-//! tells. A lane that publishes holds its port in a `LanePort`, which gives it bytes only while nothing whole is
-//! unpublished.
+//! tells.
 //!
 //! Begin with `specs/Doors.antt`, which says what each call does to what is told, then `src/doors.rt`.
 #![tactic(auto)]
@@ -19,7 +18,6 @@ mod doors;
 mod host;
 mod host_link;
 mod host_port;
-mod lane_port;
 mod listening;
 mod mem_link;
 mod mem_port;
@@ -32,7 +30,6 @@ pub use doors::{Link, Port, Yard};
 pub use host::HostYard;
 pub use host_link::HostLink;
 pub use host_port::HostPort;
-pub use lane_port::{LanePort, Streamed};
 pub use listening::Listening;
 pub use mem_link::MemLink;
 pub use mem_port::MemPort;

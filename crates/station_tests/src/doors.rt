@@ -3,7 +3,7 @@ ghost use Rattle.station_doors.specs.MemYard.{IsUntouched, IsIdle};
 
 use ip_prefix::Addr;
 use station_doors::{
-    HostYard, LanePort, Link, LinkList, MemLink, MemYard, Port, PortList, SureLink, SurePort, Yard,
+    HostYard, Link, LinkList, MemLink, MemYard, Port, PortList, SureLink, SurePort, Yard,
 };
 use std::alloc::Global;
 use std::io;
@@ -197,8 +197,6 @@ fn sure_ones_never_fail(rt: HostRuntime) -> Result<(), Fail> {
     let mut port = SurePort::new(alloc, &[connection], 4)?;
     let mut buf = vec![in alloc; 0u8; 65_536]?;
     assert_eq!(rt; take_next(&mut port, &mut buf), Ok((4, 3)));
-    let mut lane = LanePort::new(port);
-    assert_eq!(rt; lane.next_connection(), Ok(false));
-    assert_eq!(rt; lane.into_port().next_connection(), Ok(false));
+    assert_eq!(rt; port.next_connection(), Ok(false));
     Ok(())
 }
