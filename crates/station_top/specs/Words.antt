@@ -1,4 +1,4 @@
--- The words that are a command.
+-- The words of a call.
 use Rattle.std.specs.Prelude.{◌≡◌, ◌≢◌, ℕ, Bool, true, false, List, [], ◌∷◌, codes}
 use Rattle.std.specs.List.{join_with_byte}
 use Rattle.bmp_specs.specs.Query.{QueryValue, quit, space, IsQuery}

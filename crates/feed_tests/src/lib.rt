@@ -1,0 +1,5 @@
+//! Tests of a lane's connections, from outside.
+#![tactic(auto)]
+
+#[cfg(test)]
+mod lanes;
