@@ -1,6 +1,7 @@
 //! Sessions over links in memory: a station of one lane that published nothing, and one of two lanes that publish.
-ghost use Rattle.std.specs.Prelude.{◌≡◌, ◌<◌, ◌++◌, All, IfSome};
+ghost use Rattle.std.specs.Prelude.{◌≡◌, ◌<◌, ◌++◌, [], All, IfSome, List};
 ghost use Rattle.std.specs.Arc.{arc_value};
+ghost use Rattle.bmp_specs.specs.Values.{EntryValue};
 ghost use Rattle.cut_publisher.specs.Opening.{IsOpened, AreAsksOf, AreFeedsOf};
 ghost use Rattle.rib_model.specs.Entries.{entry_values};
 ghost use Rattle.router_tables.specs.Tables.{StandsFor};
@@ -63,6 +64,7 @@ fn is_answered(
     reply: &[u8],
 ) -> Option<bool>
     requires { All (λ n. 0 < n) pieces.now }
+    ensures { asker.new.station ≡ asker.old.station }
 {
     let connections = [bytes.copy().ok()?];
     let mut link = MemLink::new(alloc, &connections, pieces, 200, &[]).ok()?;
@@ -163,6 +165,30 @@ fn with(pass: &FeedPass<RouterTables>, entries: &[Entry]) -> Option<RouterTables
     pass.value().with(entries).ok()
 }
 
+// These tables, behind a counter.
+fn counted(alloc: Global, tables: RouterTables) -> Option<Arc<RouterTables>>
+    ensures { (entries : List EntryValue) → StandsFor tables entries → IfSome result (λ t. StandsFor (arc_value t) entries) }
+{
+    Arc::new(alloc, tables).ok()
+}
+
+// Takes the last pass of a lane out of the list.
+fn take_feed<J: Naming>(feeds: &mut FeedList<RouterTables>) -> Option<FeedPass<RouterTables>>
+    requires { AreFeedsOf J.site feeds.old }
+    ensures feeds { AreFeedsOf J.site feeds.new }
+    ensures pass { IfSome result (λ f. f.station ≡ J.site) }
+{
+    feeds.pop()
+}
+
+// Takes the last asker out of the list.
+fn take_asker<J: Naming>(asks: &mut AskList<RouterTables>) -> Option<Asker>
+    requires { AreAsksOf J.site asks.old }
+    ensures { IfSome result (λ a. a.station ≡ J.site) }
+{
+    asks.pop()
+}
+
 // Publishes an entry.
 fn tell<J: Naming, R: Wait>(
     rt: &R,
@@ -180,7 +206,7 @@ fn tell<J: Naming, R: Wait>(
     }
     let entries = [entry];
     let tables = with(pass, &entries)?;
-    let value = Arc::new(alloc, tables).ok()?;
+    let value = counted(alloc, tables)?;
     publish(rt, alloc, publisher, pass, &entries, value).ok()
 }
 
@@ -203,9 +229,9 @@ fn two_lanes<J: Naming, R: Wait>(
     requires feeds { AreFeedsOf J.site feeds.old }
     requires asks { AreAsksOf J.site asks.old }
 {
-    let mut asker = asks.pop()?;
-    let mut one = feeds.pop()?;
-    let mut zero = feeds.pop()?;
+    let mut asker = take_asker::<J>(asks)?;
+    let mut one = take_feed::<J>(feeds)?;
+    let mut zero = take_feed::<J>(feeds)?;
     let note = tell(rt, alloc, publisher, &mut one, Entry::Opened)?;
     learn(&mut asker, note);
     let first = is_cut(alloc, &mut asker, b"at 1\nlane 0 0\nlane 1 1\nend 2\n")?;
