@@ -17,15 +17,7 @@ const LOOPBACK: [u8; 4] = [127, 0, 0, 1];
 
 // A port of the loopback address that nobody listens at.
 fn free_port<N: Net<Listener = TcpListener, Stream = TcpStream>>(net: &N) -> io::Result<u16> {
-    free_port_at(net, "127.0.0.1:0")
-}
-
-// A port of this address that is free.
-fn free_port_at<N: Net<Listener = TcpListener, Stream = TcpStream>>(
-    net: &N,
-    address: &str,
-) -> io::Result<u16> {
-    Ok(TcpListener::bind(net, address)?.local_addr()?.port())
+    Ok(TcpListener::bind(net, "127.0.0.1:0")?.local_addr()?.port())
 }
 
 // A client of this port, whose reads end after ten seconds.
@@ -74,19 +66,6 @@ fn lane_takes_one_router_after_another(rt: HostRuntime) -> Result<(), Fail> {
         assert!(rt; buf.as_slice().starts_with(text.as_bytes()));
     }
     yard.take_port(0, port);
-    Ok(())
-}
-
-// Where the machine has IPv6.
-#[test]
-fn clients_come_by_ipv6(rt: HostRuntime) -> Result<(), Fail> {
-    if let Ok(ask_port) = free_port_at(&rt, "[::1]:0") {
-        let feed_port = free_port_at(&rt, "[::1]:0")?;
-        let mut yard = HostYard::new(rt.alloc(), rt.stdin(), &rt)?;
-        let local = Addr::v6([0, 0, 0, 0, 0, 0, 0, 0, 0, 0, 0, 0, 0, 0, 0, 1]);
-        assert_eq!(rt; yard.listen(&local, feed_port, 1, ask_port, 1), Ok(()));
-        let _client = TcpStream::connect(&rt, ("::1", ask_port))?;
-    }
     Ok(())
 }
 

@@ -132,7 +132,7 @@ fn joined(alloc: Global, texts: &[&str]) -> Result<ByteList, NoMemory> {
 fn streams_have_their_replies(rt: HostRuntime) -> Result<(), Fail> {
     let alloc = rt.alloc();
     // the words and the stream; the status and what is written
-    let table: [(&str, &[&str], u8, &[&str]); 18] = [
+    let table: [(&str, &[&str], u8, &[&str]); 16] = [
         ("replay table", &[], 0, &["at 1\nend 0\nstop ended\n"]),
         (
             "replay table",
@@ -195,20 +195,6 @@ fn streams_have_their_replies(rt: HostRuntime) -> Result<(), Fail> {
             &["at 2\nend 0\nstop broken 166 body\n"],
         ),
         (
-            "replay --lenient count",
-            &[PEER_UP_WITH_PATHS, ROUTES],
-            0,
-            &["at 3\ncount 2\nend 1\nstop ended\n"],
-        ),
-        (
-            "check --lenient",
-            &[PEER_UP_WITH_PATHS, ROUTES, TERMINATION],
-            0,
-            &[
-                "messages 3\nbytes 274\nroute-monitoring 1\nstatistics-report 0\npeer-down 0\npeer-up 1\ninitiation 0\ntermination 1\nroute-mirroring 0\nother 0\nstop terminated\n",
-            ],
-        ),
-        (
             "check",
             &["0300000006c8", "030000000504"],
             1,
@@ -267,7 +253,7 @@ fn streams_have_their_replies(rt: HostRuntime) -> Result<(), Fail> {
 fn failing_devices_and_words_that_are_no_command(rt: HostRuntime) -> Result<(), Fail> {
     let alloc = rt.alloc();
     // the words and the stream; the reads, calls of the yard and writes that fail; the status and what is written
-    let table: [(&[&str], &str, [&[u64]; 3], u8, &str); 20] = [
+    let table: [(&[&str], &str, [&[u64]; 3], u8, &str); 15] = [
         (
             &["replay", "table"],
             "",
@@ -318,23 +304,6 @@ fn failing_devices_and_words_that_are_no_command(rt: HostRuntime) -> Result<(), 
             USAGE,
         ),
         (&["check", "table"], "", [&[], &[], &[]], 2, USAGE),
-        (
-            &["replay", "table", "--lenient"],
-            "",
-            [&[], &[], &[]],
-            2,
-            USAGE,
-        ),
-        (&["--lenient", "check"], "", [&[], &[], &[]], 2, USAGE),
-        (
-            &["check", "--lenient", "--lenient"],
-            "",
-            [&[], &[], &[]],
-            2,
-            USAGE,
-        ),
-        (&["check", "--lenient=yes"], "", [&[], &[], &[]], 2, USAGE),
-        (&["replay", "--lenient"], "", [&[], &[], &[]], 2, USAGE),
         (&[], "", [&[], &[], &[0]], 4, ""),
     ];
     for (texts, bytes, fails, code, want) in table {
