@@ -1,6 +1,6 @@
 -- Capabilities that are written are read as what they announce.
-use Rattle.std.proofs.Common.{◌≡◌, ℕ, ◌+◌, ◌*◌, ◌<◌, ◌≤◌, Bool, true, false, List, [], ◌∷◌, ◌++◌, length, map, drop, Option, Some, None, refl, sym, ap, subst, ◌∙◌, append_assoc, append-nil, arith, length-append, length-drop}
-use Rattle.std.specs.Prelude.{find, if◌then◌else◌, ◌==◌, ◌%◌, ◌&&◌}
+use Rattle.std.proofs.Common.{◌≡◌, ℕ, ◌+◌, ◌*◌, ◌<◌, Bool, true, List, [], ◌∷◌, ◌++◌, length, map, Option, Some, None, refl, sym, ap, subst, ◌∙◌, append_assoc, append-nil, arith, length-append, length-drop}
+use Rattle.std.specs.Prelude.{find, if◌then◌else◌, ◌==◌, ◌%◌}
 use Rattle.std.specs.List.{cons_option, filter_map, flat_map}
 use Rattle.std.specs.Option.{option_map, option_or}
 use Rattle.std.proofs.Math.Nat.{mul-mod_right}
@@ -10,11 +10,11 @@ use Rattle.std.proofs.lemmas.List.Folds.{find-append}
 use Rattle.byteorder.specs.Endian.{big_bytes, big_number}
 use Rattle.byteorder.specs.Numbers.{big_number-reads_back}
 use Rattle.bmp_specs.specs.Coded.{IsCoded}
-use Rattle.bmp_specs.specs.Open.{Announces, add_path, entries, family_in, four_octet_as, is_four_octet, multiprotocol, paths_in}
+use Rattle.bmp_specs.specs.Open.{add_path, entries, family_in, four_octet_as, is_four_octet, multiprotocol, paths_in}
 use Rattle.bmp_specs.specs.Parts.{AreParts}
 use Rattle.bmp_specs.specs.Values.{CapValue, CodedValue, OpenValue}
 use Rattle.bmp_writer.specs.Written.{Appends}
-use Rattle.bmp_writer.specs.Capabilities.{AreCapabilities, HasEntries, HasNumber, IsAsCapability, IsFamilyCapability, IsPathCapability, IsPathEntry, as_bytes, as_family, as_read, as_size, capabilities_size, entry_bytes, family_bytes, paths_size}
+use Rattle.bmp_writer.specs.Capabilities.{AreCapabilities, HasEntries, IsAsCapability, IsFamilyCapability, IsPathCapability, IsPathEntry, as_bytes, as_family, as_size, entry_bytes, family_bytes, paths_size}
 use Rattle.bmp_writer.proofs.Still.{parts_join, three_pieces}
 
 abbrev pub number_in : CodedValue → ℕ

@@ -70,7 +70,7 @@ flag_width false V6 OutPre = refl
 flag_width false V6 OutPost = refl
 flag_width false V6 Loc = refl
 
-one_byte : (n : ℕ) → IsNumber 1 (n ∷ []) n
+pub one_byte : (n : ℕ) → IsNumber 1 (n ∷ []) n
 one_byte n = record { len = refl; value_is = omega arith }
 
 -- the fields of the header

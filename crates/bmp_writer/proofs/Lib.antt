@@ -1,8 +1,17 @@
+pub mod AttributesRead
 pub mod CapabilitiesRead
+pub mod FieldRead
 pub mod Frames
 pub mod Headers
+pub mod Joining
+pub mod NlriRead
 pub mod OpenRead
 pub mod PeerUpRead
 pub mod Peers
+pub mod RoutesPut
+pub mod RoutesRead
+pub mod RoutesWritten
+pub mod Sizes
 pub mod Still
 pub mod Tlvs
+pub mod UpdatePut

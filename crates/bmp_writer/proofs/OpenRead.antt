@@ -1,10 +1,10 @@
 -- An OPEN message that is written is read as it was.
-use Rattle.std.proofs.Common.{◌≡◌, ℕ, zero, suc, ◌+◌, ◌<◌, ◌≤◌, Bool, true, false, List, [], ◌∷◌, ◌++◌, length, map, take, drop, get_or, Option, Some, None, refl, sym, ap, subst, ◌∙◌, append_assoc, append-nil, arith, length-append}
-use Rattle.std.specs.Prelude.{MatchBool, if◌then◌else◌, ◌==◌, ◌&&◌, find, slice_index}
+use Rattle.std.proofs.Common.{◌≡◌, ℕ, zero, suc, ◌+◌, ◌<◌, ◌≤◌, Bool, true, false, List, [], ◌∷◌, ◌++◌, length, map, drop, get_or, Option, Some, None, refl, sym, ap, subst, ◌∙◌, append-nil, arith, length-append}
+use Rattle.std.specs.Prelude.{MatchBool, if◌then◌else◌, ◌==◌, ◌&&◌, slice_index}
 use Rattle.std.specs.List.{cons_option, filter_map, flat_map}
 use Rattle.byteorder.specs.Endian.{big_bytes, big_number}
 use Rattle.byteorder.specs.Numbers.{big_number-reads_back}
-use Rattle.bmp_specs.specs.BgpMessage.{IsBgpMessage, marker, open_type}
+use Rattle.bmp_specs.specs.BgpMessage.{marker, open_type}
 use Rattle.bmp_specs.specs.Coded.{IsCoded}
 use Rattle.bmp_specs.specs.Open.{Announces, AreParameters, HasParameters, IsOpen, IsOpenMessage, IsParameter, capabilities_type, family_in, multiprotocol}
 use Rattle.bmp_specs.specs.Parts.{AreParts}
@@ -13,8 +13,8 @@ use Rattle.bmp_writer.specs.Capabilities.{AreCapabilities, IsAsCapability, IsFam
 use Rattle.bmp_writer.specs.PeerUpMessage.{IsSome}
 use Rattle.bmp_writer.specs.Written.{Appends}
 use Rattle.bmp_writer.proofs.CapabilitiesRead.{all_capabilities}
-use Rattle.bmp_writer.proofs.Still.{two_pieces, three_pieces}
-use Rattle.bmp_writer.specs.OpenMessage.{IsInOctets, IsOpenOf, front_of, open_front, open_size, parameters_size}
+use Rattle.bmp_writer.proofs.Still.{three_pieces}
+use Rattle.bmp_writer.specs.OpenMessage.{IsInOctets, IsOpenOf, front_of, open_front, parameters_size}
 
 -- the body up to its parameters, of which there are so many bytes
 abbrev pub body_front : OpenValue → List ℕ → ℕ → List ℕ

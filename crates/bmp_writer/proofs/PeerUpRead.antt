@@ -1,5 +1,5 @@
 -- A Peer Up Notification that is written is read as what it tells.
-use Rattle.std.proofs.Common.{◌≡◌, ℕ, zero, suc, ◌+◌, ◌<◌, ◌≤◌, ◌^◌, ◌==◌, Bool, true, false, if◌then◌else◌, List, [], ◌∷◌, ◌++◌, length, map, take, drop, replicate, Option, Some, None, MatchOption, refl, sym, ap, subst, ◌∙◌, append_assoc, append-nil, arith, leb, length-append}
+use Rattle.std.proofs.Common.{◌≡◌, ℕ, zero, suc, ◌+◌, ◌<◌, ◌≤◌, ◌^◌, ◌==◌, Bool, true, false, if◌then◌else◌, List, [], ◌∷◌, ◌++◌, length, take, drop, replicate, Option, Some, None, MatchOption, refl, sym, ap, subst, ◌∙◌, append_assoc, append-nil, arith, leb, length-append}
 use Rattle.std.specs.Prelude.{MatchBool, ◌&&◌, ◌||◌, not, count_by}
 use Rattle.std.proofs.lemmas.List.{take_at, drop_at}
 use Rattle.byteorder.specs.Endian.{big_bytes, big_number}
@@ -8,13 +8,12 @@ use Rattle.bmp_specs.specs.declared.wire.Family.{Family}
 use Rattle.bmp_specs.specs.declared.wire.Family.TheVariants.{V4, V6}
 use Rattle.bmp_specs.specs.MessageBody.{HasPeer, MessageType, OfPeer, ReadingState, peer_up_notification}
 use Rattle.bmp_specs.specs.Number.{IsNumber}
-use Rattle.bmp_specs.specs.Open.{IsOpen, IsOpenMessage}
+use Rattle.bmp_specs.specs.Open.{IsOpenMessage}
 use Rattle.bmp_specs.specs.PeerHeader.{HeaderValue, IsHeader, address_in, family_of, header_size, is_set, key_of, loc_rib, place_of, v_flag}
 use Rattle.bmp_specs.specs.PeerUpNotification.{IsPeerUp, f_flag, string, table_name}
-use Rattle.bmp_specs.specs.Sequence.{IsField}
-use Rattle.bmp_specs.specs.Tlv.{AreTlvs, IsTlv, last_value}
+use Rattle.bmp_specs.specs.Tlv.{IsTlv, last_value}
 use Rattle.bmp_specs.specs.Values.{AddressValue, CapValue, KeyValue, MessageValue, OpenValue, OpensValue, PeerInfoValue, PeerUpValue, TlvValue, message, of_unknown_type, peer_up, up}
-use Rattle.bmp_writer.specs.Capabilities.{as_family, as_read, capabilities_size}
+use Rattle.bmp_writer.specs.Capabilities.{as_read, capabilities_size}
 use Rattle.bmp_writer.specs.OpenMessage.{IsOpenOf, open_size, parameters_size}
 use Rattle.bmp_writer.specs.PeerMessage.{family_flag}
 use Rattle.bmp_writer.specs.PeerUpMessage.{CanCarry, HasUpHeader, IsLocal, IsSome, IsTable, IsUpHeader, IsUpMessage, name_size, name_tlvs, name_tlvs_size, peer_up_size, unextended, up_flags, with_unextended}

@@ -23,7 +23,7 @@ use Rattle.bmp_writer.specs.Written.{Always, Appends, HasUp, IsWritten, mark_siz
 use Rattle.bmp_writer.proofs.Frames.{frame_length}
 
 -- the meaning of a body, by what stands behind its header
-has_peer : (kind : MessageType) (state next : ReadingState) (key : KeyValue) (view : View) (head rest : List ℕ) (m : MessageValue) (is : IsHeaderOf key view head)
+pub has_peer : (kind : MessageType) (state next : ReadingState) (key : KeyValue) (view : View) (head rest : List ℕ) (m : MessageValue) (is : IsHeaderOf key view head)
     → OfPeer kind state is.header key rest m next → HasPeer kind state (head ++ rest) m next
 has_peer kind state next key view head rest m is means =
     let front : take header_size (head ++ rest) ≡ head = take_at head rest header_size is.len in

@@ -3,3 +3,7 @@ pub mod OpenMessage
 pub mod PeerMessage
 pub mod PeerUpMessage
 pub mod Written
+pub mod WrittenAttributes
+pub mod WrittenNlri
+pub mod WrittenRoutes
+pub mod WrittenUpdate

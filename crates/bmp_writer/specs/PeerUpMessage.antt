@@ -1,11 +1,11 @@
 -- A Peer Up Notification, as it is written (RFC 7854, section 4.10; for a Loc-RIB RFC 9069, sections 4.2 and 5.2).
-use Rattle.std.specs.Prelude.{◌≡◌, ℕ, ◌≤◌, ◌<◌, ◌+◌, ◌==◌, ◌&&◌, false, Bool, List, [], ◌∷◌, ◌++◌, length, take, drop, if◌then◌else◌, MatchBool, Option, Some, None}
+use Rattle.std.specs.Prelude.{◌≡◌, ℕ, ◌≤◌, ◌<◌, ◌+◌, ◌==◌, false, Bool, List, [], ◌∷◌, ◌++◌, length, take, drop, if◌then◌else◌, MatchBool, Option, Some, None}
 use Rattle.byteorder.specs.Endian.{big_bytes}
 use Rattle.bmp_specs.specs.declared.wire.Family.TheVariants.{V4}
 use Rattle.bmp_specs.specs.Frame.{IsFrame, least}
 use Rattle.bmp_specs.specs.Open.{IsOpen}
-use Rattle.bmp_specs.specs.PeerHeader.{HeaderValue, IsHeader, address_in, family_of, header_size, is_set, is_two_byte, key_of, loc_rib}
-use Rattle.bmp_specs.specs.PeerUpNotification.{f_flag, is_loc_rib, table_name}
+use Rattle.bmp_specs.specs.PeerHeader.{HeaderValue, IsHeader, address_in, header_size, key_of, loc_rib}
+use Rattle.bmp_specs.specs.PeerUpNotification.{f_flag, table_name}
 use Rattle.bmp_specs.specs.Tlv.{AreTlvs}
 use Rattle.bmp_specs.specs.Values.{KeyValue, OpenValue, PeerInfoValue, TlvValue}
 use Rattle.bmp_writer.specs.Capabilities.{capabilities_size}

@@ -10,7 +10,7 @@ use ip_prefix::{Addr, Family};
 use wire_io::{ByteList, NoMemory};
 
 /// The bytes of a Per-Peer Header (RFC 7854, section 4.2).
-const PEER_HEADER: u32 = 42;
+pub(crate) const PEER_HEADER: u32 = 42;
 
 /// The bytes of the longest message of a peer that has no routes and no OPENs.
 const LONGEST: usize = 80;
@@ -64,8 +64,8 @@ fn flags(key: &PeerKey, view: View) -> u8
     flag_of_family(key.address.family()) | flags_of_view(view)
 }
 
-// Puts the Per-Peer Header of the peer and the view at a place of the frame, and tells where it ends.
-fn put_peer_header(frame: &mut [u8], at: usize, key: &PeerKey, view: View) -> usize
+/// Puts the Per-Peer Header of the peer and the view at a place of the frame, and tells where it ends.
+pub(crate) fn put_peer_header(frame: &mut [u8], at: usize, key: &PeerKey, view: View) -> usize
     requires room { at + 42 ≤ length frame.old }
     requires kind { key.now.kind ≤ loc_rib }
     requires family { key.now.kind ≡ loc_rib → key.now.address.family ≡ Family.V4 }

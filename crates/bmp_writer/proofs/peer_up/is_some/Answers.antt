@@ -1,4 +1,4 @@
-use Rattle.std.proofs.Common.{rules, ◌≡◌, length}
+use Rattle.std.proofs.Common.{◌≡◌, length}
 use Rattle.bmp_specs.specs.Values.{OpenValue}
 use Rattle.bmp_writer.proofs.OpenRead.{extended_tells, families_tell}
 use Rattle.bmp_writer.proofs.peer_up.is_some.Goals as goal

@@ -1,4 +1,4 @@
-use Rattle.std.proofs.Common.{rules, ◌≡◌, ◌<◌, ◌^◌}
+use Rattle.std.proofs.Common.{rules, ◌<◌, ◌^◌}
 use Rattle.std.proofs.lemmas.Result.{on_ok_weaker}
 use Rattle.bmp_specs.specs.Values.{KeyValue, PeerInfoValue}
 use Rattle.bmp_writer.proofs.PeerUpRead.{header_put}

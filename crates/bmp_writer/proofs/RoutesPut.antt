@@ -1,0 +1,81 @@
+-- Headers and an UPDATE message are a Route Monitoring message.
+use Rattle.std.proofs.Common.{◌≡◌, ℕ, ◌+◌, ◌==◌, ◌≤◌, eqb-true, if◌then◌else◌, Bool, true, false, List, [], ◌∷◌, ◌++◌, length, Option, Some, None, refl, sym, ap, subst, ◌∙◌, append_assoc, arith, length-append}
+use Rattle.byteorder.specs.Endian.{big_bytes}
+use Rattle.bmp_specs.specs.declared.peers.View.{View}
+use Rattle.bmp_specs.specs.declared.wire.Family.{Family}
+use Rattle.bmp_specs.specs.declared.wire.Family.TheVariants.{V4, V6}
+use Rattle.bmp_specs.specs.Values.{AttrsValue, KeyValue, NlriValue}
+use Rattle.bmp_writer.specs.PeerMessage.{HasPlainHeader, IsHeaderOf}
+use Rattle.bmp_writer.specs.Written.{Appends}
+use Rattle.bmp_writer.specs.WrittenAttributes.{HasHop}
+use Rattle.bmp_writer.specs.WrittenRoutes.{CanCarryRoutes, IsHeadersOf, IsRoutesMessage, family_of, routes_size}
+use Rattle.bmp_writer.specs.WrittenUpdate.{AreShort, CanPlace, IsUpdateOf, is_plain, places, told_of, update_size}
+use Rattle.bmp_writer.proofs.Frames.{frame_here, frame_length, header_bytes}
+use Rattle.bmp_writer.proofs.Peers.{plain_appended}
+use Rattle.bmp_writer.proofs.Still.{two_pieces}
+
+pub headers_put : (key : KeyValue) (view : View) (size n : ℕ) (common frame old new : List ℕ) → n ≡ 48 + size → common ≡ 3 ∷ (big_bytes 4 n ++ 0 ∷ []) → (head : List ℕ) × (frame ≡ common ++ head) × IsHeaderOf key view head
+    → new ≡ old ++ frame → Appends (IsHeadersOf key view size) old new
+headers_put key view size n common frame old new s c (head, f, is) e =
+    (frame, e, record { head = head; is = f ∙ ap (λ (l : List ℕ). l ++ head) (c ∙ ap (λ (k : ℕ). 3 ∷ (big_bytes 4 k ++ 0 ∷ [])) s); head_is = is })
+
+short_told : (plain : Bool) (announced : List NlriValue) (attrs : AttrsValue) → AreShort attrs.path → AreShort (told_of plain announced attrs).path
+short_told plain [] attrs s = tt
+short_told plain (n ∷ ns) attrs s = s
+
+hop_told : (family : Family) (announced : List NlriValue) (attrs : AttrsValue) → HasHop (told_of (is_plain family attrs.hop) announced attrs).hop
+hop_told family [] attrs = tt
+hop_told family (n ∷ ns) attrs = go family attrs.hop
+  where
+    four : (b : Bool) (hop : List ℕ) → b ≡ (length hop == 4) → HasHop (if b then Some hop else None)
+    four true hop e = eqb-true (length hop) 4 (sym e)
+    four false hop e = tt
+
+    none : (b : Bool) → HasHop (if b then None else None)
+    none true = tt
+    none false = tt
+
+    go : (f : Family) (hop : Option (List ℕ)) → HasHop (if is_plain f hop then hop else None)
+    go V4 None = tt
+    go V4 (Some hop) = four (length hop == 4) hop refl
+    go V6 hop = tt
+
+-- all has its place
+pub can_place : (key : KeyValue) (view : View) (withdrawn announced : List NlriValue) (attrs : AttrsValue) → CanCarryRoutes key view withdrawn announced attrs → CanPlace (places (family_of (withdrawn ++ announced)) withdrawn announced attrs)
+can_place key view withdrawn announced attrs can =
+    let family = family_of (withdrawn ++ announced) in
+    record { segments = short_told (is_plain family attrs.hop) announced attrs can.segments; next_hop = hop_told family announced attrs; hop = can.hop; fits = can.fits }
+
+pub message_put : (key : KeyValue) (view : View) (withdrawn announced : List NlriValue) (attrs : AttrsValue) (family : Family) (size : ℕ) (old mid new : List ℕ) → CanCarryRoutes key view withdrawn announced attrs → family ≡ family_of (withdrawn ++ announced)
+    → size ≡ update_size (places family withdrawn announced attrs) → Appends (IsHeadersOf key view size) old mid → Appends (IsUpdateOf family (places family withdrawn announced attrs)) mid new
+    → Appends (IsRoutesMessage key view withdrawn announced attrs) old new
+message_put key view withdrawn announced attrs family size old mid new can same s (headers, e, h) (update, f, u) =
+    let fits : update_size (places family withdrawn announced attrs) ≤ 65535 = subst (λ (x : Family). update_size (places x withdrawn announced attrs) ≤ 65535) (sym same) can.fits in
+    let body = h.head ++ update in
+    let len : 48 + size ≡ 6 + length body = omega (arith, length-append h.head update, h.head_is.len, u.size, s) in
+    let bytes : List ℕ = header_bytes 0 (48 + size) ++ body in
+    let frame = frame_here 0 (48 + size) body len (omega (arith, s, fits)) in (
+      bytes,
+      two_pieces old mid new headers update e f ∙ ap (λ (l : List ℕ). old ++ (l ++ update)) h.is ∙ ap (λ (l : List ℕ). old ++ l) (append_assoc (header_bytes 0 (48 + size)) h.head update),
+      record {
+        update = update;
+        is = record { head = h.head; is = frame; head_is = h.head_is };
+        update_is = subst (λ (x : Family). IsUpdateOf x (places x withdrawn announced attrs) update) same u;
+      },
+    )
+
+pub routes_fill : (key : KeyValue) (view : View) (withdrawn announced : List NlriValue) (attrs : AttrsValue) (old new : List ℕ) → Appends (IsRoutesMessage key view withdrawn announced attrs) old new
+    → length new ≡ length old + routes_size withdrawn announced attrs
+routes_fill key view withdrawn announced attrs old new (bytes, joined, r) =
+    let body = length-append r.is.head r.update in
+    let all : length new ≡ length old + length bytes = ap (λ (l : List ℕ). length l) joined ∙ length-append old bytes in
+    omega (arith, all, body, r.update_is.size, r.is.head_is.len, frame_length bytes 0 (r.is.head ++ r.update) r.is.is)
+
+pub routes_plain : (key : KeyValue) (view : View) (withdrawn announced : List NlriValue) (attrs : AttrsValue) (old new : List ℕ) → Appends (IsRoutesMessage key view withdrawn announced attrs) old new → Appends HasPlainHeader old new
+routes_plain key view withdrawn announced attrs old new (bytes, joined, r) = plain_appended 0 key view r.update old new (bytes, joined, r.is)
+
+-- the same of the lists that were lent
+pub routes_moved : (key : KeyValue) (view : View) (a withdrawn b announced : List NlriValue) (attrs : AttrsValue) (old new : List ℕ) → a ≡ withdrawn → b ≡ announced → Appends (IsRoutesMessage key view a b attrs) old new
+    → Appends (IsRoutesMessage key view withdrawn announced attrs) old new
+routes_moved key view a withdrawn b announced attrs old new e f p =
+    subst (λ (l : List NlriValue). Appends (IsRoutesMessage key view l announced attrs) old new) e (subst (λ (l : List NlriValue). Appends (IsRoutesMessage key view a l attrs) old new) f p)

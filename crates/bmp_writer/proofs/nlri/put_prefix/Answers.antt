@@ -1,0 +1,13 @@
+use Rattle.std.proofs.Common.{ap, List, ℕ, take, ◌∙◌}
+use Rattle.std.proofs.lemmas.Result.{on_ok_weaker}
+use Rattle.bmp_specs.specs.Values.{AddressValue}
+use Rattle.bmp_specs.specs.Prefix.{bytes_for}
+use Rattle.bmp_writer.proofs.NlriRead.{prefix_put}
+use Rattle.bmp_writer.proofs.nlri.put_prefix.Goals as goal
+
+pub returns-clause-ok : goal.returns-clause-ok
+returns-clause-ok c =
+    let p = c.args.prefix.now in
+    let octets = c.octets-octets.ensures.same ∙ ap (λ (a : AddressValue). a.octets) c.addr.ensures in
+    let size = c.octets_for.ensures ∙ ap (λ (n : ℕ). bytes_for n) c.bits-bits.ensures.same in
+    on_ok_weaker c.extend-2.result (prefix_put p c.bits-bits.result _ c.args.out.now c.extend.new.self c.extend-2.new.self c.bits-bits.ensures.valid c.bits-bits.ensures.same (ap (λ (n : ℕ). take n c.octets-octets.result) size ∙ ap (λ (l : List ℕ). take (bytes_for p.bits) l) octets) c.in_ok-extend.ensures.ok) c.extend-2.ensures.ok
