@@ -65,7 +65,7 @@ lookup_none k code [] r le = refl
 lookup_none k code (s ∷ ss) (lt, r) le =
     ap (λ (b : Bool). cond b s.value (lookup code ss)) (other_number code s.code (omega (arith, lt, le))) ∙ lookup_none s.code code ss r (omega (arith, lt, le))
 
-value_of-cons : (code : ℕ) (a : OtherValue) (more : List OtherValue) → value_of code (a ∷ more) ≡ cond (a.code == code) (Some a.value) (value_of code more)
+pub value_of-cons : (code : ℕ) (a : OtherValue) (more : List OtherValue) → value_of code (a ∷ more) ≡ cond (a.code == code) (Some a.value) (value_of code more)
 value_of-cons code a more = go (a.code == code)
   where
     go : (b : Bool) → option_map (λ (x : OtherValue). x.value) (cond b (Some a) (find (λ (x : OtherValue). x.code == code) more)) ≡ cond b (Some a.value) (value_of code more)

@@ -32,7 +32,7 @@ flag_family false V6 Loc v4 = refl
 abbrev pub four_views : List View
 four_views = InPre ∷ InPost ∷ OutPre ∷ OutPost ∷ []
 
-only_loc : (view : View) (k : ℕ) → k < 1 → slice_index_or (Loc ∷ []) k view ≡ view → Loc ≡ view
+pub only_loc : (view : View) (k : ℕ) → k < 1 → slice_index_or (Loc ∷ []) k view ≡ view → Loc ≡ view
 only_loc view zero l e = e
 only_loc view (suc k) l e = absurd (omega (arith, l))
 

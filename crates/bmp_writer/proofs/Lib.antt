@@ -1,7 +1,9 @@
 pub mod AttributesRead
 pub mod CapabilitiesRead
+pub mod Carrying
 pub mod FieldRead
 pub mod Frames
+pub mod GivenRead
 pub mod Headers
 pub mod Joining
 pub mod NlriRead

@@ -133,7 +133,7 @@ some_are None values is = is
 some_are (Some x) values is = is.0
 
 module _ (family : Family) (p : PlacesValue) (bytes : List ℕ) (t : Told family p bytes) (kept : AreKept p.others) (same : p.told.others ≡ p.others) where
-  abbrev all : List Slot
+  abbrev pub all : List Slot
   all = ten t.v1 t.v2 t.v3 t.v4 t.v5 t.v6 t.v7 t.v8 t.v14 t.v15
 
   abbrev parts : List OtherValue
@@ -167,6 +167,10 @@ module _ (family : Family) (p : PlacesValue) (bytes : List ℕ) (t : Told family
     others_are = same ∙ others_back all p.others (refl, (refl, (refl, (refl, (refl, (refl, (refl, (refl, (refl, (refl, tt)))))))))) kept;
     count_is = refl;
   }
+
+  pub parts_are : are_attributes.parts ≡ slot_parts all ++ map written_other p.others
+  unfolding are_attributes
+  parts_are = refl
 
 -- prefixes of one family, all with identifiers or all without
 pub own_alike : (family : Family) (ids : Bool) (ns : List NlriValue) (bytes : List ℕ) → AllByRecursion (IsAlike family ids) ns → AreOwnNlri ns bytes → AreNlri family ids bytes ns

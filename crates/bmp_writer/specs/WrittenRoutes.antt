@@ -1,5 +1,5 @@
 -- A Route Monitoring message, as it is written (RFC 7854, section 4.6): what it can carry, what it has, and what it does.
-use Rattle.std.specs.Prelude.{◌≡◌, ℕ, ◌+◌, ◌<◌, ◌≤◌, ◌==◌, Bool, true, false, not, List, [], ◌∷◌, ◌++◌, length, map, Option, Some, ⊤}
+use Rattle.std.specs.Prelude.{◌≡◌, ℕ, ◌+◌, ◌*◌, ◌<◌, ◌≤◌, ◌==◌, Bool, true, false, not, List, [], ◌∷◌, ◌++◌, length, map, Option, Some, None, ⊤}
 use Rattle.std.specs.List.{AllByRecursion, IsDistinct}
 use Rattle.std.specs.Option.{is_some}
 use Rattle.byteorder.specs.Endian.{big_bytes}
@@ -15,8 +15,9 @@ use Rattle.bmp_specs.specs.Attributes.{AreAttributes, is_read}
 use Rattle.bmp_specs.specs.MessageBody.{ReadingState}
 use Rattle.bmp_specs.specs.PathIds.{uses_path_ids}
 use Rattle.bmp_specs.specs.PeerHeader.{IsViewOf, is_set, loc_rib}
-use Rattle.bmp_specs.specs.Values.{AttrsReadValue, AttrsValue, EffectValue, KeyValue, NlriValue, OpensValue, OtherValue, announce, withdraw}
+use Rattle.bmp_specs.specs.Values.{AggregatorValue, AttrsReadValue, AttrsValue, EffectValue, KeyValue, NlriValue, OpensValue, OtherValue, SegmentValue, announce, withdraw}
 use Rattle.bmp_writer.specs.PeerMessage.{IsHeaderOf, IsPeerMessage}
+use Rattle.bmp_writer.specs.WrittenAttributes.{segments_size}
 use Rattle.bmp_writer.specs.Written.{route_monitoring_type}
 use Rattle.bmp_writer.specs.WrittenUpdate.{AreShort, HasRoom, IsUpdateOf, hop_bytes, is_plain, places, update_size, where_so}
 
@@ -65,12 +66,51 @@ pub record AreKept (others : List OtherValue) : Type 0 where
   pub distinct : IsDistinct (λ j k. j == k) (map (λ a. a.code) others)
   pub clear : AllByRecursion (λ a. is_set extended_length a.flags ≡ false) others
 
--- attributes that some field has in four-octet form, with whatever next hop
+-- "Attribute Length" has two octets at most
+abbrev pub HasOctets : OtherValue → Type 0
+HasOctets a = length a.value ≤ 65535
+
+-- a next hop of at most 255 bytes, or none
+abbrev pub IsShortHop : Option (List ℕ) → Type 0
+IsShortHop None = ⊤
+IsShortHop (Some hop) = length hop ≤ 255
+
+-- attributes that some field has in four-octet form, save for their next hop, which is absent or has at most 255 bytes
 pub record IsGiven (attrs : AttrsValue) : Type 0 where
   pub field : List ℕ
   pub read : AttrsReadValue
   pub are : AreAttributes Four field read
+  pub octets : AllByRecursion HasOctets are.parts
   pub same : record read.attrs { hop = attrs.hop } ≡ attrs
+  pub hop : IsShortHop attrs.hop
+
+-- an attribute that is kept as it came: not of a type that is read, without the Extended Length bit, and with room for its
+-- value
+abbrev pub IsKeptForm : OtherValue → Type 0
+IsKeptForm a = (is_read a ≡ false) × (is_set extended_length a.flags ≡ false) × HasOctets a
+
+-- not of this type
+abbrev pub IsOtherCode : ℕ → OtherValue → Type 0
+IsOtherCode code a = (code == a.code) ≡ false
+
+-- an attribute has room for the path
+abbrev pub FitsPath : Option (List SegmentValue) → Type 0
+FitsPath None = ⊤
+FitsPath (Some path) = segments_size path ≤ 65535
+
+-- the address of an aggregator
+abbrev pub HasFourOctets : Option AggregatorValue → Type 0
+HasFourOctets None = ⊤
+HasFourOctets (Some a) = length a.identifier ≡ 4
+
+-- What makes them so: the attributes that are kept as they came are, no two of one type; and each value has room.
+pub record CanBeGiven (attrs : AttrsValue) : Type 0 where
+  pub others : AllByRecursion IsKeptForm attrs.others
+  pub distinct : IsDistinct (λ j k. j == k) (map (λ a. a.code) attrs.others)
+  pub path : FitsPath attrs.path
+  pub aggregator : HasFourOctets attrs.aggregator
+  pub communities : 4 * length attrs.communities ≤ 65535
+  pub hop : IsShortHop attrs.hop
 
 -- the side that a view speaks of
 abbrev pub side_of_view : View → Side

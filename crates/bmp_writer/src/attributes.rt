@@ -14,7 +14,7 @@ use path_attrs::Aggregator;
 use wire_io::{ByteList, NoMemory};
 
 /// "Extended Length bit" (RFC 4271, section 4.3).
-const EXTENDED_LENGTH: u8 = 0x10;
+pub(crate) const EXTENDED_LENGTH: u8 = 0x10;
 
 /// "Transitive bit", "Optional bit", and both.
 pub(crate) const TRANSITIVE: u8 = 0x40;

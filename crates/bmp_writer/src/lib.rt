@@ -16,10 +16,12 @@
 #![tactic(auto)]
 
 mod attributes;
+
 mod capabilities;
 mod common;
 mod front;
 mod initiation;
+mod limits;
 mod mark;
 mod multi;
 mod nlri;
@@ -32,6 +34,7 @@ mod peer_up;
 mod routes;
 mod update;
 
+pub use limits::can_routes;
 pub use initiation::put_initiation;
 pub use mark::put_mark;
 pub use peer_down::put_peer_down;

@@ -164,8 +164,8 @@ fn is_short(table: &Option<ByteList>) -> bool
     }
 }
 
-// Whether it has the four octets of a BGP Identifier (RFC 4271, section 4.2).
-fn has_four_octets(identifier: [u8; 4]) -> bool
+/// Whether it has the four octets of a BGP Identifier (RFC 4271, section 4.2).
+pub(crate) fn has_four_octets(identifier: [u8; 4]) -> bool
     ensures says { IsTrue result }
     ensures four { length identifier ≡ 4 }
 {

@@ -19,8 +19,8 @@ use wire_io::{ByteList, NoMemory};
 /// The bytes of the common header and the Per-Peer Header.
 const HEADERS: usize = 48;
 
-// The family of the first prefix.
-fn family_of(withdrawn: &[Nlri], announced: &[Nlri]) -> Family
+/// The family of the first prefix.
+pub(crate) fn family_of(withdrawn: &[Nlri], announced: &[Nlri]) -> Family
     ensures { result ≡ family_at (withdrawn.now ++ announced.now) }
 {
     if !withdrawn.is_empty() {

@@ -24,8 +24,8 @@ const LONGEST: usize = 65535;
 /// "Type" of an UPDATE message (RFC 4271, section 4.1).
 const UPDATE: u8 = 2;
 
-// Whether announcements stand in "Network Layer Reachability Information".
-fn is_plain(family: Family, hop: &Option<ByteList>) -> bool
+/// Whether announcements stand in "Network Layer Reachability Information".
+pub(crate) fn is_plain(family: Family, hop: &Option<ByteList>) -> bool
     ensures { result ≡ plain_of family hop.now }
 {
     if family == Family::V6 {
@@ -57,15 +57,15 @@ fn of_v6(family: Family, list: &[Nlri]) -> &[Nlri]
     }
 }
 
-// The prefixes, where it is so.
-fn where_there(there: bool, list: &[Nlri]) -> &[Nlri]
+/// The prefixes, where it is so.
+pub(crate) fn where_there(there: bool, list: &[Nlri]) -> &[Nlri]
     ensures { result.now ≡ where_so there list.now }
 {
     if there { list } else { &[] }
 }
 
-// The bytes of the next hop.
-fn hop_octets(hop: &Option<ByteList>) -> &[u8]
+/// The bytes of the next hop.
+pub(crate) fn hop_octets(hop: &Option<ByteList>) -> &[u8]
     ensures { result.now ≡ hop_bytes hop.now }
 {
     match hop {

@@ -8,6 +8,8 @@ mod messages;
 #[cfg(test)]
 mod model;
 #[cfg(test)]
+mod routes;
+#[cfg(test)]
 mod walks;
 #[cfg(test)]
 mod written;

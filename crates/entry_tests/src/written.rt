@@ -11,14 +11,14 @@ use std::test::Fail;
 use wire_io::ByteList;
 
 // A Peer Up Notification of the peer 192.0.2.1 (RFC 7854, section 4.10).
-const PEER_UP: &str = "030000009a03\
+pub(crate) const PEER_UP: &str = "030000009a03\
     00000000000000000000000000000000000000000000c00002010000fbf4c00002010000000000000000\
     000000000000000000000000c00002fe00b3c350\
     ffffffffffffffffffffffffffffffff002b0104fbf000b4c00002fe0e020c01040001000141040000fbf0\
     ffffffffffffffffffffffffffffffff002b0104fbf400b4c00002010e020c01040001000141040000fbf4";
 
 // The same, where path identifiers are used for IPv4 unicast (RFC 7911, section 4).
-const WITH_PATHS: &str = "03000000a603\
+pub(crate) const WITH_PATHS: &str = "03000000a603\
     00000000000000000000000000000000000000000000c00002010000fbf4c00002010000000000000000\
     000000000000000000000000c00002fe00b3c350\
     ffffffffffffffffffffffffffffffff00310104fbf000b4c00002fe14021201040001000141040000fbf0450400010101\
