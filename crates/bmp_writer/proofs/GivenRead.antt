@@ -1,24 +1,23 @@
 -- Which attributes some field has.
-use Rattle.std.proofs.Common.{◌≡◌, ℕ, zero, suc, ◌+◌, ◌*◌, ◌==◌, ◌≤◌, ◌<◌, ◌↔◌, not, cond, filter, Bool, true, false, List, [], ◌∷◌, ◌++◌, length, map, drop, Option, Some, None, refl, sym, ap, subst, ◌∙◌, append_assoc, append-nil, arith, length-append, length-drop}
+use Rattle.std.proofs.Common.{◌≡◌, ℕ, ◌*◌, ◌==◌, ◌≤◌, ◌↔◌, not, cond, filter, Bool, true, false, List, [], ◌∷◌, ◌++◌, length, map, Option, Some, None, refl, sym, ap, subst, ◌∙◌, append_assoc, append-nil, arith, length-drop}
 use Rattle.std.specs.List.{AllByRecursion}
 use Rattle.bmp_specs.specs.declared.wire.Family.TheVariants.{V4}
 use Rattle.bmp_specs.specs.declared.wire.Width.TheVariants.{Four}
-use Rattle.bmp_specs.specs.AsPath.{ArePath, IsAsNumber, IsSegment, segment_type}
-use Rattle.bmp_specs.specs.Attribute.{IsAttribute}
-use Rattle.bmp_specs.specs.Attributes.{AreCommunities, IsAggregator, IsAtomic, Optional, aggregator, as_path, atomic_aggregate, communities, is_read, kept, local_pref, mp_reach_nlri, mp_unreach_nlri, multi_exit_disc, next_hop, origin, value_of}
+use Rattle.bmp_specs.specs.AsPath.{ArePath, IsAsNumber, segment_type}
+use Rattle.bmp_specs.specs.Attributes.{AreCommunities, IsAggregator, IsAtomic, Optional, aggregator, as_path, atomic_aggregate, communities, is_read, kept, local_pref, multi_exit_disc, next_hop, origin, value_of}
 use Rattle.bmp_specs.specs.MpNlri.{IsMpReach, IsMpUnreach}
 use Rattle.bmp_specs.specs.Number.{IsNumber}
 use Rattle.bmp_specs.specs.Parts.{AreParts}
 use Rattle.bmp_specs.specs.PeerHeader.{is_set}
 use Rattle.bmp_specs.specs.Sequence.{IsField}
-use Rattle.bmp_specs.specs.Values.{AggregatorValue, AttrsValue, MpValue, NlriValue, OtherValue, SegmentValue}
-use Rattle.bmp_writer.specs.WrittenAttributes.{AreMulti, AreOthers, AreSomeCommunities, IsFirst, IsFront, IsPart, IsReach, IsSecond, IsUnreach, Joined, head_bytes, optional, optional_transitive, part_of, segments_size, transitive, written, written_other}
-use Rattle.bmp_writer.specs.WrittenRoutes.{AreKept, CanBeGiven, FitsPath, HasFourOctets, HasOctets, IsGiven, IsKeptForm, IsShortHop}
+use Rattle.bmp_specs.specs.Values.{AggregatorValue, AttrsValue, MpValue, OtherValue, SegmentValue}
+use Rattle.bmp_writer.specs.WrittenAttributes.{AreMulti, AreOthers, AreSomeCommunities, IsFirst, IsPart, IsReach, IsSecond, IsUnreach, Joined, head_bytes, optional, optional_transitive, part_of, transitive, written_other}
+use Rattle.bmp_writer.specs.WrittenRoutes.{AreKept, CanBeGiven, FitsPath, HasFourOctets, HasOctets, IsGiven, IsKeptForm}
 use Rattle.bmp_writer.specs.WrittenUpdate.{PlacesValue}
 use Rattle.bmp_writer.specs.WrittenUpdate.{IsField as IsFieldOf}
 use Rattle.bmp_writer.proofs.AttributesRead.{attribute_here, numbers_length, segments_length}
 use Rattle.bmp_writer.proofs.FieldRead.{Slot, slot_parts, value_of-cons}
-use Rattle.bmp_writer.proofs.RoutesRead.{Told, are_attributes, attrs_read, parts_are, ten, told_here}
+use Rattle.bmp_writer.proofs.RoutesRead.{are_attributes, attrs_read, parts_are, ten, told_here}
 use Rattle.bmp_writer.proofs.RoutesWritten.{given_kept}
 
 -- "Attribute Length" can state the length of a value that is there
@@ -232,17 +231,30 @@ can_given attrs can =
       read = attrs_read V4 p field t (can_keep attrs can) refl;
       are = are_attributes V4 p field t (can_keep attrs can) refl;
       octets = subst (λ (l : List OtherValue). AllByRecursion HasOctets l) (sym (parts_are V4 p field t (can_keep attrs can) refl)) (
-        parts_short (ten t.v1 t.v2 t.v3 t.v4 t.v5 t.v6 t.v7 t.v8 t.v14 t.v15) (map written_other attrs.others)
-          (number_short 1 t.v1 attrs.origin (omega arith) t.origin_is,
-              (path_short t.v2 attrs.path can.path t.path_is,
-                  (hop_short t.v3 t.hop_is,
-                      (number_short 4 t.v4 attrs.med (omega arith) t.med_is,
-                          (number_short 4 t.v5 attrs.pref (omega arith) t.pref_is,
-                              (atomic_short t.v6 attrs.atomic t.atomic_is,
-                                  (aggregator_short t.v7 attrs.aggregator t.aggregator_is,
-                                      (communities_short t.v8 attrs.communities can.communities t.communities_are, (multi_short IsMpReach [] t.v14 t.reach t.multi_are t.reach_is, (multi_short IsMpUnreach [] t.v15 t.unreach t.unreachable_are t.unreach_is, tt))))))))))
+          parts_short (ten t.v1 t.v2 t.v3 t.v4 t.v5 t.v6 t.v7 t.v8 t.v14 t.v15) (map written_other attrs.others) (
+            number_short 1 t.v1 attrs.origin (omega arith) t.origin_is,
+            (
+              path_short t.v2 attrs.path can.path t.path_is,
+              (
+                hop_short t.v3 t.hop_is,
+                (
+                  number_short 4 t.v4 attrs.med (omega arith) t.med_is,
+                  (
+                    number_short 4 t.v5 attrs.pref (omega arith) t.pref_is,
+                    (
+                      atomic_short t.v6 attrs.atomic t.atomic_is,
+                      (
+                        aggregator_short t.v7 attrs.aggregator t.aggregator_is,
+                        (communities_short t.v8 attrs.communities can.communities t.communities_are, (multi_short IsMpReach [] t.v14 t.reach t.multi_are t.reach_is, (multi_short IsMpUnreach [] t.v15 t.unreach t.unreachable_are t.unreach_is, tt))),
+                      ),
+                    ),
+                  ),
+                ),
+              ),
+            ),
+          )
           (others_short attrs.others (forms_octets attrs.others can.others))
-      );
+          );
       same = refl;
       hop = can.hop;
     }

@@ -1,6 +1,7 @@
 -- Pieces put one behind another are the attributes of a field.
-use Rattle.std.proofs.Common.{◌≡◌, ℕ, ◌+◌, ◌==◌, ◌<◌, ◌≤◌, Bool, true, false, not, List, [], ◌∷◌, ◌++◌, length, drop, Option, Some, None, refl, sym, ap, subst, ◌∙◌, append_assoc, append-nil, arith, length-append}
-use Rattle.std.proofs.lemmas.List.{take_at, drop_at}
+use Rattle.std.proofs.Common.{◌≡◌, ℕ, ◌+◌, ◌==◌, ◌<◌, ◌≤◌, Bool, true, false, not, List, [], ◌∷◌, ◌++◌, length, slice_index, drop, Option, Some, None, refl, sym, ap, subst, ◌∙◌, append_assoc, append-nil, arith, length-append}
+use Rattle.std.proofs.Math.Seq.{get_or-append_seam}
+use Rattle.std.proofs.lemmas.List.{get_or-append-add, take_at, drop_at}
 use Rattle.byteorder.specs.Endian.{big_bytes, big_number}
 use Rattle.bmp_specs.specs.declared.wire.Family.{Family}
 use Rattle.bmp_specs.specs.declared.wire.Family.TheVariants.{V4, V6}
@@ -13,7 +14,7 @@ use Rattle.bmp_specs.specs.Number.{IsNumber}
 use Rattle.bmp_specs.specs.Sequence.{IsField}
 use Rattle.bmp_specs.specs.Values.{AttrsValue, MpValue, NlriValue, OtherValue}
 use Rattle.bmp_writer.specs.Written.{Appends, Keeps}
-use Rattle.bmp_writer.specs.WrittenAttributes.{AreOthers, AreSomeCommunities, IsFirst, IsFront, IsPart, IsReach, IsReachValue, IsSecond, IsUnreach, IsUnreachValue, Joined, head_bytes, optional, optional_transitive, transitive, with_hop}
+use Rattle.bmp_writer.specs.WrittenAttributes.{AreOthers, AreSomeCommunities, IsFirst, IsFront, IsPart, IsPlainReach, IsReach, IsReachValue, IsSecond, IsUnreach, IsUnreachValue, Joined, head_bytes, optional, optional_transitive, transitive, with_hop}
 use Rattle.bmp_writer.specs.WrittenNlri.{AreOwnNlri, nlris_size}
 use Rattle.bmp_writer.specs.WrittenUpdate.{hop_bytes, is_plain, no_attrs, of_v6, others_of, places, told_of, where_so}
 use Rattle.bmp_writer.specs.WrittenUpdate.{IsField as IsFieldOf}
@@ -80,6 +81,10 @@ is_reach family hop prefixes =
       prefixes_are = ap (λ (l : List ℕ). drop (length hop + 5) l) split ∙ drop_at front prefixes (length hop + 5) len;
     }
 
+-- the reserved octet stands behind the next hop
+reserved_here : (family : Family) (hop prefixes : List ℕ) → slice_index (reach_value family hop prefixes) (4 + length hop) ≡ 0
+reserved_here family hop prefixes = get_or-append-add ((big_bytes 2 (afi_of family) ++ unicast ∷ []) ++ length hop ∷ []) (hop ++ 0 ∷ prefixes) (length hop) 0 ∙ get_or-append_seam hop 0 prefixes 0
+
 pub reach_value_put : (family : Family) (hop : List ℕ) (ns : List NlriValue) (octets old m1 m2 m3 m4 new : List ℕ) → octets ≡ big_bytes 2 (afi_of family) ++ unicast ∷ [] → m1 ≡ old ++ octets → m2 ≡ m1 ++ length hop ∷ []
     → m3 ≡ m2 ++ hop → m4 ≡ m3 ++ 0 ∷ [] → Appends (AreOwnNlri ns) m4 new → Appends (IsReachValue family hop ns) old new
 reach_value_put family hop ns octets old m1 m2 m3 m4 new o e1 e2 e3 e4 (prefixes, f, are) =
@@ -89,14 +94,14 @@ reach_value_put family hop ns octets old m1 m2 m3 m4 new o e1 e2 e3 e4 (prefixes
     let size : length (reach_value family hop prefixes) ≡ 5 + length hop + nlris_size ns = omega (arith, length-append hop (0 ∷ prefixes), nlris_length ns prefixes are) in (
       reach_value family hop prefixes,
       joined ∙ ap (λ (l : List ℕ). old ++ (l ++ (length hop ∷ (hop ++ 0 ∷ prefixes)))) o,
-      record { prefixes = prefixes; is = is_reach family hop prefixes; are = are; size = size },
+      record { prefixes = prefixes; is = record { is = is_reach family hop prefixes; reserved = reserved_here family hop prefixes }; are = are; size = size },
     )
 
 pub reach_put : (family : Family) (hop : List ℕ) (ns : List NlriValue) (size : ℕ) (old mid new : List ℕ) → 0 < length ns → size ≡ 5 + length hop + nlris_size ns → size ≤ 65535
     → mid ≡ old ++ head_bytes optional mp_reach_nlri size → Appends (IsReachValue family hop ns) mid new → Appends (IsReach family hop ns) old new
 reach_put family hop ns size old mid new some s short e (value, f, form) =
     let m = mp_of family hop form.prefixes in
-    let (bytes, joined, part) = part_put optional mp_reach_nlri (λ x. Optional IsMpReach x (Some m)) value old new form.is
+    let (bytes, joined, part) = part_put optional mp_reach_nlri (λ x. Optional IsPlainReach x (Some m)) value old new form.is
     (attribute_put optional mp_reach_nlri size value old mid new (omega (arith, form.size, s, short)) (s ∙ sym form.size) e f) in
     (bytes, joined, record { multi = Some m; are = record { prefixes = form.prefixes; is = refl; are = form.are; some = some }; is = part })
 

@@ -42,7 +42,7 @@ prefix_here p valid =
     let len : length (take k p.address.octets) ≡ k = omega (arith, length-take k p.address.octets, short) in
     let room : (16 - length (take k p.address.octets)) + k ≡ length p.address.octets = omega (arith, len, short, valid.address.len) in
     let same : first_bits p.bits (padded (take k p.address.octets)) ≡ p.address.octets = front_bits p.bits p.address.octets k (16 - length (take k p.address.octets)) refl room valid.address.bytes ∙ valid.clear in
-    record { within = valid.within; whole = len; value = ap (λ (o : List ℕ). record { address = record { family = p.address.family; octets = o }; bits = p.bits }) (sym same) }
+    record { is = record { within = valid.within; whole = len; value = ap (λ (o : List ℕ). record { address = record { family = p.address.family; octets = o }; bits = p.bits }) (sym same) }; exact = refl }
 
 -- what is put in two pieces
 pub prefix_put : (p : PrefixValue) (bits : ℕ) (octets old mid new : List ℕ) → IsAddressPrefix p → bits ≡ p.bits → octets ≡ take (bytes_for p.bits) p.address.octets
@@ -53,11 +53,17 @@ prefix_put p bits octets old mid new valid b o e f =
     (bits ∷ octets, joined, subst (λ (l : List ℕ). IsOwnPrefix p l) (sym same) (prefix_here p valid))
 
 with_id : (p : PrefixValue) (id : Option ℕ) (a b : List ℕ) → IsId id a → IsOwnPrefix p b → IsOwnNlri (a ++ b) (record { prefix = p; id = id })
-with_id p None a b none is = record { prefix_is = subst (λ (l : List ℕ). IsPrefix p.address.family (l ++ b) p) (sym none) is; id_is = refl }
+with_id p None a b none is = record {
+  is = record { prefix_is = subst (λ (l : List ℕ). IsPrefix p.address.family (l ++ b) p) (sym none) is.is; id_is = refl };
+  exact = ap (λ (l : List ℕ). l ++ b) none ∙ is.exact;
+}
 with_id p (Some id) a b number is = record {
-  header = omega (arith, length-append a b, number.len);
-  id_is = ap (λ (n : ℕ). Some n) (sym (big_number-drop-append 4 0 a b (omega (arith, number.len)) ∙ number.value_is));
-  prefix_is = subst (λ (l : List ℕ). IsPrefix p.address.family l p) (sym (drop_at a b 4 number.len)) is;
+  is = record {
+    header = omega (arith, length-append a b, number.len);
+    id_is = ap (λ (n : ℕ). Some n) (sym (big_number-drop-append 4 0 a b (omega (arith, number.len)) ∙ number.value_is));
+    prefix_is = subst (λ (l : List ℕ). IsPrefix p.address.family l p) (sym (drop_at a b 4 number.len)) is.is;
+  };
+  exact = drop_at a b 4 number.len ∙ is.exact;
 }
 
 pub nlri_put : (n : NlriValue) (old mid new : List ℕ) → (a : List ℕ) × (mid ≡ old ++ a) × IsId n.id a → (b : List ℕ) × (new ≡ mid ++ b) × IsOwnPrefix n.prefix b
@@ -71,8 +77,8 @@ prefix_length family (bits ∷ sent) p is =
     omega (arith, is.whole, same)
 
 with_id_length : (p : PrefixValue) (id : Option ℕ) (bytes : List ℕ) → IsOwnNlri bytes (record { prefix = p; id = id }) → length bytes ≡ id_size id + (1 + bytes_for p.bits)
-with_id_length p None bytes is = omega (arith, prefix_length p.address.family bytes p is.prefix_is)
-with_id_length p (Some id) bytes is = omega (arith, prefix_length p.address.family (drop 4 bytes) p is.prefix_is, length-drop 4 bytes, is.header)
+with_id_length p None bytes is = omega (arith, prefix_length p.address.family bytes p is.is.prefix_is)
+with_id_length p (Some id) bytes is = omega (arith, prefix_length p.address.family (drop 4 bytes) p is.is.prefix_is, length-drop 4 bytes, is.is.header)
 
 pub nlris_length : (ns : List NlriValue) (bytes : List ℕ) → AreOwnNlri ns bytes → length bytes ≡ nlris_size ns
 nlris_length [] bytes p = ap (λ (l : List ℕ). length l) p

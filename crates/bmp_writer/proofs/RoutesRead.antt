@@ -26,7 +26,7 @@ use Rattle.bmp_specs.specs.PeerHeader.{HeaderValue, is_set, l_flag, loc_rib, o_f
 use Rattle.bmp_specs.specs.Sequence.{IsField}
 use Rattle.bmp_specs.specs.Update.{AreMpNlri, IsUpdate, empty_family, passed_over, with_hop_of}
 use Rattle.bmp_specs.specs.Values.{AttrsReadValue, AttrsValue, MpValue, NlriValue, OpensValue, OtherValue, UpdateValue}
-use Rattle.bmp_writer.specs.WrittenAttributes.{AreMulti, AreOthers, AreSomeCommunities, optional, optional_transitive, part_of, transitive, written_other}
+use Rattle.bmp_writer.specs.WrittenAttributes.{IsPlainReach, AreMulti, AreOthers, AreSomeCommunities, optional, optional_transitive, part_of, transitive, written_other}
 use Rattle.bmp_writer.specs.WrittenNlri.{AreOwnNlri, nlri_size}
 use Rattle.bmp_writer.specs.WrittenRoutes.{AreKept, IsAlike, side_of_view}
 use Rattle.bmp_writer.specs.WrittenUpdate.{PlacesValue, counted, is_plain, of_v4, of_v6, others_of, places, told_of, where_so}
@@ -76,6 +76,12 @@ others_parts : (others : List OtherValue) (bytes : List ℕ) → AreOthers other
 others_parts [] bytes p = p
 others_parts (a ∷ more) bytes (front, rest, split, is, p) = (front, rest, split, is, others_parts more rest p)
 
+plain_reach : (value : Option (List ℕ)) (m : Option MpValue) → Optional IsPlainReach value m → Optional IsMpReach value m
+plain_reach None None is = is
+plain_reach None (Some m) is = is
+plain_reach (Some x) None is = is
+plain_reach (Some x) (Some m) is = is.is
+
 pub told_here : (family : Family) (p : PlacesValue) (bytes : List ℕ) → IsFieldOf family p bytes → Told family p bytes
 told_here family p bytes (front, behind, s0, (one, two, s1_, (b1, r1, t1, p1, (b2, r2, t2, p2, (b3, b4, t3, p3, p4))), (b5, r5, t5, p5, (b6, r6, t6, p6, (b7, b8, t7, p7, p8)))), (re, r9, s9, reach, (un, ot, s10, unreach, others))) =
     let s1 = slot transitive origin p1.value in
@@ -122,7 +128,7 @@ told_here family p bytes (front, behind, s0, (one, two, s1_, (b1, r1, t1, p1, (b
       atomic_is = p6.is;
       aggregator_is = p7.is;
       communities_are = p8.is;
-      reach_is = reach.is.is;
+      reach_is = plain_reach reach.is.value reach.multi reach.is.is;
       unreach_is = unreach.is.is;
       multi_are = reach.are;
       unreachable_are = unreach.are;
@@ -176,7 +182,7 @@ module _ (family : Family) (p : PlacesValue) (bytes : List ℕ) (t : Told family
 pub own_alike : (family : Family) (ids : Bool) (ns : List NlriValue) (bytes : List ℕ) → AllByRecursion (IsAlike family ids) ns → AreOwnNlri ns bytes → AreNlri family ids bytes ns
 own_alike family ids [] bytes a p = p
 own_alike family ids (n ∷ ns) bytes ((f, i), a) (front, rest, split, is, p) =
-    let here : IsNlri family ids front n = subst (λ (b : Bool). IsNlri family b front n) i (subst (λ (g : Family). IsNlri g (is_some n.id) front n) f is) in
+    let here : IsNlri family ids front n = subst (λ (b : Bool). IsNlri family b front n) i (subst (λ (g : Family). IsNlri g (is_some n.id) front n) f is.is) in
     (front, rest, split, here, own_alike family ids ns rest a p)
 
 unicast_here : (family : Family) → unicast_family (afi_of family) unicast ≡ Some family

@@ -8,13 +8,13 @@ use Rattle.bmp_specs.specs.declared.wire.Width.TheVariants.{Four}
 use Rattle.bmp_specs.specs.AsPath.{ArePath}
 use Rattle.bmp_specs.specs.Attributes.{IsAggregator, IsAtomic, Optional, aggregator, as_path, atomic_aggregate, communities, local_pref, mp_reach_nlri, mp_unreach_nlri, multi_exit_disc, next_hop, origin}
 use Rattle.bmp_specs.specs.BgpMessage.{marker, update_type}
-use Rattle.bmp_specs.specs.MpNlri.{IsMpReach, IsMpUnreach, hop_length}
+use Rattle.bmp_specs.specs.MpNlri.{IsMpUnreach, hop_length}
 use Rattle.bmp_specs.specs.Number.{IsNumber}
 use Rattle.bmp_specs.specs.Parts.{Split}
 use Rattle.bmp_specs.specs.Sequence.{IsField}
 use Rattle.bmp_specs.specs.Values.{AggregatorValue, AttrsValue, MpValue, NlriValue, OtherValue, SegmentValue}
 use Rattle.bmp_writer.specs.Written.{Appends}
-use Rattle.bmp_writer.specs.WrittenAttributes.{AreMulti, AreOthers, AreSomeCommunities, IsFront, Joined, atomic_size, attribute_size, communities_size, front_size, optional, optional_size, optional_transitive, others_size, part_size, segments_size, there_size, transitive}
+use Rattle.bmp_writer.specs.WrittenAttributes.{AreMulti, AreOthers, AreSomeCommunities, IsFront, IsPlainReach, Joined, atomic_size, attribute_size, communities_size, front_size, optional, optional_size, optional_transitive, others_size, part_size, segments_size, there_size, transitive}
 use Rattle.bmp_writer.specs.WrittenNlri.{AreOwnNlri, nlris_size}
 use Rattle.bmp_writer.specs.WrittenUpdate.{IsCountedOf, IsUpdateOf, PlacesValue, counted, field_size, reach_size, unreach_size, update_size}
 use Rattle.bmp_writer.specs.WrittenUpdate.{IsField as IsFieldOf}
@@ -73,7 +73,7 @@ front_length told bytes (one, two, s1, (b1, r1, t1, p1, (b2, r2, t2, p2, (b3, b4
     let j : (xs a b : List ℕ) → Split xs a b → length xs ≡ length a + length b = λ xs a b s. ap (λ (x : List ℕ). length x) s.joined ∙ length-append a b in
     omega (arith, j bytes one two s1, j one b1 r1 t1, j r1 b2 r2 t2, j r2 b3 b4 t3, j two b5 r5 t5, j r5 b6 r6 t6, j r6 b7 b8 t7, l1, l2, l3, l4, l5, l6, l7, l8)
 
-multi_size : (family : Family) (hop : List ℕ) (ns : List NlriValue) (m : Option MpValue) (value : Option (List ℕ)) → AreMulti family hop ns m → Optional IsMpReach value m → part_size value ≡ reach_size hop ns
+multi_size : (family : Family) (hop : List ℕ) (ns : List NlriValue) (m : Option MpValue) (value : Option (List ℕ)) → AreMulti family hop ns m → Optional IsPlainReach value m → part_size value ≡ reach_size hop ns
 multi_size family hop ns None None none is = ap (λ (l : List NlriValue). reach_size hop l) (sym none)
 multi_size family hop ns None (Some x) none is = absurd is
 multi_size family hop ns (Some m) None are is = absurd is
@@ -81,9 +81,9 @@ multi_size family hop [] (Some m) (Some x) are is = absurd (omega (arith, are.so
 multi_size family hop (n ∷ ns) (Some m) (Some x) are is =
     let h : length m.hop ≡ length hop = ap (λ (v : MpValue). length v.hop) are.is in
     let q : length m.prefixes ≡ nlris_size (n ∷ ns) = ap (λ (v : MpValue). length v.prefixes) are.is ∙ nlris_length (n ∷ ns) are.prefixes are.are in
-    let k : length (take (hop_length x) (drop 4 x)) ≡ length m.hop = ap (λ (l : List ℕ). length l) is.hop_is in
-    let r : length (drop (hop_length x + 5) x) ≡ length m.prefixes = ap (λ (l : List ℕ). length l) is.prefixes_are in
-    let all : length x ≡ 5 + length hop + nlris_size (n ∷ ns) = omega (arith, h, q, k, r, is.header, length-take (hop_length x) (drop 4 x), length-drop 4 x, length-drop (hop_length x + 5) x) in
+    let k : length (take (hop_length x) (drop 4 x)) ≡ length m.hop = ap (λ (l : List ℕ). length l) is.is.hop_is in
+    let r : length (drop (hop_length x + 5) x) ≡ length m.prefixes = ap (λ (l : List ℕ). length l) is.is.prefixes_are in
+    let all : length x ≡ 5 + length hop + nlris_size (n ∷ ns) = omega (arith, h, q, k, r, is.is.header, length-take (hop_length x) (drop 4 x), length-drop 4 x, length-drop (hop_length x + 5) x) in
     ap (λ (s : ℕ). attribute_size s) all
 
 unmulti_size : (family : Family) (ns : List NlriValue) (m : Option MpValue) (value : Option (List ℕ)) → AreMulti family [] ns m → Optional IsMpUnreach value m → part_size value ≡ unreach_size ns

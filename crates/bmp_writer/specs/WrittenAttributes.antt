@@ -1,5 +1,5 @@
 -- Path attributes of an UPDATE message, as they are written (RFC 4271, section 4.3).
-use Rattle.std.specs.Prelude.{◌≡◌, ℕ, ◌+◌, ◌*◌, ◌-◌, ◌<◌, ◌≤◌, nat_lt, Bool, true, false, if◌then◌else◌, List, [], ◌∷◌, length, sum_by, Option, Some, None, ⊤, bit_or}
+use Rattle.std.specs.Prelude.{◌≡◌, ℕ, ◌+◌, ◌*◌, ◌-◌, ◌<◌, ◌≤◌, nat_lt, Bool, true, false, if◌then◌else◌, List, [], ◌∷◌, length, slice_index, sum_by, Option, Some, None, ⊤, bit_or}
 use Rattle.std.specs.List.{AllByRecursion}
 use Rattle.byteorder.specs.Endian.{big_bytes}
 use Rattle.bmp_specs.specs.declared.wire.Family.{Family}
@@ -113,10 +113,15 @@ abbrev pub AreMulti : Family → List ℕ → List NlriValue → Option MpValue 
 AreMulti family hop ns None = ns ≡ []
 AreMulti family hop ns (Some m) = IsMulti family hop ns m
 
+-- MP_REACH_NLRI with a reserved octet of 0
+pub record IsPlainReach (value : List ℕ) (m : MpValue) : Type 0 where
+  pub is : IsMpReach value m
+  pub reserved : slice_index value (4 + length m.hop) ≡ 0
+
 -- the value of MP_REACH_NLRI
 pub record IsReachValue (family : Family) (hop : List ℕ) (ns : List NlriValue) (value : List ℕ) : Type 0 where
   pub prefixes : List ℕ
-  pub is : IsMpReach value (record { afi = afi_of family; safi = unicast; hop = hop; prefixes = prefixes })
+  pub is : IsPlainReach value (record { afi = afi_of family; safi = unicast; hop = hop; prefixes = prefixes })
   pub are : AreOwnNlri ns prefixes
   pub size : length value ≡ 5 + length hop + nlris_size ns
 
@@ -131,7 +136,7 @@ pub record IsUnreachValue (family : Family) (ns : List NlriValue) (value : List 
 pub record IsReach (family : Family) (hop : List ℕ) (ns : List NlriValue) (bytes : List ℕ) : Type 0 where
   pub multi : Option MpValue
   pub are : AreMulti family hop ns multi
-  pub is : IsPart optional mp_reach_nlri (λ value. Optional IsMpReach value multi) bytes
+  pub is : IsPart optional mp_reach_nlri (λ value. Optional IsPlainReach value multi) bytes
 
 -- MP_UNREACH_NLRI (RFC 4760, section 4), where there are prefixes
 pub record IsUnreach (family : Family) (ns : List NlriValue) (bytes : List ℕ) : Type 0 where

@@ -8,7 +8,8 @@
 //! up, with whatever OPENs. A Peer Up Notification tells all of a peer but whether an OPEN has extended
 //! parameters; `can_peer_up` says exactly where it can, and its OPENs are some that can be read. A Route
 //! Monitoring message withdraws routes and then announces others, where the peer is up and path identifiers
-//! are used exactly where the routes have them. The Per-Peer Header of any other message than a Peer Up names
+//! are used exactly where the routes have them; `can_routes` says exactly where it can, and that the attributes
+//! are some that a field can have. The Per-Peer Header of any other message than a Peer Up names
 //! no AS and no identifier, and no header has a time; its A flag is clear. A Peer Down Notification has no
 //! data, an Initiation Message no further TLVs.
 //! Begin with `specs/Written.antt`, then `src/initiation.rt`, `src/peer.rt`, `src/peer_up.rt` and
@@ -16,7 +17,6 @@
 #![tactic(auto)]
 
 mod attributes;
-
 mod capabilities;
 mod common;
 mod front;
@@ -34,8 +34,8 @@ mod peer_up;
 mod routes;
 mod update;
 
-pub use limits::can_routes;
 pub use initiation::put_initiation;
+pub use limits::can_routes;
 pub use mark::put_mark;
 pub use peer_down::put_peer_down;
 pub use peer_up::{can_peer_up, put_peer_up};

@@ -1,4 +1,3 @@
-use Rattle.std.proofs.Common.{sym}
 use Rattle.bmp_writer.proofs.Carrying.{carry_moved}
 use Rattle.bmp_writer.proofs.GivenRead.{can_given, given_can}
 use Rattle.bmp_writer.proofs.limits.can_routes.Goals as goal
