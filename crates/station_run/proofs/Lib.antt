@@ -1,0 +1,6 @@
+pub mod Halves
+pub mod Handing
+pub mod Returning
+pub mod Taking
+pub mod Runs
+pub mod Ends

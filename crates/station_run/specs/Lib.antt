@@ -1,0 +1,6 @@
+pub mod Works
+pub mod Tasks
+pub mod Handed
+pub mod Pairing
+pub mod Served
+pub mod Serve

@@ -1,0 +1,138 @@
+//! The ports and links of a station: all are asked for before anything is served, and all are given back.
+ghost use Rattle.std.specs.Prelude.{◌≡◌, ◌+◌, ◌≤◌, ℕ, Some, [], length, vec_len, IfOk, OnOk, OnErr, MatchResult};
+ghost use Rattle.std.specs.Vec.{vec_capacity};
+ghost use Rattle.wire_io.specs.Faults.{HasCause};
+ghost use Rattle.station_run.specs.Handed.{AllComeBack, FailsAt, Lends, LendsButRefuses, LinksComeBack, PortsComeBack, Refuses, call_after, link_shows, numbered, numbered_links};
+
+use crate::room::place;
+use station_doors::{Link, Listening, Port, Yard};
+use wire_io::Failed;
+
+/// Ports and links that a yard handed out, in order of number.
+#[derive(Drop)]
+pub struct Doors<P: Port + Drop, K: Link + Drop> {
+    pub ports: Vec<P>,
+    pub links: Vec<K>,
+}
+
+// Asks for all: to listen, then for the ports, then for the links, until a call fails. The lists have what was handed out.
+fn ask_all<Y: Yard>(
+    at: &Listening,
+    yard: &mut Y,
+    ports: &mut Vec<Y::Port>,
+    links: &mut Vec<Y::Link>,
+) -> Result<(), Failed>
+    requires ports { (ports.old.items ≡ []) × (at.now.feeds ≤ vec_capacity ports.old) }
+    requires links { (links.old.items ≡ []) × (at.now.askers ≤ vec_capacity links.old) }
+    ensures asked { OnOk result ((length ports.new.items ≡ at.now.feeds) × (length links.new.items ≡ at.now.askers)) }
+    ensures lends { OnOk result (Lends (Y.told yard.old) (Y.told yard.new) (Y.calls yard.old) (1 + (at.now.feeds + at.now.askers)) (numbered Y.Port.aside 0 ports.new.items) (numbered_links (link_shows Y.Link.aside Y.Link.told Y.Link.faults) 0 links.new.items)) }
+    ensures calls { OnOk result (Y.calls yard.new ≡ call_after (Y.calls yard.old) (1 + (at.now.feeds + at.now.askers))) }
+    ensures refused { OnErr result ((before : ℕ) × FailsAt at.now before (length ports.new.items) (length links.new.items)
+        × LendsButRefuses at.now (Y.told yard.old) (Y.told yard.new) (Y.calls yard.old) before (numbered Y.Port.aside 0 ports.new.items) (numbered_links (link_shows Y.Link.aside Y.Link.told Y.Link.faults) 0 links.new.items)
+        × (Y.calls yard.new ≡ call_after (Y.calls yard.old) (before + 1))) }
+    ensures room { (vec_capacity ports.old ≤ vec_capacity ports.new) × (vec_capacity links.old ≤ vec_capacity links.new) }
+    ensures cause { HasCause (Y.faults yard.old) (Y.faults yard.new) result }
+    ensures listened { Y.listened yard.new ≡ Some at.now }
+    ensures endings { Y.endings yard.new ≡ Y.endings yard.old }
+    ensures ending { Y.last_ending yard.new ≡ Y.last_ending yard.old }
+{
+    let Ok(()) = yard.listen(&at.address, at.feed_port, at.feeds, at.ask_port, at.askers) else {
+        return Err(Failed);
+    };
+    for lane in 0..at.feeds {
+        let Ok(port) = yard.port(lane) else {
+            return Err(Failed);
+        };
+        place(ports, port);
+    }
+    for number in 0..at.askers {
+        let Ok(link) = yard.link(number) else {
+            return Err(Failed);
+        };
+        place(links, link);
+    }
+    Ok(())
+}
+
+// Gives the ports back.
+fn give_ports<Y: Yard>(yard: &mut Y, mut ports: Vec<Y::Port>)
+    requires few { length ports.items ≤ 64 }
+    ensures told { PortsComeBack (Y.told yard.old) (Y.told yard.new) (numbered Y.Port.aside 0 ports.items) 0 }
+    ensures calls { Y.calls yard.new ≡ Y.calls yard.old }
+    ensures calm { Y.faults yard.new ≡ Y.faults yard.old }
+    ensures listened { Y.listened yard.new ≡ Y.listened yard.old }
+    ensures endings { Y.endings yard.new ≡ Y.endings yard.old }
+    ensures ending { Y.last_ending yard.new ≡ Y.last_ending yard.old }
+{
+    ports.reverse();
+    let mut lane = 0;
+    while let Some(port) = ports.pop() {
+        yard.take_port(lane, port);
+        lane += 1;
+    }
+}
+
+// Gives the links back.
+fn give_links<Y: Yard>(yard: &mut Y, mut links: Vec<Y::Link>)
+    requires few { length links.items ≤ 64 }
+    ensures told { LinksComeBack (Y.told yard.old) (Y.told yard.new) (numbered_links (link_shows Y.Link.aside Y.Link.told Y.Link.faults) 0 links.items) 0 }
+    ensures calls { Y.calls yard.new ≡ Y.calls yard.old }
+    ensures calm { Y.faults yard.new ≡ Y.faults yard.old }
+    ensures listened { Y.listened yard.new ≡ Y.listened yard.old }
+    ensures endings { Y.endings yard.new ≡ Y.endings yard.old }
+    ensures ending { Y.last_ending yard.new ≡ Y.last_ending yard.old }
+{
+    links.reverse();
+    let mut number = 0;
+    while let Some(link) = links.pop() {
+        yard.take_link(number, link);
+        number += 1;
+    }
+}
+
+/// Gives all ports and links back, each under its number. It raises no count.
+pub fn give_back<Y: Yard>(yard: &mut Y, doors: Doors<Y::Port, Y::Link>)
+    requires few { (length doors.ports.items ≤ 64) × (length doors.links.items ≤ 64) }
+    ensures told { AllComeBack (Y.told yard.old) (Y.told yard.new) (numbered Y.Port.aside 0 doors.ports.items) (numbered_links (link_shows Y.Link.aside Y.Link.told Y.Link.faults) 0 doors.links.items) }
+    ensures calls { Y.calls yard.new ≡ Y.calls yard.old }
+    ensures calm { Y.faults yard.new ≡ Y.faults yard.old }
+    ensures listened { Y.listened yard.new ≡ Y.listened yard.old }
+    ensures endings { Y.endings yard.new ≡ Y.endings yard.old }
+    ensures ending { Y.last_ending yard.new ≡ Y.last_ending yard.old }
+{
+    let Doors { ports, links } = doors;
+    give_ports(yard, ports);
+    give_links(yard, links);
+}
+
+/// Asks the yard to listen, then for the port of each lane, then for the link of each asker, and stops at the first call
+/// that fails. Then what was handed out is given back as it is.
+pub fn open_doors<Y: Yard>(
+    at: &Listening,
+    yard: &mut Y,
+    doors: Doors<Y::Port, Y::Link>,
+) -> Result<Doors<Y::Port, Y::Link>, Failed>
+    requires ports { (doors.ports.items ≡ []) × (at.now.feeds ≤ vec_capacity doors.ports) × (at.now.feeds ≤ 64) }
+    requires links { (doors.links.items ≡ []) × (at.now.askers ≤ vec_capacity doors.links) × (at.now.askers ≤ 64) }
+    ensures asked { IfOk result (λ d. (length d.ports.items ≡ at.now.feeds) × (length d.links.items ≡ at.now.askers)) }
+    ensures lends { IfOk result (λ d. Lends (Y.told yard.old) (Y.told yard.new) (Y.calls yard.old) (1 + (at.now.feeds + at.now.askers)) (numbered Y.Port.aside 0 d.ports.items) (numbered_links (link_shows Y.Link.aside Y.Link.told Y.Link.faults) 0 d.links.items)) }
+    ensures calls { OnOk result (Y.calls yard.new ≡ call_after (Y.calls yard.old) (1 + (at.now.feeds + at.now.askers))) }
+    ensures refused { OnErr result ((before : ℕ) × Refuses at.now (Y.told yard.old) (Y.told yard.new) (Y.calls yard.old) before × (Y.calls yard.new ≡ call_after (Y.calls yard.old) (before + 1))) }
+    ensures room { IfOk result (λ d. (at.now.feeds ≤ vec_capacity d.ports) × (at.now.askers ≤ vec_capacity d.links)) }
+    ensures cause { HasCause (Y.faults yard.old) (Y.faults yard.new) result }
+    ensures listened { Y.listened yard.new ≡ Some at.now }
+    ensures endings { Y.endings yard.new ≡ Y.endings yard.old }
+    ensures ending { Y.last_ending yard.new ≡ Y.last_ending yard.old }
+{
+    let Doors {
+        mut ports,
+        mut links,
+    } = doors;
+    match ask_all(at, yard, &mut ports, &mut links) {
+        Ok(()) => Ok(Doors { ports, links }),
+        Err(failed) => {
+            give_back(yard, Doors { ports, links });
+            Err(failed)
+        }
+    }
+}
