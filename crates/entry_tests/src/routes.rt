@@ -241,28 +241,48 @@ fn can_tell(
     Some(can_routes(&peer(0), View::InPre, &withdrawn, &announced, attrs))
 }
 
+// An IPv6 prefix.
+fn longer() -> Option<Nlri> {
+    let prefix = Prefix::new(Addr::v6([0; 16]), 0)?;
+    Some(Nlri { prefix, id: None })
+}
+
 #[test]
-fn routes_that_can_be_told(rt: HostRuntime) -> Result<(), Fail> {
+fn prefixes_are_alike(rt: HostRuntime) -> Result<(), Fail> {
     let alloc = rt.alloc();
-    let plain = prefix(10, 1, None).ok_or("no prefix")?;
-    let known = prefix(10, 2, Some(7)).ok_or("no prefix")?;
-    let longer = Prefix::new(Addr::v6([0; 16]), 0).ok_or("no prefix")?;
-    let six = Nlri {
-        prefix: longer,
-        id: None,
-    };
     let none = no_attrs(alloc);
-    for (withdrawn, announced, wanted) in [
-        (Some(plain), Some(plain), true),
-        (Some(known), None, true),
-        (None, None, false),
-        (Some(plain), Some(known), false),
-        (Some(plain), Some(six), false),
-        (Some(six), None, true),
-        (None, Some(six), false),
+    for (first, second, wanted) in [
+        (None, None, true),
+        (Some(7), Some(8), true),
+        (None, Some(7), false),
     ] {
-        assert_eq!(rt; can_tell(alloc, withdrawn, announced, &none), Some(wanted));
+        let told = can_tell(alloc, prefix(10, 1, first), prefix(10, 2, second), &none);
+        assert_eq!(rt; told, Some(wanted));
     }
+    assert_eq!(rt; can_tell(alloc, None, None, &none), Some(false));
+    assert_eq!(rt;
+        can_tell(alloc, prefix(10, 1, None), longer(), &none),
+        Some(false)
+    );
+    Ok(())
+}
+
+#[test]
+fn ipv6_is_announced_with_a_next_hop(rt: HostRuntime) -> Result<(), Fail> {
+    let alloc = rt.alloc();
+    let none = no_attrs(alloc);
+    assert_eq!(rt; can_tell(alloc, longer(), None, &none), Some(true));
+    assert_eq!(rt; can_tell(alloc, None, longer(), &none), Some(false));
+    for (count, wanted) in [(255, true), (256, false)] {
+        let attrs = with_hop(alloc, count).ok_or("no memory")?;
+        assert_eq!(rt; can_tell(alloc, None, longer(), &attrs), Some(wanted));
+    }
+    Ok(())
+}
+
+#[test]
+fn other_attributes_are_some_that_a_field_can_have(rt: HostRuntime) -> Result<(), Fail> {
+    let alloc = rt.alloc();
     for (code, flags, times, wanted) in [
         (32, 0xc0, 1, true),
         (32, 0xd0, 1, false),
@@ -271,16 +291,28 @@ fn routes_that_can_be_told(rt: HostRuntime) -> Result<(), Fail> {
         (17, 0xc0, 1, false),
     ] {
         let attrs = with_others(alloc, code, flags, times).ok_or("no memory")?;
-        assert_eq!(rt; can_tell(alloc, Some(plain), None, &attrs), Some(wanted));
+        let told = can_tell(alloc, prefix(10, 1, None), None, &attrs);
+        assert_eq!(rt; told, Some(wanted));
     }
+    Ok(())
+}
+
+#[test]
+fn segments_have_at_most_255_numbers(rt: HostRuntime) -> Result<(), Fail> {
+    let alloc = rt.alloc();
     for (count, wanted) in [(255, true), (256, false)] {
         let attrs = with_path(alloc, count).ok_or("no memory")?;
-        assert_eq!(rt; can_tell(alloc, None, Some(plain), &attrs), Some(wanted));
+        let told = can_tell(alloc, None, prefix(10, 1, None), &attrs);
+        assert_eq!(rt; told, Some(wanted));
     }
-    for (count, wanted) in [(255, true), (256, false)] {
-        let attrs = with_hop(alloc, count).ok_or("no memory")?;
-        assert_eq!(rt; can_tell(alloc, None, Some(six), &attrs), Some(wanted));
-    }
+    Ok(())
+}
+
+#[test]
+fn views_are_those_of_the_peer(rt: HostRuntime) -> Result<(), Fail> {
+    let alloc = rt.alloc();
+    let none = no_attrs(alloc);
+    let plain = prefix(10, 1, None).ok_or("no prefix")?;
     let list = one(alloc, plain).ok_or("no memory")?;
     let empty = NlriList::new(alloc);
     for (kind, view, wanted) in [
@@ -290,7 +322,8 @@ fn routes_that_can_be_told(rt: HostRuntime) -> Result<(), Fail> {
         (3, View::InPre, false),
         (4, View::InPre, false),
     ] {
-        assert_eq!(rt; can_routes(&peer(kind), view, &list, &empty, &none), wanted);
+        let told = can_routes(&peer(kind), view, &list, &empty, &none);
+        assert_eq!(rt; told, wanted);
     }
     Ok(())
 }
