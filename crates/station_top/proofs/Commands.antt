@@ -6,9 +6,11 @@ use Rattle.bmp_specs.specs.Query.{QueryValue, quit, space, IsQuery}
 use Rattle.query_lang.specs.Queries.{query_value}
 use Rattle.query_lang.specs.declared.query.Query.{Query}
 use Rattle.query_lang.specs.declared.query.Query.TheVariants.{Routers, Cut, Peers, Marks, Table, Count, Exact, Longest, Within, Origin, Stats, Changes, Quit}
+use Rattle.station_top.specs.ServeWords.{IsServe}
 use Rattle.station_top.specs.Words.{IsAsking, IsCommand}
+use Rattle.station_top.specs.declared.serve_words.ServeWords.{ServeWords}
 use Rattle.station_top.specs.declared.words.Command.{Command}
-use Rattle.station_top.specs.declared.words.Command.TheVariants.{Replay, Check}
+use Rattle.station_top.specs.declared.words.Command.TheVariants.{Replay, Check, Serve}
 
 -- no other query is the end of a session
 pub not_quit : (query : Query) → ¬ (query ≡ Quit) → query_value query ≢ quit
@@ -47,6 +49,21 @@ pub no_replay : (first : List ℕ) (asked : List (List ℕ)) → first ≡ codes
 no_replay first asked is none (Replay query) r =
     let same : r.asked ≡ asked = cc r.spelled in
     none (query_value query) (subst (λ (words : List (List ℕ)). IsAsking (join_with_byte space words) (query_value query)) same r.is_asking)
+no_replay first asked is none (Serve serve) (options, e, given) =
+    let other : codes "replay" ≡ codes "serve" = cc (is, e) in
+    absurd (omega (arith, ap length other))
 no_replay first asked is none Check e =
     let other : codes "replay" ≡ codes "check" = cc (is, e) in
     absurd (omega (arith, ap length other))
+
+pub no_serve : (first : List ℕ) (options : List (List ℕ)) → first ≡ codes "serve" → ((serve : ServeWords) → IsServe serve options → ⊥) → (command : Command) → IsCommand command (first ∷ options) → ⊥
+no_serve first options is none (Serve serve) (given, e, are) =
+    let same : given ≡ options = cc e in
+    none serve (subst (λ (words : List (List ℕ)). IsServe serve words) same are)
+no_serve first options is none (Replay query) r =
+    let spelled = r.spelled in
+    let other : codes "serve" ≡ codes "replay" = cc (is, spelled) in
+    absurd (omega (arith, ap length other))
+no_serve first options is none Check e =
+    let other : codes "serve" ≡ codes "check" = cc (is, e) in
+    absurd (omega (arith, ap (λ (l : List ℕ). get_or l 0 0) other))

@@ -1,5 +1,5 @@
 -- What a command comes to, from what its steps say.
-use Rattle.std.proofs.Common.{◌≡◌, ℕ, ◌^◌, ◌<◌, ◌≤◌, List, [], ◌∷◌, ◌++◌, Option, Some, None, Result, Ok, Err, refl, sym, ◌∙◌, subst, inl, inr, arith, append-nil}
+use Rattle.std.proofs.Common.{◌≡◌, ℕ, ◌^◌, ◌<◌, ◌≤◌, List, [], ◌∷◌, ◌++◌, Option, Some, None, Result, Ok, Err, refl, sym, ap, ◌∙◌, subst, inl, inr, arith, append-nil}
 use Rattle.std.specs.Prelude.{OnOk, OnErr, sum_by}
 use Rattle.std.specs.Io.KnownBytes.{Appends, Keeps}
 use Rattle.std.proofs.lemmas.List.Sums.{sum_by-cons}
@@ -19,11 +19,17 @@ use Rattle.wire_io.proofs.Joins.{join, appends_none, keeps_appends}
 use Rattle.bmp_message.specs.Effects.{GivesMessages}
 use Rattle.station_doors.specs.Doors.{YardValue, HandsOut, TakesBack, one_more, untouched}
 use Rattle.query_eval.specs.Replies.{PutsReply}
-use Rattle.station_top.specs.Station.{LendsWhereTold, IsWritten, IsTaken, FromYard, IsReplyTo, IsStopped, refused, replied, starved, unready, called, Concludes, Answers, AnswersFault}
-use Rattle.station_top.specs.Status.{status_of}
+use Rattle.station_top.specs.Station.{LendsWhereTold, IsWritten, IsTaken, FromYard, IsReplyTo, IsStopped, TakesOneInput, Runs, refused, replied, starved, unready, called, Concludes, CallConcludes, Answers, replied_to, served, AnswersFault}
+use Rattle.station_top.specs.Status.{status_of, status_served}
 use Rattle.station_top.specs.Take.{TakesInput, BreaksOff}
 use Rattle.station_top.specs.Words.{IsCall}
+use Rattle.station_run.specs.Serve.{AnswersFault as EndsFault}
+use Rattle.station_run.specs.declared.outcome.Outcome.{Outcome}
+use Rattle.station_run.specs.declared.outcome.Outcome.TheVariants as outcome
+use Rattle.station_top.specs.declared.serve_words.ServeWords.{ServeWords}
 use Rattle.station_top.specs.declared.words.Call.{Call}
+use Rattle.station_top.specs.declared.words.Command.{Command}
+use Rattle.station_top.specs.declared.words.Command.TheVariants.{Replay, Check, Serve}
 use Rattle.station_top.specs.declared.status.Status.{Status}
 use Rattle.station_top.specs.declared.status.Status.TheVariants.{Done, Stopped, Usage, ReadFault, WriteFault, NoMemory, YardFault}
 use Rattle.station_top.specs.declared.take.Taken.{Taken}
@@ -129,6 +135,33 @@ concludes_unread meaning Stands Replies old new number told ReadFault from = abs
 concludes_unread meaning Stands Replies old new number told WriteFault from = absurd from
 
 -- the words are a call
-pub answers_called : (call : Call) (words : List (List ℕ)) (old new : Option YardValue) (number calls : ℕ) (told0 told1 : Option (List ℕ)) (status : Status) → IsCall call words → calls ≡ one_more number → Concludes (meaning_of call.lenient) (IsReplyTo call.command) old new number told0 told1 status
-    → Answers words old new number calls told0 told1 status
-answers_called call words old new number calls told0 told1 status is counted c = rw counted (record { meant = c.meant; text = c.text; means = called call c.meant c.text is c.runs; written = c.written })
+pub answers_called : (Serves : Meaning → ServeWords → Outcome → Type 0) (call : Call) (words : List (List ℕ)) (old new : Option YardValue) (number calls : ℕ) (told0 told1 : Option (List ℕ)) (status : Status) → IsCall call words → CallConcludes (Serves (meaning_of call.lenient)) call.command (meaning_of call.lenient) old new number calls told0 told1 status
+    → Answers Serves words old new number calls told0 told1 status
+answers_called Serves call words old new number calls told0 told1 status is c = go call.command refl c
+  where
+    takes : (command : Command) → call.command ≡ command → TakesOneInput command → calls ≡ one_more number → Concludes (meaning_of call.lenient) (IsReplyTo command) old new number told0 told1 status → Answers Serves words old new number calls told0 told1 status
+    takes command same one counted k = rw counted (replied_to k.meant k.text (called call k.meant k.text is (subst TakesOneInput (sym same) one) (subst (λ (m : Command). Runs (meaning_of call.lenient) (IsReplyTo m) old new number k.meant k.text) (sym same) k.runs)) k.written)
+
+    go : (command : Command) → call.command ≡ command → CallConcludes (Serves (meaning_of call.lenient)) command (meaning_of call.lenient) old new number calls told0 told1 status → Answers Serves words old new number calls told0 told1 status
+    go (Replay query) same (counted, k) = takes (Replay query) same tt counted k
+    go Check same (counted, k) = takes Check same tt counted k
+    go (Serve serve) same (outcome, comes, ends) = served serve call.lenient outcome (subst (λ (m : Command). IsCall (record { command = m; lenient = call.lenient }) words) same is) comes ends
+
+-- a fault of a station that served is answered exactly where one was counted
+write_only : (o : Outcome) → status_served o ≡ WriteFault → o ≡ outcome.WriteFault
+write_only outcome.Done is = absurd (cc is)
+write_only outcome.NoMemory is = absurd (cc is)
+write_only outcome.YardFault is = absurd (cc is)
+write_only outcome.WriteFault is = refl
+
+yard_only : (o : Outcome) → status_served o ≡ YardFault → o ≡ outcome.YardFault
+yard_only outcome.Done is = absurd (cc is)
+yard_only outcome.NoMemory is = absurd (cc is)
+yard_only outcome.YardFault is = refl
+yard_only outcome.WriteFault is = absurd (cc is)
+
+pub ends_write : (before now : ℕ) (o : Outcome) (status : Status) → status ≡ status_served o → EndsFault before now o outcome.WriteFault → AnswersFault before now status WriteFault
+ends_write before now o status is f = record { rose = λ same. f.rose (write_only o (sym is ∙ same)); calm = λ apart. f.calm (λ e. apart (is ∙ ap status_served e)) }
+
+pub ends_yard : (before now : ℕ) (o : Outcome) (status : Status) → status ≡ status_served o → EndsFault before now o outcome.YardFault → AnswersFault before now status YardFault
+ends_yard before now o status is f = record { rose = λ same. f.rose (yard_only o (sym is ∙ same)); calm = λ apart. f.calm (λ e. apart (is ∙ ap status_served e)) }

@@ -9,3 +9,4 @@ pub mod Replaying
 pub mod Concluding
 pub mod Joining
 pub mod Commands
+pub mod Settings

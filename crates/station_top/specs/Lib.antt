@@ -6,3 +6,4 @@ pub mod Replay
 pub mod Status
 pub mod Words
 pub mod Station
+pub mod ServeWords

@@ -1,5 +1,5 @@
 -- The top call: what it writes, what its status says, and what it asks of the yard.
-use Rattle.std.specs.Prelude.{◌≡◌, ◌≢◌, ℕ, ◌⊎◌, List, [], ◌∷◌, ◌++◌, Option, Some, None, Contains, Result, Ok, Err, length}
+use Rattle.std.specs.Prelude.{◌≡◌, ◌≢◌, ℕ, Bool, ◌⊎◌, List, [], ◌∷◌, ◌++◌, Option, Some, None, Contains, Result, Ok, Err, length}
 use Rattle.std.specs.Io.KnownBytes.{Appends}
 use Rattle.bmp_specs.specs.declared.causes.Cause.{Cause}
 use Rattle.bmp_specs.specs.Check.{check_lines}
@@ -15,26 +15,37 @@ use Rattle.wire_io.specs.Faults.{Rose}
 use Rattle.wire_io.specs.Writes.{AppendsFront}
 use Rattle.query_lang.specs.Queries.{query_value}
 use Rattle.station_doors.specs.Doors.{YardValue, one_more}
+use Rattle.station_run.specs.declared.outcome.Outcome.{Outcome}
 use Rattle.station_top.specs.Input.{HasCome}
+use Rattle.station_top.specs.ServeWords.{MayServe}
 use Rattle.station_top.specs.Take.{BreaksOff, Comes}
-use Rattle.station_top.specs.Status.{status_of}
+use Rattle.station_top.specs.Status.{status_of, status_served}
 use Rattle.station_top.specs.Words.{IsCall, TakeMemory}
+use Rattle.station_top.specs.declared.serve_words.ServeWords.{ServeWords}
 use Rattle.station_top.specs.declared.status.Status.{Status}
 use Rattle.station_top.specs.declared.status.Status.TheVariants.{Done, Stopped, Usage, ReadFault, WriteFault, NoMemory, YardFault}
 use Rattle.station_top.specs.declared.take.Taken.{Taken}
 use Rattle.station_top.specs.declared.words.Call.{Call}
 use Rattle.station_top.specs.declared.words.Command.{Command}
-use Rattle.station_top.specs.declared.words.Command.TheVariants.{Replay, Check}
+use Rattle.station_top.specs.declared.words.Command.TheVariants.{Replay, Check, Serve}
 
 -- the bytes are the reply of a command on these entries
 abbrev pub IsReplyTo : Command → List EntryValue → List ℕ → Type 0
 IsReplyTo (Replay query) entries bytes = IsReply (query_value query) (entries ∷ []) bytes
 IsReplyTo Check entries bytes = bytes ≡ check_lines entries
+IsReplyTo (Serve serve) entries bytes = ⊥
 
--- the command is asked with something that has a reply
+-- the command is asked with something that has a reply, or with numbers that a station takes
 abbrev pub MayAsk : Command → Type 0
 MayAsk (Replay query) = query_value query ≢ quit
 MayAsk Check = Unit {0}
+MayAsk (Serve serve) = MayServe serve
+
+-- the command takes the one input connection
+abbrev pub TakesOneInput : Command → Type 0
+TakesOneInput (Replay query) = Unit {0}
+TakesOneInput Check = Unit {0}
+TakesOneInput (Serve serve) = ⊥
 
 -- the bytes are a reply, and then the line of the cause
 abbrev pub IsStopped : (List ℕ → Type 0) → Cause → List ℕ → Type 0
@@ -84,8 +95,8 @@ pub data Means (words : List (List ℕ)) (old new : Option YardValue) (number : 
   usage : ((call : Call) → IsCall call words → ⊥) → new ≡ old → Means words old new number number Usage usage_line
   -- want of memory while the words were read: nothing is written, and the yard is asked for nothing
   unread : TakeMemory words → new ≡ old → Means words old new number number NoMemory []
-  -- they are this call
-  called : (call : Call) (status : Status) (text : List ℕ) → IsCall call words → Runs (meaning_of call.lenient) (IsReplyTo call.command) old new number status text → Means words old new number (one_more number) status text
+  -- they are this call, which takes the one input connection
+  called : (call : Call) (status : Status) (text : List ℕ) → IsCall call words → TakesOneInput call.command → Runs (meaning_of call.lenient) (IsReplyTo call.command) old new number status text → Means words old new number (one_more number) status text
 
 -- The text was written and the status is the one that is meant; or a write failed, and a front of the text was written.
 abbrev pub IsWritten : Option (List ℕ) → Option (List ℕ) → List ℕ → Status → Status → Type 0
@@ -98,12 +109,19 @@ pub record Concludes (meaning : Meaning) (Replies : List EntryValue → List ℕ
   pub runs : Runs meaning Replies old new number meant text
   pub written : IsWritten told0 told1 text meant status
 
+-- What a command answers, and what it wrote: one that takes the one input connection makes one call of the yard; of
+-- `serve` the relation says all.
+abbrev pub CallConcludes : (ServeWords → Outcome → Type 0) → Command → Meaning → Option YardValue → Option YardValue → ℕ → ℕ → Option (List ℕ) → Option (List ℕ) → Status → Type 0
+CallConcludes Serves (Replay query) meaning old new number calls told0 told1 status = (calls ≡ one_more number) × Concludes meaning (IsReplyTo (Replay query)) old new number told0 told1 status
+CallConcludes Serves Check meaning old new number calls told0 told1 status = (calls ≡ one_more number) × Concludes meaning (IsReplyTo Check) old new number told0 told1 status
+CallConcludes Serves (Serve serve) meaning old new number calls told0 told1 status = (outcome : Outcome) × Serves serve outcome × (status ≡ status_served outcome)
+
 -- what a call answers, and what it wrote
-pub record Answers (words : List (List ℕ)) (old new : Option YardValue) (number calls : ℕ) (told0 told1 : Option (List ℕ)) (status : Status) : Type 0 where
-  pub meant : Status
-  pub text : List ℕ
-  pub means : Means words old new number calls meant text
-  pub written : IsWritten told0 told1 text meant status
+pub data Answers (Serves : Meaning → ServeWords → Outcome → Type 0) (words : List (List ℕ)) (old new : Option YardValue) (number calls : ℕ) (told0 told1 : Option (List ℕ)) (status : Status) : Type 0 where
+  -- the words are a call that takes the one input connection, or none
+  replied_to : (meant : Status) (text : List ℕ) → Means words old new number calls meant text → IsWritten told0 told1 text meant status → Answers Serves words old new number calls told0 told1 status
+  -- they are a call of `serve`, whose relation says what was written and what became of the yard
+  served : (serve : ServeWords) (lenient : Bool) (outcome : Outcome) → IsCall (record { command = Serve serve; lenient = lenient }) words → Serves (meaning_of lenient) serve outcome → status ≡ status_served outcome → Answers Serves words old new number calls told0 told1 status
 
 -- the status is this one exactly where the count rose
 pub record AnswersFault (before now : ℕ) (status fault : Status) : Type 0 where

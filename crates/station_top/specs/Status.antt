@@ -2,6 +2,8 @@
 use Rattle.std.specs.Prelude.{ℕ}
 use Rattle.bmp_specs.specs.declared.causes.Cause.{Cause}
 use Rattle.bmp_specs.specs.declared.causes.Cause.TheVariants as cause
+use Rattle.station_run.specs.declared.outcome.Outcome.{Outcome}
+use Rattle.station_run.specs.declared.outcome.Outcome.TheVariants as outcome
 use Rattle.station_top.specs.declared.status.Status.{Status}
 use Rattle.station_top.specs.declared.status.Status.TheVariants.{Done, Stopped, Usage, ReadFault, WriteFault, NoMemory, YardFault}
 
@@ -22,3 +24,10 @@ status_of (cause.CutShort offset) = Stopped
 status_of (cause.Broken offset why) = Stopped
 status_of (cause.ReadFault offset) = ReadFault
 status_of cause.Full = Stopped
+
+-- the status of a station that served
+abbrev pub status_served : Outcome → Status
+status_served outcome.Done = Done
+status_served outcome.NoMemory = NoMemory
+status_served outcome.YardFault = YardFault
+status_served outcome.WriteFault = WriteFault

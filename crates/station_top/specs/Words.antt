@@ -3,9 +3,10 @@ use Rattle.std.specs.Prelude.{◌≡◌, ◌≢◌, ℕ, Bool, true, false, List
 use Rattle.std.specs.List.{join_with_byte}
 use Rattle.bmp_specs.specs.Query.{QueryValue, quit, space, IsQuery}
 use Rattle.query_lang.specs.Queries.{query_value}
+use Rattle.station_top.specs.ServeWords.{IsServe}
 use Rattle.station_top.specs.declared.words.Call.{Call}
 use Rattle.station_top.specs.declared.words.Command.{Command}
-use Rattle.station_top.specs.declared.words.Command.TheVariants.{Replay, Check}
+use Rattle.station_top.specs.declared.words.Command.TheVariants.{Replay, Check, Serve}
 
 -- the line is this query, which isn't the end of a session
 pub record IsAsking (line : List ℕ) (query : QueryValue) : Type 0 where
@@ -22,6 +23,7 @@ pub record IsReplay (query : QueryValue) (words : List (List ℕ)) : Type 0 wher
 abbrev pub IsCommand : Command → List (List ℕ) → Type 0
 IsCommand (Replay query) words = IsReplay (query_value query) words
 IsCommand Check words = words ≡ codes "check" ∷ []
+IsCommand (Serve serve) words = (options : List (List ℕ)) × (words ≡ codes "serve" ∷ options) × IsServe serve options
 
 -- Where `--lenient` stands in front of the words, they are that word and these; else they are these.
 abbrev pub IsPlain : Bool → List (List ℕ) → List (List ℕ) → Type 0

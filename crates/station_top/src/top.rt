@@ -7,13 +7,16 @@ ghost use Rattle.wire_io.specs.Aside.{laid_over};
 ghost use Rattle.wire_io.specs.Faults.{Rose};
 ghost use Rattle.station_doors.specs.Doors.{one_more};
 ghost use Rattle.query_eval.specs.Replies.{PutsReply};
-ghost use Rattle.station_top.specs.Status.{status_of};
-ghost use Rattle.station_top.specs.Station.{Answers, Concludes, FromYard, AnswersFault, IsReplyTo, IsStopped, MayAsk};
+ghost use Rattle.station_run.specs.Serve.{AnswersFault as EndsFault, Comes};
+ghost use Rattle.station_top.specs.Status.{status_of, status_served};
+ghost use Rattle.station_top.specs.ServeWords.{MayServe};
+ghost use Rattle.station_top.specs.Station.{Answers, CallConcludes, Concludes, FromYard, AnswersFault, IsStopped, MayAsk};
 
 use crate::Status;
 use crate::account::{Account, Replies};
 use crate::counts::Counts;
 use crate::replay::Replay;
+use crate::serve_words::ServeWords;
 use crate::take::{Taken, take_input};
 use crate::words::{Call, Command, WordsFault, read_words};
 use bmp_message::{BodyReading, LenientReading, Reading};
@@ -21,7 +24,10 @@ use bmp_specs::Cause;
 use core::mem::replace_with;
 use reply_text::put_stop;
 use station_doors::Yard;
+use station_run::{FromEnding, Outcome, serve};
 use std::alloc::Global;
+use std::sync::Wait;
+use std::thread::Threads;
 use wire_io::{BufferedSink, Failed, Sink, write_all};
 
 // The line that is written where the words are no command.
@@ -164,11 +170,54 @@ fn run_by<A: Account + Drop, Y: Yard, O: Sink>(
     }
 }
 
+// The status of a station that served.
+fn status_served_by(outcome: Outcome) -> Status
+    ensures { result ≡ status_served outcome }
+{
+    match outcome {
+        Outcome::Done => Status::Done,
+        Outcome::NoMemory => Status::NoMemory,
+        Outcome::YardFault => Status::YardFault,
+        Outcome::WriteFault => Status::WriteFault,
+    }
+}
+
+// Serves routers and clients, and reads bodies leniently or by the RFCs alone.
+fn serve_by<Y: Yard, O: Sink, R: Threads + Wait + Sync>(
+    rt: &R,
+    alloc: Global,
+    lenient: bool,
+    words: &ServeWords,
+    yard: &mut Y,
+    out: &mut O,
+) -> Outcome
+where
+    Y::Ending: FromEnding,
+    requires { MayServe words.now }
+    ensures serves { Comes Y.Ending.shows (meaning_of lenient) words.now.at words.now.rounds (record { told = Y.told yard.old; calls = Y.calls yard.old; listened = Y.listened yard.old; endings = Y.endings yard.old; last_ending = Y.last_ending yard.old }) (record { told = Y.told yard.new; calls = Y.calls yard.new; listened = Y.listened yard.new; endings = Y.endings yard.new; last_ending = Y.last_ending yard.new }) (O.told out.old) (O.told out.new) result }
+    ensures out { EndsFault (O.faults out.old) (O.faults out.new) result Outcome.WriteFault }
+    ensures yard { EndsFault (Y.faults yard.old) (Y.faults yard.new) result Outcome.YardFault }
+    ensures aside { O.aside out.new ≡ O.aside out.old }
+{
+    if lenient {
+        serve::<LenientReading, Y, O, R>(rt, alloc, &words.at, words.rounds, yard, out)
+    } else {
+        serve::<Reading, Y, O, R>(rt, alloc, &words.at, words.rounds, yard, out)
+    }
+}
+
 // Runs the command of a call.
-fn run_call<Y: Yard, O: Sink>(alloc: Global, call: Call, yard: &mut Y, out: &mut O) -> Status
+fn run_call<Y: Yard, O: Sink, R: Threads + Wait + Sync>(
+    rt: &R,
+    alloc: Global,
+    call: Call,
+    yard: &mut Y,
+    out: &mut O,
+) -> Status
+where
+    Y::Ending: FromEnding,
     requires { MayAsk call.command }
-    ensures concludes { Concludes (meaning_of call.lenient) (IsReplyTo call.command) (Y.told yard.old) (Y.told yard.new) (Y.calls yard.old) (O.told out.old) (O.told out.new) result }
-    ensures calls { Y.calls yard.new ≡ one_more (Y.calls yard.old) }
+    ensures concludes { CallConcludes (λ words outcome. Comes Y.Ending.shows (meaning_of call.lenient) words.at words.rounds (record { told = Y.told yard.old; calls = Y.calls yard.old; listened = Y.listened yard.old; endings = Y.endings yard.old; last_ending = Y.last_ending yard.old }) (record { told = Y.told yard.new; calls = Y.calls yard.new; listened = Y.listened yard.new; endings = Y.endings yard.new; last_ending = Y.last_ending yard.new }) (O.told out.old) (O.told out.new) outcome) call.command (meaning_of call.lenient) (Y.told yard.old) (Y.told yard.new) (Y.calls yard.old) (Y.calls yard.new) (O.told out.old) (O.told out.new) result }
     ensures out { AnswersFault (O.faults out.old) (O.faults out.new) result Status.WriteFault }
     ensures yard { AnswersFault (Y.faults yard.old) (Y.faults yard.new) result Status.YardFault }
     ensures aside { O.aside out.new ≡ O.aside out.old }
@@ -177,6 +226,9 @@ fn run_call<Y: Yard, O: Sink>(alloc: Global, call: Call, yard: &mut Y, out: &mut
     match command {
         Command::Replay(query) => run_by::<Replay, Y, O>(alloc, lenient, &query, yard, out),
         Command::Check => run_by::<Counts, Y, O>(alloc, lenient, &(), yard, out),
+        Command::Serve(words) => {
+            status_served_by(serve_by(rt, alloc, lenient, &words, yard, out))
+        }
     }
 }
 
@@ -186,18 +238,25 @@ fn run_call<Y: Yard, O: Sink>(alloc: Global, call: Call, yard: &mut Y, out: &mut
 /// `replay` with a query other than `quit` and `check` take the one input connection of the yard's port 0, up to
 /// 2^46 bytes, give the port back, and then write the reply on what the messages of the stream said and the stop
 /// line. The words after `replay`, joined by single spaces, are the query; its reply is on lane 0, on the opening
-/// and the messages, and not on the closing. Other words are usage.
+/// and the messages, and not on the closing.
+///
+/// `serve` with its options asks the yard to listen, then for the port of each lane and the link of each asker, writes
+/// `ready`, serves routers and clients side by side by the threads of `rt`, gives all back, and writes `done` and the
+/// last revision (`station_run`). Other words are usage.
 ///
 /// The bodies of the messages are read by the RFCs alone, and where the second word is `--lenient`, as routers send
 /// them (`lenient` of `bmp_specs`).
-pub fn station<Y: Yard, O: Sink>(
+pub fn station<Y: Yard, O: Sink, R: Threads + Wait + Sync>(
+    rt: &R,
     alloc: Global,
     words: &[String],
     yard: &mut Y,
     out: &mut O,
 ) -> Status
+where
+    Y::Ending: FromEnding,
     // Which status, by the words and what the yard tells; what was written; how many calls of the yard were made.
-    ensures answers { Answers (map string_bytes words.now) (Y.told yard.old) (Y.told yard.new) (Y.calls yard.old) (Y.calls yard.new) (O.told out.old) (O.told out.new) result }
+    ensures answers { Answers (λ meaning serve outcome. Comes Y.Ending.shows meaning serve.at serve.rounds (record { told = Y.told yard.old; calls = Y.calls yard.old; listened = Y.listened yard.old; endings = Y.endings yard.old; last_ending = Y.last_ending yard.old }) (record { told = Y.told yard.new; calls = Y.calls yard.new; listened = Y.listened yard.new; endings = Y.endings yard.new; last_ending = Y.last_ending yard.new }) (O.told out.old) (O.told out.new) outcome) (map string_bytes words.now) (Y.told yard.old) (Y.told yard.new) (Y.calls yard.old) (Y.calls yard.new) (O.told out.old) (O.told out.new) result }
 
     // A write fault is answered exactly where a write failed, and a yard's fault exactly where the yard failed.
     ensures out { AnswersFault (O.faults out.old) (O.faults out.new) result Status.WriteFault }
@@ -206,7 +265,7 @@ pub fn station<Y: Yard, O: Sink>(
     ensures aside { O.aside out.new ≡ O.aside out.old }
 {
     match read_words(alloc, words) {
-        Ok(call) => run_call(alloc, call, yard, out),
+        Ok(call) => run_call(rt, alloc, call, yard, out),
         Err(WordsFault::Usage) => unless_failed(write_all(out, USAGE.as_bytes()), Status::Usage),
         Err(WordsFault::NoMemory) => Status::NoMemory,
     }

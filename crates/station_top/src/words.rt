@@ -7,6 +7,7 @@ ghost use Rattle.station_top.specs.Words.{IsAsking, IsCall, IsCommand, IsPlain, 
 ghost use Rattle.station_top.specs.declared.words.Call.{Call as AnyCall};
 ghost use Rattle.station_top.specs.declared.words.Command.{Command as AnyCommand};
 
+use crate::serve_words::{ServeWords, read_serve};
 use query_lang::{Query, parse};
 use std::alloc::Global;
 use thiserror::Error;
@@ -19,6 +20,9 @@ pub enum Command {
 
     /// `check`: how many messages of each type the input has.
     Check,
+
+    /// `serve`: routers and clients side by side.
+    Serve(ServeWords),
 }
 
 /// What the words of a call ask for.
@@ -52,6 +56,12 @@ fn is_check(word: &str) -> bool
     ensures { IsTrue result ↔ (word.now ≡ codes "check") }
 {
     word == "check"
+}
+
+fn is_serve(word: &str) -> bool
+    ensures { IsTrue result ↔ (word.now ≡ codes "serve") }
+{
+    word == "serve"
 }
 
 fn is_lenient(word: &str) -> bool
@@ -110,6 +120,12 @@ fn read_command(alloc: Global, first: &str, plain: &[String]) -> Result<Command,
     }
     if is_check(first) && plain.is_empty() {
         return Ok(Command::Check);
+    }
+    if is_serve(first) {
+        return match read_serve(plain) {
+            Some(serve) => Ok(Command::Serve(serve)),
+            None => Err(WordsFault::Usage),
+        };
     }
     Err(WordsFault::Usage)
 }

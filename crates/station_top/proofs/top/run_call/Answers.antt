@@ -1,7 +1,17 @@
+use Rattle.station_top.proofs.Concluding.{ends_write, ends_yard}
 use Rattle.station_top.proofs.top.run_call.Goals as goal
 
 pub returns-in-Replay-clause-concludes : goal.returns-in-Replay-clause-concludes
-returns-in-Replay-clause-concludes g c = rw c.in-Replay.is c.run_by.ensures.concludes
+returns-in-Replay-clause-concludes g c = rw c.in-Replay.is (c.run_by.ensures.calls, c.run_by.ensures.concludes)
 
 pub returns-in-Check-clause-concludes : goal.returns-in-Check-clause-concludes
-returns-in-Check-clause-concludes g c = rw c.in-Check.is c.run_by-in-Check.ensures.concludes
+returns-in-Check-clause-concludes g c = rw c.in-Check.is (c.run_by-in-Check.ensures.calls, c.run_by-in-Check.ensures.concludes)
+
+pub returns-in-Serve-clause-concludes : goal.returns-in-Serve-clause-concludes
+returns-in-Serve-clause-concludes g c = rw c.in-Serve.is (c.serve_by.result, c.serve_by.ensures.serves, c.status_served_by.ensures)
+
+pub returns-in-Serve-clause-out : goal.returns-in-Serve-clause-out
+returns-in-Serve-clause-out g c = ends_write _ _ c.serve_by.result c.status_served_by.result c.status_served_by.ensures c.serve_by.ensures.out
+
+pub returns-in-Serve-clause-yard : goal.returns-in-Serve-clause-yard
+returns-in-Serve-clause-yard g c = ends_yard _ _ c.serve_by.result c.status_served_by.result c.status_served_by.ensures c.serve_by.ensures.yard

@@ -2,7 +2,7 @@ use Rattle.std.proofs.Common.{◌≡◌, [], Err, map, refl, inl, ap}
 use Rattle.std.specs.String.{string_bytes}
 use Rattle.bmp_specs.specs.Lines.{usage_line}
 use Rattle.wire_io.proofs.Joins.{appends_none}
-use Rattle.station_top.specs.Station.{usage, unread}
+use Rattle.station_top.specs.Station.{usage, unread, replied_to}
 use Rattle.station_top.specs.declared.status.Status.TheVariants.{Usage, NoMemory}
 use Rattle.station_top.proofs.Concluding.{answers_called, is_written}
 use Rattle.station_top.proofs.top.station.Goals as goal
@@ -10,23 +10,14 @@ use Rattle.station_top.proofs.top.station.Goals as goal
 pub returns-in-Ok-clause-answers : goal.returns-in-Ok-clause-answers
 returns-in-Ok-clause-answers g c =
     let after = c.run_call.new in
-    answers_called c.in-Ok.call (map string_bytes c.args.words.now) (g.Y.Yard.told c.args.yard.now) (g.Y.Yard.told after.yard) (g.Y.Yard.calls c.args.yard.now) (g.Y.Yard.calls after.yard) (g.O.Sink.told c.args.out.now) (g.O.Sink.told after.out) c.run_call.result
-    c.in-Ok.ensures.ok c.run_call.ensures.calls c.run_call.ensures.concludes
+    answers_called _ c.in-Ok.call (map string_bytes c.args.words.now) (g.Y.Yard.told c.args.yard.now) (g.Y.Yard.told after.yard) (g.Y.Yard.calls c.args.yard.now) (g.Y.Yard.calls after.yard) (g.O.Sink.told c.args.out.now) (g.O.Sink.told after.out) c.run_call.result
+    c.in-Ok.ensures.ok c.run_call.ensures.concludes
 
 pub returns-in-Err-Usage-clause-answers : goal.returns-in-Err-Usage-clause-answers
 returns-in-Err-Usage-clause-answers g c =
     let line : c.as_bytes.result.now ≡ usage_line = c.as_bytes.ensures.value in
-    record {
-      meant = Usage;
-      text = usage_line;
-      means = usage (c.in-Err-Usage.ensures.usage (ap Err c.in-Err-Usage.field-0-is)) refl;
-      written = is_written c.args.out.now c.write_all.new.out usage_line c.write_all.result Usage c.unless_failed.result (rw line at c.write_all.ensures) c.unless_failed.ensures.fine c.unless_failed.ensures.failed;
-    }
+    replied_to Usage usage_line (usage (c.in-Err-Usage.ensures.usage (ap Err c.in-Err-Usage.field-0-is)) refl)
+    (is_written c.args.out.now c.write_all.new.out usage_line c.write_all.result Usage c.unless_failed.result (rw line at c.write_all.ensures) c.unless_failed.ensures.fine c.unless_failed.ensures.failed)
 
 pub returns-in-Err-NoMemory-clause-answers : goal.returns-in-Err-NoMemory-clause-answers
-returns-in-Err-NoMemory-clause-answers g c = record {
-  meant = NoMemory;
-  text = [];
-  means = unread (c.in-Err-NoMemory.ensures.memory (ap Err c.in-Err-NoMemory.field-0-is)) refl;
-  written = inl (refl, appends_none (g.O.Sink.told c.args.out.now));
-}
+returns-in-Err-NoMemory-clause-answers g c = replied_to NoMemory [] (unread (c.in-Err-NoMemory.ensures.memory (ap Err c.in-Err-NoMemory.field-0-is)) refl) (inl (refl, appends_none (g.O.Sink.told c.args.out.now)))

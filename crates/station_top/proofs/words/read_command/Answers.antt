@@ -1,10 +1,13 @@
 use Rattle.std.proofs.Common.{◌≡◌, Err, map, ap}
 use Rattle.std.specs.String.{string_bytes}
 use Rattle.station_top.specs.declared.words.WordsFault.TheVariants.{Usage}
-use Rattle.station_top.proofs.Commands.{no_replay}
+use Rattle.station_top.proofs.Commands.{no_replay, no_serve}
 use Rattle.station_top.proofs.words.read_command.Goals as goal
 
 pub returns-in-Err-clause-usage : goal.returns-in-Err-clause-usage
 returns-in-Err-clause-usage c = λ usage command is.
     let fault : c.in-Err.fault ≡ Usage = cc usage in
     no_replay c.args.first.now (map string_bytes c.args.plain.now) (c.is_replay.ensures.0 c.if-is_replay.true) (c.in-Err.ensures.usage (ap Err fault)) command is
+
+pub returns-in-None-clause-usage : goal.returns-in-None-clause-usage
+returns-in-None-clause-usage c = λ usage command is. no_serve c.args.first.now (map string_bytes c.args.plain.now) (c.is_serve.ensures.0 c.if-is_serve.true) c.in-None.ensures.none command is
