@@ -8,6 +8,8 @@ use station_doors::HostYard;
 use station_top::{Status, station};
 use std::io::ErrorKind;
 use std::process::ExitCode;
+use std::sync::Wait;
+use std::thread::Threads;
 use wire_io::{NoMemory, StdSink};
 
 // The words after the program's name. Where one of them is no text there is none, which is no command.
@@ -28,16 +30,16 @@ fn words(rt: &HostRuntime) -> Result<Vec<String>, NoMemory> {
     Ok(words)
 }
 
-// Hands the station the words, standard input with the network, and standard output.
-fn run(rt: &HostRuntime) -> Result<Status, NoMemory> {
+// Hands the station its threads, the words, standard input with the network, and standard output.
+fn run<R: Threads + Wait + Sync>(rt: &HostRuntime, threads: &R) -> Result<Status, NoMemory> {
     let words = words(rt)?;
     let mut yard = HostYard::new(rt.alloc(), rt.stdin(), rt)?;
     let mut out = StdSink::new(rt.stdout());
-    Ok(station(rt.alloc(), words.as_slice(), &mut yard, &mut out))
+    Ok(station(threads, rt.alloc(), words.as_slice(), &mut yard, &mut out))
 }
 
 fn main(rt: HostRuntime) -> ExitCode {
-    let status = match run(&rt) {
+    let status = match run(&rt, &rt) {
         Ok(status) => status,
         Err(NoMemory) => Status::NoMemory,
     };
