@@ -6,6 +6,8 @@ mod doors;
 #[cfg(test)]
 mod publications;
 #[cfg(test)]
+mod serve_words;
+#[cfg(test)]
 mod sessions;
 #[cfg(test)]
 mod station;

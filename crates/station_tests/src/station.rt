@@ -4,7 +4,9 @@ ghost use Rattle.station_doors.specs.MemYard.{IsUntouched, IsIdle};
 use station_doors::{LinkList, MemPort, MemYard, PortList};
 use station_top::station;
 use std::alloc::Global;
+use std::sync::Wait;
 use std::test::Fail;
+use std::thread::Threads;
 use wire_io::{ByteList, MemSink, NoMemory};
 
 // sysDescr `test`, sysName `r1`.
@@ -51,6 +53,15 @@ const TWO_IPV6_ROWS: &str =
 
 const USAGE: &str =
     "usage: bmpstation replay QUERY, check, serve OPTIONS, or drill SEED LANES MESSAGES\n";
+
+const SERVE: &[&str] = &[
+    "serve",
+    "--feeds=1",
+    "--askers=1",
+    "--feed-port=1",
+    "--ask-port=2",
+    "--rounds=1",
+];
 
 // The words of a text.
 fn words(alloc: Global, text: &str) -> Result<Vec<String>, NoMemory> {
@@ -103,7 +114,8 @@ fn links(alloc: Global) -> LinkList
 
 // What a run over one connection of these bytes writes, and its exit status, where the reads, the calls of the yard
 // and the writes with these numbers fail.
-fn shown(
+fn shown<R: Threads + Wait + Sync>(
+    rt: &R,
     alloc: Global,
     words: &[String],
     bytes: &[&str],
@@ -113,7 +125,7 @@ fn shown(
     let ports = ports(alloc, bytes, reads)?;
     let mut yard: MemYard<()> = MemYard::new(alloc, ports, links(alloc), calls)?;
     let mut out = MemSink::new(alloc, 4000, writes)?;
-    let status = station(alloc, words, &mut yard, &mut out);
+    let status = station(rt, alloc, words, &mut yard, &mut out);
     let mut taken = ByteList::new(alloc);
     taken.extend(out.taken())?;
     Ok((status.code(), taken))
@@ -237,6 +249,7 @@ fn streams_have_their_replies(rt: HostRuntime) -> Result<(), Fail> {
     ];
     for (text, bytes, code, want) in table {
         let (status, taken) = shown(
+            &rt,
             alloc,
             words(alloc, text)?.as_slice(),
             bytes,
@@ -253,7 +266,7 @@ fn streams_have_their_replies(rt: HostRuntime) -> Result<(), Fail> {
 fn failing_devices_and_words_that_are_no_command(rt: HostRuntime) -> Result<(), Fail> {
     let alloc = rt.alloc();
     // the words and the stream; the reads, calls of the yard and writes that fail; the status and what is written
-    let table: [(&[&str], &str, [&[u64]; 3], u8, &str); 15] = [
+    let table: [(&[&str], &str, [&[u64]; 3], u8, &str); 18] = [
         (
             &["replay", "table"],
             "",
@@ -305,9 +318,19 @@ fn failing_devices_and_words_that_are_no_command(rt: HostRuntime) -> Result<(), 
         ),
         (&["check", "table"], "", [&[], &[], &[]], 2, USAGE),
         (&[], "", [&[], &[], &[0]], 4, ""),
+        // it can't listen; it has no port; it has no link, and the port is given back unused
+        (SERVE, "", [&[], &[0], &[]], 6, ""),
+        (SERVE, "", [&[], &[1], &[]], 6, ""),
+        (SERVE, INITIATION, [&[], &[], &[]], 6, ""),
     ];
     for (texts, bytes, fails, code, want) in table {
-        let (status, taken) = shown(alloc, listed(alloc, texts)?.as_slice(), &[bytes], fails)?;
+        let (status, taken) = shown(
+            &rt,
+            alloc,
+            listed(alloc, texts)?.as_slice(),
+            &[bytes],
+            fails,
+        )?;
         assert_eq!(rt; status, code);
         assert_eq!(rt; taken.as_slice(), want.as_bytes());
     }
