@@ -1,0 +1,12 @@
+use Rattle.std.proofs.Common.{ℕ, arith, ap, subst, sym, ◌∙◌}
+use Rattle.router_tables.specs.Tables.{TablesValue}
+use Rattle.station_core.specs.declared.lane.Lane.{Lane}
+use Rattle.station_core.specs.Standing.{ShowsNext}
+use Rattle.station_core.proofs.Publishing.{shows_at}
+use Rattle.station_core.proofs.machine.publish_on.Goals as goal
+
+pub returns : goal.returns
+returns g c =
+    shows_at c.args.lanes.now c.args.shown.now c.args.number c.index-lanes-at.result c.index-shown-at.result c.in_ok-next.next c.as_slice.result.now (omega (arith, c.if-at-lanes.false)) c.requires.count c.index-lanes-at.is c.index-shown-at.is
+    (c.as_slice.ensures ∙ ap (λ (l : Lane g.row.B.Denot). l.due) (sym c.index-lanes-at.is))
+    (subst (λ (x : TablesValue × ℕ). ShowsNext c.as_slice.result.now x c.in_ok-next.next) (sym c.index-shown-at.is) c.in_ok-next.ensures)

@@ -1,0 +1,5 @@
+pub mod Machine
+pub mod Schedule
+pub mod Taking
+pub mod Standing
+pub mod Laws
