@@ -1,10 +1,12 @@
-//! Tests of the published history, of ports and links, of sessions, and of the station, from outside.
+//! Tests of the published history, of ports and links, of sessions, of whole runs, and of the station, from outside.
 #![tactic(auto)]
 
 #[cfg(test)]
 mod doors;
 #[cfg(test)]
 mod publications;
+#[cfg(test)]
+mod runs;
 #[cfg(test)]
 mod serve_words;
 #[cfg(test)]
