@@ -1,0 +1,50 @@
+#!/usr/bin/env bash
+# Measures the lane of a router over a port in memory, published read by read, beside another program that keeps its
+# table unpublished.
+#
+#   bench/lanes.sh OTHER [PREFIXES]
+#
+# OTHER is a program that writes for the words `gen-table PREFIXES SEED` the stream of one peer with so many IPv4
+# prefixes (1,000,000), and a fifth as many of IPv6, and that counts for `replay count` the routes that standard input
+# leaves. The stream comes with its UPDATEs in prefix order, and with one prefix an UPDATE. For each, these run in turn,
+# ROUNDS times (5), from a file in the cache:
+#
+#   quiet      takes the stream in reads of 64 KiB, and publishes after each; the client beside it does nothing
+#   asks       the same, with a client that takes a snapshot after each publication
+#   keeps      the same, with a client that also keeps every tenth of these for ever
+#
+# A ratio is that of least processor times to OTHER's: below 1 ours is the faster. Bytes are of peak memory, by the
+# `time` of GNU.
+set -euo pipefail
+
+other=${1:?usage: bench/lanes.sh OTHER [PREFIXES]}
+prefixes=${2:-1000000}
+rounds=5
+program=lane_bench
+. "$(dirname "$0")/measure.sh"
+
+# The number behind a word that a run said.
+said() { awk -v w="$2" '$1 == w { print $2 }' "$work/$1.said"; }
+
+measure() {
+    local order=$1
+    input=$work/stream
+    "$(dirname "$0")/reorder" "$order" <"$work/generated" >"$input"
+    for _ in $(seq "$rounds"); do
+        spend "$order.other" "$other" replay count
+        for client in quiet asks keeps; do
+            run "$order.$client" "$client"
+        done
+    done
+    echo "$order: $(said "$order.quiet" entries) entries, $(stat -c %s "$input") bytes, $(said "$order.quiet" turns) publications"
+    for client in quiet asks keeps; do
+        awk -v c="$client" -v a="$(least "$order.$client")" -v b="$(least "$order.other")" -v m="$(peak "$order.$client")" \
+            -v n="$(peak "$order.other")" -v k="$(said "$order.$client" kept)" \
+            'BEGIN { printf "  %s %d ms, other %d, ratio %.2f; %d KiB, other %d; %d versions kept\n", c, a, b, a / b, m, n, k }'
+    done
+}
+
+"$other" gen-table "$prefixes" 7 >"$work/generated"
+for order in sorted single; do
+    measure "$order"
+done

@@ -1,0 +1,314 @@
+"""The lines of a bmpstation, and a client that asks for them. It is no part of what is proved.
+
+`parse` gives for each line of a reply its fields by the names of docs/PROTOCOL.md, with numbers as numbers
+and lists as lists, and raises `UnknownLine` for a line that it doesn't know. `Station` holds one connection
+and gives the reply of a query.
+"""
+import re
+import socket
+
+MOST_LINE = 1024
+
+# The selectors, in the order in which they stand, and the queries that take all of them.
+SELECTORS = ("router", "peer", "view", "family")
+SELECTED = ("marks", "table", "count", "prefix", "match", "within", "origin")
+
+ROUTE_FIELDS = ("next", "origin", "path", "med", "pref", "atomic", "agg", "comm", "other")
+SEGMENTS = {"{": ("}", "set"), "(": (")", "confed-sequence"), "[": ("]", "confed-set")}
+STOPS = {"ended": (), "terminated": (), "full": (), "cutshort": ("offset",), "readfault": ("offset",),
+         "broken": ("offset", "why")}
+
+
+class UnknownLine(Exception):
+    """A line of no form that is known here."""
+
+
+class Unreachable(Exception):
+    """The station can't be reached, or went away in the middle of a reply."""
+
+
+class StationError(Exception):
+    """The station answered `error query` or `error line`."""
+
+
+def number(text):
+    if not re.fullmatch(r"0|[1-9][0-9]*", text):
+        raise ValueError(text)
+    return int(text)
+
+
+def unescaped(text):
+    """The bytes of an escaped text, as text where they are UTF-8, else with `\\xHH` for each other byte."""
+    if re.search(r"%(?![0-9A-F]{2})|[^!-~]", text):
+        raise ValueError(text)
+    data = re.sub(rb"%([0-9A-F]{2})", lambda m: bytes([int(m[1], 16)]), text.encode("ascii"))
+    return data.decode("utf-8", "backslashreplace")
+
+
+def pairs(words, names):
+    """The values of `name=value` words, exactly of these names, in this order."""
+    if len(words) != len(names):
+        raise ValueError(words)
+    values = {}
+    for word, name in zip(words, names):
+        found, equals, value = word.partition("=")
+        if found != name or not equals:
+            raise ValueError(word)
+        values[name] = value
+    return values
+
+
+def optional(text, read):
+    return None if text == "-" else read(text)
+
+
+def segment_of(piece):
+    """A piece of a path: a number of a sequence, or another segment by its name with its numbers."""
+    if piece[0] in SEGMENTS:
+        end, name = SEGMENTS[piece[0]]
+        if piece[-1] != end:
+            raise ValueError(piece)
+        inner = piece[1:-1]
+        return {name: [number(n) for n in inner.split(",")] if inner else []}
+    return number(piece)
+
+
+def path_of(text):
+    return [] if text == "empty" else [segment_of(piece) for piece in text.split("_")]
+
+
+def aggregator_of(text):
+    asn, colon, identifier = text.partition(":")
+    if not colon:
+        raise ValueError(text)
+    return {"asn": number(asn), "id": identifier}
+
+
+def listed(text, read):
+    return [] if text == "-" else [read(item) for item in text.split(",")]
+
+
+def flag(text):
+    return {"yes": True, "no": False}[text]
+
+
+def cause_of(words):
+    names = STOPS[words[0]]
+    if len(words) != 1 + len(names):
+        raise ValueError(words)
+    fields = {"cause": words[0]}
+    for name, word in zip(names, words[1:]):
+        if name == "why" and word not in ("version", "length", "body"):
+            raise ValueError(word)
+        fields[name] = number(word) if name == "offset" else word
+    return fields
+
+
+def route_of(words):
+    """The fields of a route line from KEY on."""
+    peer, view, prefix, *rest = words
+    fields = {"peer": peer, "view": view, "prefix": prefix, "id": None}
+    if len(rest) == len(ROUTE_FIELDS) + 1:
+        fields["id"] = number(pairs(rest[-1:], ("id",))["id"])
+        rest = rest[:-1]
+    values = pairs(rest, ROUTE_FIELDS)
+    fields["next"] = optional(values["next"], str)
+    fields["origin"] = optional(values["origin"], str)
+    fields["path"] = optional(values["path"], path_of)
+    fields["med"] = optional(values["med"], number)
+    fields["pref"] = optional(values["pref"], number)
+    fields["atomic"] = flag(values["atomic"])
+    fields["agg"] = optional(values["agg"], aggregator_of)
+    fields["comm"] = listed(values["comm"], str)
+    fields["other"] = listed(values["other"], number)
+    return fields
+
+
+def read_router(words):
+    fields = {"router": number(words[0]), "state": words[1]}
+    if words[1] == "idle" and len(words) == 2:
+        return fields
+    if words[1] == "closed":
+        return fields | cause_of(words[2:])
+    if words[1] != "live":
+        raise ValueError(words[1])
+    counts = ("peers", "messages", "bytes", "orphans", "unread", "mirrored", "passed")
+    values = pairs(words[2:], counts + ("name", "descr"))
+    fields |= {name: number(values[name]) for name in counts}
+    return fields | {"name": unescaped(values["name"]), "descr": unescaped(values["descr"])}
+
+
+def read_peer(words):
+    fields = {"router": number(words[0]), "peer": words[1], "state": words[2]}
+    if words[2] == "down":
+        reason, name, detail = words[3:]
+        fields |= {"reason": number(reason), "name": name}
+        if detail.startswith("notification="):
+            code, slash, subcode = detail.removeprefix("notification=").partition("/")
+            return fields | {"notification": {"code": number(code), "subcode": number(subcode)}}
+        if detail.startswith("event="):
+            return fields | {"event": number(detail.removeprefix("event="))}
+        if detail != "-":
+            raise ValueError(detail)
+        return fields
+    if words[2] != "up":
+        raise ValueError(words[2])
+    names = ("asn", "id", "local", "ports")
+    values = pairs(words[3:7], names)
+    fields |= {"asn": number(values["asn"]), "id": values["id"], "local": values["local"],
+               "ports": [number(port) for port in values["ports"].split(",")]}
+    if len(words) > 7:
+        values = pairs(words[7:], ("filtered", "table"))
+        fields |= {"filtered": flag(values["filtered"]), "table": optional(values["table"], unescaped)}
+    return fields
+
+
+def read_mark(words):
+    router, peer, view, family, state = words
+    if state not in ("complete", "waiting"):
+        raise ValueError(state)
+    return {"router": number(router), "peer": peer, "view": view, "family": number(family), "complete": state == "complete"}
+
+
+def read_stat(words):
+    router, peer, code, name, *rest = words
+    fields = {"router": number(router), "peer": peer, "code": number(code), "name": name}
+    if len(rest) == 2:
+        afi, slash, safi = rest[0].partition("/")
+        fields |= {"afi": number(afi), "safi": number(safi)}
+        rest = rest[1:]
+    (value,) = rest
+    return fields | {"value": number(value)}
+
+
+def read_change(words):
+    router, step, what, *rest = words
+    fields = {"router": number(router), "step": number(step), "change": what}
+    if what == "opened" and not rest:
+        return fields
+    if what == "closed":
+        return fields | cause_of(rest)
+    if what in ("up", "down"):
+        (peer,) = rest
+        return fields | {"peer": peer}
+    if what == "withdraw":
+        peer, view, prefix, *more = rest
+        fields |= {"peer": peer, "view": view, "prefix": prefix, "id": None}
+        if more:
+            fields["id"] = number(pairs(more, ("id",))["id"])
+        return fields
+    if what != "announce":
+        raise ValueError(what)
+    return fields | route_of(rest)
+
+
+def read_lane(words):
+    router, entries = words
+    return {"router": number(router), "entries": number(entries)}
+
+
+def read_steps(words):
+    router, steps = words
+    return {"router": number(router), "steps": number(steps)}
+
+
+def read_one(name):
+    def read(words):
+        (value,) = words
+        return {name: number(value)}
+
+    return read
+
+
+READERS = {
+    "at": read_one("revision"),
+    "end": read_one("lines"),
+    "count": read_one("rows"),
+    "missed": read_one("steps"),
+    "router": read_router,
+    "lane": read_lane,
+    "peer": read_peer,
+    "mark": read_mark,
+    "stat": read_stat,
+    "route": lambda words: {"router": number(words[0])} | route_of(words[1:]),
+    "steps": read_steps,
+    "change": read_change,
+    "stop": cause_of,
+}
+
+
+def parse(line):
+    """The fields of a line without its end, with its first word as `line`."""
+    try:
+        text = line.decode("ascii")
+        word, *words = text.split(" ")
+        return {"line": word} | READERS[word](words)
+    except (UnicodeDecodeError, ValueError, KeyError, IndexError, TypeError) as fault:
+        raise UnknownLine(line.decode("ascii", "backslashreplace")) from fault
+
+
+class Station:
+    """One connection to an asker's port of a station, for one query after another."""
+
+    def __init__(self, host, port, seconds):
+        try:
+            self.socket = socket.create_connection((host, port), timeout=seconds)
+        except OSError as fault:
+            raise Unreachable(f"{host} port {port}: {fault}") from fault
+        self.lines = self.socket.makefile("rb")
+
+    def __enter__(self):
+        return self
+
+    def __exit__(self, *_):
+        self.close()
+
+    def close(self):
+        self.lines.close()
+        self.socket.close()
+
+    def line(self):
+        try:
+            line = self.lines.readline()
+        except OSError as fault:
+            raise Unreachable(f"no reply: {fault}") from fault
+        if not line.endswith(b"\n"):
+            raise Unreachable("the station closed the connection")
+        return line[:-1]
+
+    def ask(self, query):
+        """The lines of the reply, as they come, from `at` to `end`."""
+        try:
+            self.socket.sendall(query.encode("ascii") + b"\n")
+        except OSError as fault:
+            raise Unreachable(f"no query could be sent: {fault}") from fault
+        line = self.line()
+        if line in (b"error query", b"error line"):
+            raise StationError(line.decode())
+        yield line
+        while not line.startswith(b"end "):
+            line = self.line()
+            yield line
+
+    def rows(self, query):
+        """The revision of the reply, and its lines between `at` and `end`, by their fields."""
+        at, *rows, end = [parse(line) for line in self.ask(query)]
+        if at["line"] != "at" or end["line"] != "end" or end["lines"] != len(rows):
+            raise UnknownLine("a reply that isn't `at`, its lines and `end` with their number")
+        return at["revision"], rows
+
+
+def is_query(query):
+    """Whether a station can be sent this as a query that it replies to, whatever its grammar says."""
+    return query != "quit" and query.isascii() and query.isprintable() and 0 < len(query) <= MOST_LINE
+
+
+def selectors_of(query):
+    """The selectors at the end of a query, as text for another one."""
+    words = query.split(" ")
+    found = []
+    if words[0] in SELECTED or words[0] == "peers":
+        while len(words) >= 3 and words[-2] in SELECTORS:
+            found = words[-2:] + found
+            words = words[:-2]
+    return " ".join(found)
