@@ -1,6 +1,9 @@
 //! One lane that takes standard input.
-ghost use Rattle.std.specs.Prelude.{◌≡◌, ◌<◌, IfSome};
+ghost use Rattle.std.specs.Prelude.{◌≡◌, ◌<◌, [], IfSome};
+ghost use Rattle.std.specs.Arc.{arc_value};
 ghost use Rattle.cut_publisher.specs.Opening.{AreFeedsOf, IsOpened};
+ghost use Rattle.rib_model.specs.Entries.{entry_values};
+ghost use Rattle.router_tables.specs.Tables.{StandsFor};
 
 use crate::watch::{Client, Watch};
 use bmp_message::Reading;
@@ -66,6 +69,14 @@ pub fn run<I: Read + Drop, R: Wait + Print>(
     }
 }
 
+// What the lane has until it publishes.
+fn no_tables(alloc: Global) -> Option<Arc<RouterTables>>
+    ensures { IfSome result (λ t. StandsFor (arc_value t) (entry_values [])) }
+{
+    let tables = RouterTables::new(alloc).ok()?;
+    Arc::new(alloc, tables).ok()
+}
+
 fn outcome_of<R: Wait>(
     rt: &R,
     alloc: Global,
@@ -78,8 +89,7 @@ fn outcome_of<R: Wait>(
     let connections = [bytes];
     let port = SurePort::new(alloc, &connections, piece).ok()?;
     drop(connections);
-    let tables = RouterTables::new(alloc).ok()?;
-    let first = Arc::new(alloc, tables).ok()?;
+    let first = no_tables(alloc)?;
     let station = open_station(alloc, first, 1, 1).ok()?;
     outcome_in::<Brand, R>(rt, alloc, station, port, client)
 }
