@@ -18,7 +18,7 @@ use Rattle.bmp_specs.specs.PeerDownNotification.{IsPeerDown}
 use Rattle.bmp_specs.specs.PeerHeader.{HeaderValue, IsHeader, header_size, view_of}
 use Rattle.bmp_specs.specs.Update.{IsUpdate}
 use Rattle.bmp_specs.specs.Values.{AttrsReadValue, AttrsValue, DownInfoValue, KeyValue, MessageValue, MpValue, OpensValue, OtherValue, UpdateValue, down, mark, message, of_unknown_peer, of_unknown_type, peer_down, routes}
-use Rattle.bmp_writer.specs.PeerMessage.{HasPlainHeader, IsHeaderOf, IsPeerMessage}
+use Rattle.bmp_writer.specs.PeerMessage.{HasPlainHeader, IsHeaderOf, IsPeerMessage, mark_update}
 use Rattle.bmp_writer.specs.Written.{Always, Appends, HasUp, IsWritten, mark_size, peer_down_type, route_monitoring_type, unchanged, without}
 use Rattle.bmp_writer.proofs.Frames.{frame_length}
 
@@ -77,10 +77,6 @@ body_v6 = 0 ∷ 0 ∷ 0 ∷ 6 ∷ 128 ∷ 15 ∷ 3 ∷ 0 ∷ 2 ∷ 1 ∷ []
 abbrev pub mark_body : Family → List ℕ
 mark_body V4 = body_v4
 mark_body V6 = body_v6
-
-abbrev pub mark_bytes : Family → List ℕ
-mark_bytes V4 = marker ++ (0 ∷ 23 ∷ 2 ∷ body_v4)
-mark_bytes V6 = marker ++ (0 ∷ 29 ∷ 2 ∷ body_v6)
 
 abbrev pub read_v4 : AttrsReadValue
 read_v4 = record { attrs = no_attrs; reach = None; unreach = None; count = 0 }
@@ -203,11 +199,11 @@ is_update width ids V6 = record {
   unread_is = refl;
 }
 
-is_message : (family : Family) → IsBgpMessage (mark_bytes family) (record { kind = 2; body = mark_body family })
+is_message : (family : Family) → IsBgpMessage (mark_update family) (record { kind = 2; body = mark_body family })
 is_message V4 = record { header = omega arith; marker_is = refl; length_is = refl; kind_is = refl; body_is = refl }
 is_message V6 = record { header = omega arith; marker_is = refl; length_is = refl; kind_is = refl; body_is = refl }
 
-is_monitoring : (opens : OpensValue) (h : HeaderValue) (family : Family) → IsRouteMonitoring opens h (mark_bytes family) (marks family)
+is_monitoring : (opens : OpensValue) (h : HeaderValue) (family : Family) → IsRouteMonitoring opens h (mark_update family) (marks family)
 is_monitoring opens h family = record {
   message = record { kind = 2; body = mark_body family };
   is = is_message family;
@@ -215,23 +211,23 @@ is_monitoring opens h family = record {
   body_is = is_update (width_of h) (id_use opens h) family;
 }
 
-pub mark_written : (key : KeyValue) (view : View) (family : Family) (bytes : List ℕ) → IsPeerMessage 0 key view (mark_bytes family) bytes
+pub mark_written : (key : KeyValue) (view : View) (family : Family) (bytes : List ℕ) → IsPeerMessage 0 key view (mark_update family) bytes
     → IsWritten route_monitoring_type (HasUp key) (mark key view family ∷ []) unchanged bytes
 mark_written key view family bytes p =
     let h = p.head_is.header in
     record {
-      body = p.head ++ mark_bytes family;
+      body = p.head ++ mark_update family;
       is = p.is;
       means = λ state up.
           let m : MessageValue = routes key view (marks family) in
           let at : m ≡ routes key (view_of h) (marks family) = ap (λ (v : View). routes key v (marks family)) (sym p.head_is.view_is) in
-          let read : MatchOption (state key) (m ≡ of_unknown_peer) (λ opens. (u : UpdateValue) × IsRouteMonitoring opens h (mark_bytes family) u × (m ≡ routes key (view_of h) u)) =
-          subst (λ (o : Option OpensValue). MatchOption o (m ≡ of_unknown_peer) (λ opens. (u : UpdateValue) × IsRouteMonitoring opens h (mark_bytes family) u × (m ≡ routes key (view_of h) u))) (sym up.1)
+          let read : MatchOption (state key) (m ≡ of_unknown_peer) (λ opens. (u : UpdateValue) × IsRouteMonitoring opens h (mark_update family) u × (m ≡ routes key (view_of h) u)) =
+          subst (λ (o : Option OpensValue). MatchOption o (m ≡ of_unknown_peer) (λ opens. (u : UpdateValue) × IsRouteMonitoring opens h (mark_update family) u × (m ≡ routes key (view_of h) u))) (sym up.1)
           (marks family, is_monitoring up.0 h family, at) in
           record {
             value = m;
-            means = has_peer route_monitoring state state key view p.head (mark_bytes family) m p.head_is (refl, read);
-            entry_is = ap (λ (k : ℕ). message 0 k (mark key view family ∷ [])) (frame_length bytes 0 (p.head ++ mark_bytes family) p.is);
+            means = has_peer route_monitoring state state key view p.head (mark_update family) m p.head_is (refl, read);
+            entry_is = ap (λ (k : ℕ). message 0 k (mark key view family ∷ [])) (frame_length bytes 0 (p.head ++ mark_update family) p.is);
           };
     }
 
@@ -239,7 +235,7 @@ pub peer_down_appended : (key : KeyValue) (view : View) (reason : ℕ) (old new 
     → Appends (IsWritten peer_down_type Always (down key (record { reason = reason; detail = Unread }) ∷ []) (without key)) old new
 peer_down_appended key view reason old new (bytes, joined, p) = (bytes, joined, peer_down_written key view reason bytes p)
 
-pub mark_appended : (key : KeyValue) (view : View) (family given : Family) → given ≡ family → (old new : List ℕ) → Appends (IsPeerMessage 0 key view (mark_bytes family)) old new
+pub mark_appended : (key : KeyValue) (view : View) (family given : Family) → given ≡ family → (old new : List ℕ) → Appends (IsPeerMessage 0 key view (mark_update family)) old new
     → Appends (IsWritten route_monitoring_type (HasUp key) (mark key view given ∷ []) unchanged) old new
 mark_appended key view family given same old new (bytes, joined, p) =
     (bytes, joined, subst (λ (f : Family). IsWritten route_monitoring_type (HasUp key) (mark key view f ∷ []) unchanged bytes) (sym same) (mark_written key view family bytes p))
@@ -257,13 +253,13 @@ peer_down_size key view reason old new (bytes, joined, p) =
     let all : length new ≡ length old + length bytes = ap (λ (l : List ℕ). length l) joined ∙ length-append old bytes in
     omega (arith, all, body, p.head_is.len, frame_length bytes 2 (p.head ++ reason ∷ []) p.is)
 
-update_size : (family : Family) → 48 + length (mark_bytes family) ≡ mark_size family
+update_size : (family : Family) → 48 + length (mark_update family) ≡ mark_size family
 update_size V4 = refl
 update_size V6 = refl
 
-pub mark_fills : (key : KeyValue) (view : View) (family given : Family) → given ≡ family → (old new : List ℕ) → Appends (IsPeerMessage 0 key view (mark_bytes family)) old new → length new ≡ length old + mark_size given
+pub mark_fills : (key : KeyValue) (view : View) (family given : Family) → given ≡ family → (old new : List ℕ) → Appends (IsPeerMessage 0 key view (mark_update family)) old new → length new ≡ length old + mark_size given
 mark_fills key view family given same old new (bytes, joined, p) =
-    let body = length-append p.head (mark_bytes family) in
+    let body = length-append p.head (mark_update family) in
     let all : length new ≡ length old + length bytes = ap (λ (l : List ℕ). length l) joined ∙ length-append old bytes in
     let size : mark_size given ≡ mark_size family = ap (λ (f : Family). mark_size f) same in
-    omega (arith, all, body, size, update_size family, p.head_is.len, frame_length bytes 0 (p.head ++ mark_bytes family) p.is)
+    omega (arith, all, body, size, update_size family, p.head_is.len, frame_length bytes 0 (p.head ++ mark_update family) p.is)

@@ -1,11 +1,12 @@
 -- A message with a Per-Peer Header, as it is written (RFC 7854, section 4.2).
-use Rattle.std.specs.Prelude.{◌≡◌, ℕ, false, List, ◌++◌, length, take, drop, replicate, Some, bit_or}
+use Rattle.std.specs.Prelude.{◌≡◌, ℕ, ◌==◌, false, List, [], ◌∷◌, ◌++◌, length, take, drop, if◌then◌else◌, replicate, Some, bit_or}
 use Rattle.bmp_specs.specs.declared.peers.View.{View}
 use Rattle.bmp_specs.specs.declared.peers.View.TheVariants.{InPre, InPost, OutPre, OutPost, Loc}
 use Rattle.bmp_specs.specs.declared.wire.Family.{Family}
 use Rattle.bmp_specs.specs.declared.wire.Family.TheVariants.{V4, V6}
+use Rattle.bmp_specs.specs.BgpMessage.{marker}
 use Rattle.bmp_specs.specs.Frame.{IsFrame, least}
-use Rattle.bmp_specs.specs.PeerHeader.{HeaderValue, IsHeader, header_size, is_two_byte, key_of, view_of, v_flag, l_flag, o_flag}
+use Rattle.bmp_specs.specs.PeerHeader.{HeaderValue, IsHeader, header_size, is_two_byte, key_of, loc_rib, view_of, v_flag, l_flag, o_flag}
 use Rattle.bmp_specs.specs.Values.{KeyValue}
 
 -- the flag of a family
@@ -43,6 +44,16 @@ pub record IsHeaderOf (key : KeyValue) (view : View) (bytes : List ℕ) : Type 0
   pub key_is : key_of header ≡ Some key
   pub view_is : view_of header ≡ view
   pub plain : IsPlain header
+
+-- the UPDATE message of an End-of-RIB marker (RFC 4724, section 2): for IPv4 one that has nothing, for IPv6 one whose only
+-- attribute is an MP_UNREACH_NLRI without prefixes
+abbrev pub mark_update : Family → List ℕ
+mark_update V4 = marker ++ (0 ∷ 23 ∷ 2 ∷ 0 ∷ 0 ∷ 0 ∷ 0 ∷ [])
+mark_update V6 = marker ++ (0 ∷ 29 ∷ 2 ∷ 0 ∷ 0 ∷ 0 ∷ 6 ∷ 0x80 ∷ 15 ∷ 3 ∷ 0 ∷ 2 ∷ 1 ∷ [])
+
+-- the view that a Peer Down Notification's header names, with the flags L and O clear
+abbrev pub first_view : ℕ → View
+first_view kind = if kind == loc_rib then Loc else InPre
 
 -- a whole message of this type with such a header, and with these bytes behind it
 pub record IsPeerMessage (kind : ℕ) (key : KeyValue) (view : View) (rest bytes : List ℕ) : Type 0 where

@@ -61,6 +61,12 @@ with_opens key opens state = with_peer state key (Some opens)
 abbrev pub HasTold : List ℕ → List ℕ → List ℕ → Type 0
 HasTold name descr bytes = AreTlvs (drop least bytes) (record { kind = sys_descr; value = descr } ∷ record { kind = sys_name; value = name } ∷ [])
 
+-- the whole message
+pub record IsToldMessage (name descr bytes : List ℕ) : Type 0 where
+  pub body : List ℕ
+  pub is : IsFrame bytes initiation_type body
+  pub told : HasTold name descr bytes
+
 -- how many bytes a message has with the End-of-RIB marker of a family: for IPv4 with the UPDATE that has nothing else, for
 -- IPv6 with one that has an MP_UNREACH_NLRI of six bytes
 abbrev pub mark_size : Family → ℕ

@@ -1,7 +1,7 @@
 ghost use Rattle.std.specs.Prelude.{◌≡◌, ℕ, List, ◌+◌, ◌≤◌, [], ◌∷◌, ◌++◌, length, take, OnOk, OnErr};
 ghost use Rattle.bmp_specs.specs.Tlv.{IsTlv};
 ghost use Rattle.bmp_specs.specs.Values.{named, described};
-ghost use Rattle.bmp_writer.specs.Written.{Always, Appends, HasTold, IsWritten, initiation_type, unchanged};
+ghost use Rattle.bmp_writer.specs.Written.{Always, Appends, HasTold, IsToldMessage, IsWritten, initiation_type, unchanged};
 
 use crate::common::{common_header, put};
 use bmp_frames::{COMMON_HEADER, INITIATION};
@@ -34,6 +34,7 @@ pub fn put_initiation(out: &mut ByteList, name: &[u8], descr: &[u8]) -> Result<(
     requires name { length name.now ≤ 65535 }
     requires descr { length descr.now ≤ 65535 }
     ensures ok { OnOk result (Appends (IsWritten initiation_type Always (named name.now ∷ described descr.now ∷ []) unchanged) out.old out.new) }
+    ensures bytes { OnOk result (Appends (IsToldMessage name.now descr.now) out.old out.new) }
     ensures tlvs { OnOk result (Appends (HasTold name.now descr.now) out.old out.new) }
     ensures err { OnErr result (out.new ≡ out.old) }
 {

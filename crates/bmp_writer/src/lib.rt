@@ -11,7 +11,7 @@
 //! are used exactly where the routes have them; `can_routes` says exactly where it can, and that the attributes
 //! are some that a field can have. The Per-Peer Header of any other message than a Peer Up names
 //! no AS and no identifier, and no header has a time; its A flag is clear. A Peer Down Notification has no
-//! data, an Initiation Message no further TLVs.
+//! data, an Initiation Message no further TLVs. The clauses `bytes` say of which parts each message consists.
 //! Begin with `specs/Written.antt`, then `src/initiation.rt`, `src/peer.rt`, `src/peer_up.rt` and
 //! `src/routes.rt`; where each part of an UPDATE stands is in `specs/WrittenUpdate.antt`.
 #![tactic(auto)]

@@ -2,7 +2,7 @@ ghost use Rattle.std.specs.Prelude.{◌≡◌, ◌+◌, ◌≤◌, length, [], �
 ghost use Rattle.bmp_specs.specs.declared.wire.Family.{Family};
 ghost use Rattle.bmp_specs.specs.PeerHeader.{IsViewOf, loc_rib};
 ghost use Rattle.bmp_specs.specs.Values.{mark};
-ghost use Rattle.bmp_writer.specs.PeerMessage.{HasPlainHeader};
+ghost use Rattle.bmp_writer.specs.PeerMessage.{HasPlainHeader, IsPeerMessage, mark_update};
 ghost use Rattle.bmp_writer.specs.Written.{Appends, HasUp, IsWritten, mark_size, route_monitoring_type, unchanged};
 
 use crate::peer::put_peer_message;
@@ -35,6 +35,7 @@ pub fn put_mark(
     requires family { key.now.kind ≡ loc_rib → key.now.address.family ≡ Family.V4 }
     requires view { IsViewOf key.now view }
     ensures ok { OnOk result (Appends (IsWritten route_monitoring_type (HasUp key.now) (mark key.now view family ∷ []) unchanged) out.old out.new) }
+    ensures bytes { OnOk result (Appends (IsPeerMessage route_monitoring_type key.now view (mark_update family)) out.old out.new) }
     ensures size { OnOk result (length out.new ≡ length out.old + mark_size family) }
     ensures plain { OnOk result (Appends HasPlainHeader out.old out.new) }
     ensures err { OnErr result (out.new ≡ out.old) }

@@ -19,3 +19,13 @@ returns-clause-tlvs c =
     let head = c.put-at.ensures.front ∙ c.common_header.ensures in
     let joined = second ∙ ap (λ (l : List ℕ). l ++ two) (first ∙ ap (λ (l : List ℕ). l ++ one) head) in
     on_ok_weaker c.extend.result (λ e. (_, e, told_written c.args.name.now c.args.descr.now one two _ _ is is_too joined)) c.extend.ensures.ok
+
+pub returns-clause-bytes : goal.returns-clause-bytes
+returns-clause-bytes c =
+    let (one, first, is) = c.put_tlv-at.ensures.front in
+    let (two, second, is_too) = c.put_tlv-at-2.ensures.front in
+    let head = c.put-at.ensures.front ∙ c.common_header.ensures in
+    let joined = second ∙ ap (λ (l : List ℕ). l ++ two) (first ∙ ap (λ (l : List ℕ). l ++ one) head) in
+    let written = initiation_written c.args.name.now c.args.descr.now one two _ _ is is_too joined (omega arith) c.requires.descr c.requires.name in
+    let told = told_written c.args.name.now c.args.descr.now one two _ _ is is_too joined in
+    on_ok_weaker c.extend.result (λ e. (_, e, record { body = written.body; is = written.is; told = told })) c.extend.ensures.ok
