@@ -1,0 +1,4 @@
+pub mod DrillStream
+pub mod Drawn
+pub mod Messages
+pub mod Peers
