@@ -1,6 +1,8 @@
-//! Tests of messages, walks and the plain model, and of messages written, from outside.
+//! Tests of messages, walks and the plain model, and of messages and drills written, from outside.
 #![tactic(auto)]
 
+#[cfg(test)]
+mod drills;
 #[cfg(test)]
 mod lenient;
 #[cfg(test)]
