@@ -1,0 +1,11 @@
+//! Tests of the machine of lanes and askers, from outside.
+#![tactic(auto)]
+
+#[cfg(test)]
+mod orders;
+#[cfg(test)]
+mod run;
+#[cfg(test)]
+mod schedules;
+#[cfg(test)]
+mod streams;

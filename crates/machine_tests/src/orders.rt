@@ -1,0 +1,389 @@
+//! Every order of the events of two lanes and two askers, as far as each keeps its own order.
+
+ghost use Rattle.std.specs.Prelude.{◌<◌, ◌≤◌};
+
+use crate::run::{ask, bytes, run, take};
+use plain_model::{Address, Effect, Family, Peer, Route, Row, RowKey, View, rows};
+use station_core::Event;
+use std::alloc::Global;
+use std::process::Abort;
+use std::test::Fail;
+use wire_io::ByteList;
+
+// Each lane has one connection with three messages: a Peer Up Notification, two routes, and a Peer Down Notification on
+// lane 0, the withdrawal of a route on lane 1. The first piece ends in the midst of the last message. So these are the
+// events of a lane: Begin, Take, Publish, Take, Publish.
+const LANE_EVENTS: u32 = 5;
+
+// Those of both lanes; each asker has one more.
+const EVENTS: u32 = 12;
+
+// The Peer Up Notification of 192.0.2.1 (RFC 7854, section 4.10), and Route Monitoring of 10.0.0.0/8 and 10.1.0.0/16
+// (RFC 7854, section 4.6).
+const UP: &str =
+    "030000009a0300000000000000000000000000000000000000000000c00002010000fbf4c00002010000000000000000000000000000000000000000c00002fe00b3c350ffffffffffffffffffffffffffffffff002b0104fbf000b4c00002fe0e020c01040001000141040000fbf0ffffffffffffffffffffffffffffffff002b0104fbf400b4c00002010e020c01040001000141040000fbf4";
+
+const ROUTES: &str =
+    "03000000600000000000000000000000000000000000000000000000c00002010000fbf4c00002010000000000000000ffffffffffffffffffffffffffffffff003002000000144001010040020602010000fbf4400304c0000201080a100a01";
+
+// Peer Down (RFC 7854, section 4.9), in two pieces.
+const DOWN: [&str; 2] = [
+    "03000000310200000000000000000000",
+    "000000000000000000000000c00002010000fbf4c0000201000000000000000004",
+];
+
+// The withdrawal of 10.1.0.0/16, in two pieces.
+const WITHDRAWAL: [&str; 2] = [
+    "030000004a00000000000000000000000000000000000000000000",
+    "00c00002010000fbf4c00002010000000000000000ffffffffffffffffffffffffffffffff001a020003100a010000",
+];
+
+// A piece of the lane's connection.
+fn piece(alloc: Global, lane: u32, second: bool) -> Option<ByteList> {
+    let [before, after] = if lane == 0 { DOWN } else { WITHDRAWAL };
+    if second {
+        bytes(alloc, &[after])
+    } else {
+        bytes(alloc, &[UP, ROUTES, before])
+    }
+}
+
+// The pieces of both lanes.
+#[derive(Drop)]
+struct Bytes {
+    first: [ByteList; 2],
+    second: [ByteList; 2],
+}
+
+fn both_bytes(alloc: Global) -> Option<Bytes> {
+    Some(Bytes {
+        first: [piece(alloc, 0, false)?, piece(alloc, 1, false)?],
+        second: [piece(alloc, 0, true)?, piece(alloc, 1, true)?],
+    })
+}
+
+// The event of a lane that has made so many.
+fn lane_event(alloc: Global, pieces: &Bytes, lane: u32, made: u32) -> Option<Event> {
+    let at = (lane % 2) as usize;
+    match made {
+        0 => Some(Event::Begin { lane }),
+        1 => take(alloc, lane, pieces.first[at].as_slice()),
+        3 => take(alloc, lane, pieces.second[at].as_slice()),
+        _ => Some(Event::Publish { lane }),
+    }
+}
+
+// How many entries are published of a lane that has made so many of its events: the opening and two messages, and then
+// the third.
+fn published(made: u32) -> u32
+    ensures { result ≤ 4 }
+{
+    match made {
+        0 | 1 | 2 => 0,
+        3 | 4 => 3,
+        _ => 4,
+    }
+}
+
+fn address(octets: [u8; 4]) -> Address {
+    let [a, b, c, d] = octets;
+    Address {
+        family: Family::V4,
+        octets: [a, b, c, d, 0, 0, 0, 0, 0, 0, 0, 0, 0, 0, 0, 0],
+    }
+}
+
+fn peer() -> Peer {
+    Peer {
+        kind: 0,
+        distinguisher: 0,
+        address: address([192, 0, 2, 1]),
+    }
+}
+
+fn place(second: u8, bits: u8) -> RowKey {
+    RowKey {
+        peer: peer(),
+        view: View::InPre,
+        address: address([10, second, 0, 0]),
+        bits,
+        id: None,
+    }
+}
+
+fn announce(row_key: RowKey) -> Effect {
+    Effect::Announce(Row {
+        row_key,
+        route: Route { origin: 64500 },
+    })
+}
+
+// What the lane's messages do to its rows, where so many of its entries are published.
+fn effects(alloc: Global, lane: u32, published: u32) -> Option<Vec<Effect>> {
+    let mut effects = Vec::new(alloc);
+    if published >= 3 {
+        effects
+            .push(Effect::Up {
+                peer: peer(),
+                asn: 64500,
+            })
+            .ok()?;
+        effects.push(announce(place(0, 8))).ok()?;
+        effects.push(announce(place(1, 16))).ok()?;
+    }
+    if published >= 4 {
+        let last = if lane == 0 {
+            Effect::Down {
+                peer: peer(),
+                reason: 4,
+            }
+        } else {
+            Effect::Withdraw(place(1, 16))
+        };
+        effects.push(last).ok()?;
+    }
+    Some(effects)
+}
+
+// An order of all events: each binary digit of `lanes`, from the lowest, is the lane of one of the ten events of the lanes;
+// so many of these come before the query `cut`; and so many of the eleven come before the other event.
+#[derive(Clone, Copy)]
+struct Order {
+    lanes: u32,
+    cut: u32,
+    other: u32,
+}
+
+// The other event: the query `table` of the second asker, or the end.
+#[derive(Clone, Copy, PartialEq, Eq)]
+enum Other {
+    Table,
+    End,
+}
+
+// What comes at a place of an order.
+#[derive(Clone, Copy)]
+enum Next {
+    Lane(u32),
+    Cut,
+    Other,
+}
+
+// The place, where one that is taken isn't counted.
+fn without(place: u32, taken: u32) -> u32
+    ensures { result ≤ place }
+{
+    if place > taken { place - 1 } else { place }
+}
+
+fn next_at(order: Order, place: u32) -> Next
+    requires { place < 12 }
+{
+    if place == order.other {
+        return Next::Other;
+    }
+    let place = without(place, order.other);
+    if place == order.cut {
+        return Next::Cut;
+    }
+    Next::Lane((order.lanes >> without(place, order.cut)) % 2)
+}
+
+// How many events the lane has made before this place.
+fn made(order: Order, place: u32, lane: u32) -> u32
+    requires { place ≤ 12 }
+{
+    let mut made = 0u32;
+    for before in 0..place {
+        if let Next::Lane(who) = next_at(order, before) {
+            if who == lane {
+                made = made.saturating_add(1);
+            }
+        }
+    }
+    made
+}
+
+// How many of the lane's entries are published before this place.
+fn shown(order: Order, place: u32, lane: u32) -> u32
+    requires { place ≤ 12 }
+    ensures { result ≤ 4 }
+{
+    published(made(order, place, lane))
+}
+
+fn put(replies: &mut ByteList, text: &[u8]) -> Option<()> {
+    replies.extend(text).ok()
+}
+
+// A number of one digit.
+fn put_digit(replies: &mut ByteList, number: u64) -> Option<()> {
+    let digit = b'0' + (number % 10) as u8;
+    put(replies, &[digit])
+}
+
+// A line of a word and numbers of one digit.
+fn put_line(replies: &mut ByteList, word: &[u8], numbers: &[u64]) -> Option<()> {
+    put(replies, word)?;
+    for number in numbers {
+        put(replies, b" ")?;
+        put_digit(replies, *number)?;
+    }
+    put(replies, b"\n")
+}
+
+fn rest_of_prefix(bits: u8) -> &'static [u8] {
+    match bits {
+        8 => b"0.0.0/8",
+        _ => b"1.0.0/16",
+    }
+}
+
+// The lines of the lane's rows; how many these are.
+fn put_rows(alloc: Global, replies: &mut ByteList, lane: u32, published: u32) -> Option<u64> {
+    let effects = effects(alloc, lane, published)?;
+    let rows = rows(alloc, &effects).ok()?;
+    for row in rows.iter() {
+        put(replies, b"route ")?;
+        put_digit(replies, lane as u64)?;
+        put(replies, b" 0-0000000000000000-192.0.2.1 adj-in-pre 10.")?;
+        put(replies, rest_of_prefix(row.row_key.bits))?;
+        put(
+            replies,
+            b" next=192.0.2.1 origin=igp path=64500 med=- pref=-",
+        )?;
+        put(replies, b" atomic=no agg=- comm=- other=-\n")?;
+    }
+    Some(rows.len() as u64)
+}
+
+// The reply to `cut` where so many entries of each lane are published.
+fn put_cut(replies: &mut ByteList, first: u32, second: u32) -> Option<()>
+    requires { (first ≤ 4) × (second ≤ 4) }
+{
+    put_line(replies, b"at", &[(first + second) as u64])?;
+    put_line(replies, b"lane", &[0, first as u64])?;
+    put_line(replies, b"lane", &[1, second as u64])?;
+    put_line(replies, b"end", &[2])
+}
+
+// The same of `table`.
+fn put_table(alloc: Global, replies: &mut ByteList, first: u32, second: u32) -> Option<()>
+    requires { (first ≤ 4) × (second ≤ 4) }
+{
+    put_line(replies, b"at", &[(first + second) as u64])?;
+    let of_first = put_rows(alloc, replies, 0, first)?;
+    let of_second = put_rows(alloc, replies, 1, second)?;
+    put_line(replies, b"end", &[of_first.saturating_add(of_second)])
+}
+
+// The events of an order.
+fn events(alloc: Global, pieces: &Bytes, order: Order, other: Other) -> Option<Vec<Event>> {
+    let mut events = Vec::new(alloc);
+    for place in 0..EVENTS {
+        let event = match next_at(order, place) {
+            Next::Lane(lane) => lane_event(alloc, pieces, lane, made(order, place, lane))?,
+            Next::Cut => ask(0, b"cut")?,
+            Next::Other => match other {
+                Other::Table => ask(1, b"table")?,
+                Other::End => Event::Finish,
+            },
+        };
+        events.push(event).ok()?;
+    }
+    Some(events)
+}
+
+// The replies that are wanted: each query's, on what is published before it, and none after the end.
+fn wanted(alloc: Global, order: Order, other: Other) -> Option<ByteList> {
+    let mut replies = ByteList::new(alloc);
+    for place in 0..EVENTS {
+        let first = shown(order, place, 0);
+        let second = shown(order, place, 1);
+        match next_at(order, place) {
+            Next::Lane(_) => {}
+            Next::Cut => {
+                if other == Other::Table || place < order.other {
+                    put_cut(&mut replies, first, second)?;
+                }
+            }
+            Next::Other => {
+                if other == Other::Table {
+                    put_table(alloc, &mut replies, first, second)?;
+                }
+            }
+        }
+    }
+    Some(replies)
+}
+
+// How many entries are published in all.
+fn last(order: Order, other: Other) -> u64
+    requires { order.other < 12 }
+{
+    let end = match other {
+        Other::Table => EVENTS,
+        Other::End => order.other,
+    };
+    (shown(order, end, 0) + shown(order, end, 1)) as u64
+}
+
+// Whether the machine does what is wanted of it in this order.
+fn is_right(alloc: Global, pieces: &Bytes, order: Order, other: Other) -> Option<bool>
+    requires { order.other < 12 }
+{
+    let events = events(alloc, pieces, order, other)?;
+    let wanted = wanted(alloc, order, other)?;
+    let ran = run(alloc, 2, 2, &events, 1024, &[])?;
+    Some(ran.is(wanted.as_slice(), last(order, other)))
+}
+
+// How many of the ten events of the lanes are the second lane's.
+fn ones(lanes: u32) -> u32 {
+    let mut ones = 0u32;
+    let mut rest = lanes;
+    for _ in 0..10 {
+        ones = ones.saturating_add(rest % 2);
+        rest /= 2;
+    }
+    ones
+}
+
+// Tries every order in which the lanes have as many events; how many orders these are.
+fn orders(rt: &impl Abort, alloc: Global, other: Other) -> Option<u32> {
+    let pieces = both_bytes(alloc)?;
+    let mut orders = 0u32;
+    for lanes in 0..1024 {
+        if ones(lanes) != LANE_EVENTS {
+            continue;
+        }
+        for cut in 0..=10 {
+            for place in 0..12 {
+                let order = Order {
+                    lanes,
+                    cut,
+                    other: place,
+                };
+                let right = is_right(alloc, &pieces, order, other);
+                assert_eq!(rt; right, Some(true), "{lanes} {cut} {place}");
+                orders = orders.saturating_add(1);
+            }
+        }
+    }
+    Some(orders)
+}
+
+// 12! / (5! 5!).
+const ORDERS: u32 = 33264;
+
+#[test]
+fn queries_between_publications(rt: HostRuntime) -> Result<(), Fail> {
+    assert_eq!(rt; orders(&rt, rt.alloc(), Other::Table), Some(ORDERS));
+    Ok(())
+}
+
+#[test]
+fn nothing_happens_after_the_end(rt: HostRuntime) -> Result<(), Fail> {
+    assert_eq!(rt; orders(&rt, rt.alloc(), Other::End), Some(ORDERS));
+    Ok(())
+}
