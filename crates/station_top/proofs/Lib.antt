@@ -10,3 +10,7 @@ pub mod Concluding
 pub mod Joining
 pub mod Commands
 pub mod Settings
+pub mod OptionWalk
+pub mod OptionMatches
+pub mod OptionTaken
+pub mod OptionServe

@@ -14,10 +14,8 @@ use Rattle.bmp_specs.specs.Prefix.{padded}
 use Rattle.bmp_specs.specs.AddressText.{IsAddressText}
 use Rattle.bmp_specs.specs.NumberText.{IsNumberText}
 use Rattle.bmp_specs.specs.Values.{AddressValue}
-use Rattle.station_top.specs.ServeWords.{Setting, IsOption, IsInFront, AreSettings, values_of, Finds, GivesNumber, GivesAddress, HasNumber, HasAddress, MayServe, loopback}
+use Rattle.station_top.specs.ServeWords.{Setting, IsOption, IsInFront, AreSettings, values_of, GivesNumber, GivesAddress, HasNumber, HasAddress, MayServe, loopback}
 use Rattle.station_top.specs.declared.serve_words.ServeWords.{ServeWords}
-use Rattle.station_top.specs.declared.serve_words.Found.{Found}
-use Rattle.station_top.specs.declared.serve_words.Found.TheVariants.{Never, Once, Otherwise}
 
 -- no option has an `=` in its name
 none_in : (name : List ℕ) → IsOption name → position (λ b. b == 61) name ≡ None
@@ -94,103 +92,6 @@ same_settings (s ∷ ss) (t ∷ ts) words (others, f, a) (more, g, b) =
     let tail : ss ≡ ts = same_settings ss ts more (subst (λ (l : List (List ℕ)). AreSettings ss l) same.behind a) b in
     cc (same.setting, tail)
 
-pub values_append : (name : List ℕ) (ss ts : List Setting) → values_of name (ss ++ ts) ≡ values_of name ss ++ values_of name ts
-values_append name ss ts = ap (λ (l : List Setting). map (λ s. s.1) l) (filter-append (λ s. bytes_eq s.0 name) ss ts) ∙ map-append (λ s. s.1) (filter (λ s. bytes_eq s.0 name) ss) (filter (λ s. bytes_eq s.0 name) ts)
-
--- an option gives its value, and another one none
-pub given_more : (name : List ℕ) (s : Setting) (ts : List Setting) → s.0 ≡ name → values_of name (s ∷ ts) ≡ s.1 ∷ values_of name ts
-given_more name s ts is =
-    let others = filter (λ x. bytes_eq x.0 name) ts in
-    let same : bytes_eq s.0 name ≡ true = (bytes_eq-Decides s.0 name).1 is in
-    ap (λ (t : Bool). map (λ (x : Setting). x.1) (cond t (s ∷ others) others)) same
-
-pub given_none : (name : List ℕ) (s : Setting) (ts : List Setting) → s.0 ≢ name → values_of name (s ∷ ts) ≡ values_of name ts
-given_none name s ts other = go (bytes_eq s.0 name) refl
-  where
-    others : List Setting
-    others = filter (λ x. bytes_eq x.0 name) ts
-
-    go : (t : Bool) → bytes_eq s.0 name ≡ t → values_of name (s ∷ ts) ≡ values_of name ts
-    go true same = absurd (other ((bytes_eq-Decides s.0 name).0 same))
-    go false apart = ap (λ (t : Bool). map (λ (x : Setting). x.1) (cond t (s ∷ others) others)) apart
-
--- what is told of the options that were passed
-abbrev pub IsTold : Found → List (List ℕ) → Type 0
-IsTold Never values = values ≡ []
-IsTold (Once value) values = values ≡ value.now ∷ []
-IsTold Otherwise values = ⊥
-
--- some options stand in front of the rest of the words, and this is what they give
-pub record Passing (name : List ℕ) (words rest : List (List ℕ)) (found : Found) : Type 0 where
-  pub seen : List Setting
-  pub joined : (settings : List Setting) → AreSettings settings rest → AreSettings (seen ++ settings) words
-  pub only : (settings : List Setting) → AreSettings settings words → (more : List Setting) × (settings ≡ seen ++ more) × AreSettings more rest
-  pub told : IsTold found (values_of name seen)
-
-pub passing_none : (name : List ℕ) (words : List (List ℕ)) → Passing name words words Never
-passing_none name words = record { seen = []; joined = λ settings are. are; only = λ settings are. (settings, refl, are); told = refl }
-
-pub passing_more : (name : List ℕ) (words rest others : List (List ℕ)) (found after : Found) (s : Setting) (p : Passing name words rest found) → IsInFront s rest others → IsTold after (values_of name p.seen ++ values_of name (s ∷ [])) → Passing name words others after
-passing_more name words rest others found after s p front told = record {
-  seen = p.seen ++ s ∷ [];
-  joined = λ settings are. subst (λ (l : List Setting). AreSettings l words) (sym (append_assoc p.seen (s ∷ []) settings)) (p.joined (s ∷ settings) (others, front, are));
-  only = λ settings are. only settings (p.only settings are);
-  told = subst (IsTold after) (sym (values_append name p.seen (s ∷ []))) told;
-}
-  where
-    next : (settings more : List Setting) → settings ≡ p.seen ++ more → AreSettings more rest → (ts : List Setting) × (settings ≡ (p.seen ++ s ∷ []) ++ ts) × AreSettings ts others
-    next settings [] e none = absurd (not_none s rest others none front)
-    next settings (t ∷ ts) e (behind, g, are) =
-        let same = same_front s t rest others behind front g in
-        (ts, e ∙ ap (λ (x : Setting). p.seen ++ x ∷ ts) (sym same.setting) ∙ sym (append_assoc p.seen (s ∷ []) ts), subst (λ (l : List (List ℕ)). AreSettings ts l) (sym same.behind) are)
-
-    only : (settings : List Setting) → (more : List Setting) × (settings ≡ p.seen ++ more) × AreSettings more rest → (ts : List Setting) × (settings ≡ (p.seen ++ s ∷ []) ++ ts) × AreSettings ts others
-    only settings (more, e, are) = next settings more e are
-
--- all were passed
-pub passed_all : (name : List ℕ) (words rest : List (List ℕ)) (found : Found) → Passing name words rest found → rest ≡ [] → Finds name words found
-passed_all name words rest Never p none = (p.seen, subst (λ (l : List Setting). AreSettings l words) (append-nil p.seen) (p.joined [] none), p.told)
-passed_all name words rest (Once value) p none = (p.seen, subst (λ (l : List Setting). AreSettings l words) (append-nil p.seen) (p.joined [] none), p.told)
-passed_all name words rest Otherwise p none = absurd p.told
-
--- no further option stands in front of the rest
-pub passed_none : (name : List ℕ) (words rest : List (List ℕ)) (found : Found) → Passing name words rest found → rest ≢ [] → ((s : Setting) (others : List (List ℕ)) → IsInFront s rest others → ⊥) → Finds name words Otherwise
-passed_none name words rest found p some none = λ settings are. absurd (go (p.only settings are))
-  where
-    next : (more : List Setting) → AreSettings more rest → ⊥
-    next [] e = some e
-    next (t ∷ ts) (others, front, are) = none t others front
-
-    go : {settings : List Setting} → (more : List Setting) × (settings ≡ p.seen ++ more) × AreSettings more rest → ⊥
-    go (more, e, are) = next more are
-
--- the option in front is given again
-pub passed_again : (name : List ℕ) (words rest others : List (List ℕ)) (found : Found) (s : Setting) (v : List ℕ) → Passing name words rest found → found ≢ Never → IsInFront s rest others → s.0 ≡ name → Finds name words Otherwise
-passed_again name words rest others Never s v p other front is = absurd (other refl)
-passed_again name words rest others Otherwise s v p other front is = absurd p.told
-passed_again name words rest others (Once value) s v p other front is = λ settings are. both settings (p.only settings are)
-  where
-    many : (settings more : List Setting) → settings ≡ p.seen ++ more → AreSettings more rest → (vs : List (List ℕ)) × (values_of name settings ≡ value.now ∷ s.1 ∷ vs)
-    many settings [] e none = absurd (not_none s rest others none front)
-    many settings (t ∷ ts) e (behind, g, are) =
-        let same = same_front s t rest others behind front g in
-        let whole : settings ≡ p.seen ++ s ∷ ts = e ∙ ap (λ (x : Setting). p.seen ++ x ∷ ts) (sym same.setting) in
-        (values_of name ts, ap (λ (l : List Setting). values_of name l) whole ∙ values_append name p.seen (s ∷ ts) ∙ ap (λ (l : List (List ℕ)). l ++ values_of name (s ∷ ts)) p.told ∙ ap (λ (l : List (List ℕ)). value.now ∷ l) (given_more name s ts is))
-
-    both : (settings : List Setting) → (more : List Setting) × (settings ≡ p.seen ++ more) × AreSettings more rest → (values_of name settings ≢ []) × ((w : List ℕ) → values_of name settings ≢ w ∷ [])
-    both settings (more, e, are) =
-        let m = many settings more e are in
-        (λ none. cc (none, m.1), λ w one. cc (one, m.1))
-
--- words by whose length there are none, or some
-pub none_left : {X : Type 0} (text : X → List ℕ) (xs : List X) → (length xs == 0) ≡ true → map text xs ≡ []
-none_left text [] is = refl
-none_left text (x ∷ xs) is = absurd (omega (arith, eqb-true (length (x ∷ xs)) 0 is))
-
-pub some_left : {X : Type 0} (text : X → List ℕ) (xs : List X) → (length xs == 0) ≡ false → map text xs ≢ []
-some_left text [] is = absurd (cc is)
-some_left text (x ∷ xs) is = λ none. cc none
-
 -- a name has one number at most
 pub one_number : (name : List ℕ) (words : List (List ℕ)) (n m : ℕ) → HasNumber name words n → HasNumber name words m → m ≡ n
 one_number name words n m (ss, are, (value, once, is)) (ts, again, (other, single, spelled)) =
@@ -209,15 +110,6 @@ number_spelled name value words n (ss, are, once) (ts, again, (other, single, sp
     let values : value ∷ [] ≡ other ∷ [] = sym once ∙ ap (λ (l : List Setting). values_of name l) same ∙ single in
     let one : value ≡ other = cc values in
     subst (λ (l : List ℕ). IsNumberText l n) (sym one) spelled
-
--- no number is had of a name that is not given once
-pub no_number : (name : List ℕ) (words : List (List ℕ)) (found : Found) → Finds name words found → ((value : Bor (List ℕ)) → found ≢ Once value) → (n : ℕ) → HasNumber name words n → ⊥
-no_number name words (Once value) f other n has = absurd (other value refl)
-no_number name words Never (ss, are, none) other n (ts, again, (value, single, spelled)) =
-    let same = same_settings ss ts words are again in
-    let clash : [] ≡ value ∷ [] = sym none ∙ ap (λ (l : List Setting). values_of name l) same ∙ single in
-    absurd (cc clash)
-no_number name words Otherwise f other n (ts, again, (value, single, spelled)) = absurd ((f ts again).1 value single)
 
 pub only_number : (name value : List ℕ) (words : List (List ℕ)) (r : Option ℕ) → (ss : List Setting) × AreSettings ss words × (values_of name ss ≡ value ∷ []) → IfSome r (λ n. IsNumberText value n) → IfSome r (λ n. (m : ℕ) → HasNumber name words m → m ≡ n)
 only_number name value words None found is = tt
@@ -243,23 +135,6 @@ address_spelled value words a (ss, are, once) (ts, again, gives) = go gives
         let clash : value ∷ [] ≡ [] = sym once ∙ ap (λ (l : List Setting). values_of (codes "--address") l) same ∙ none in
         absurd (cc clash)
 
--- the address where none is given
-pub address_missing : (words : List (List ℕ)) (a : AddressValue) → Finds (codes "--address") words Never → HasAddress words a → a ≡ loopback
-address_missing words a (ss, are, none) (ts, again, gives) = go gives
-  where
-    go : GivesAddress ts a → a ≡ loopback
-    go (inl (value, single, spelled)) =
-        let clash : [] ≡ value ∷ [] = sym none ∙ ap (λ (l : List Setting). values_of (codes "--address") l) (same_settings ss ts words are again) ∙ single in
-        absurd (cc clash)
-    go (inr (absent, is)) = is
-
-pub no_address : (words : List (List ℕ)) (a : AddressValue) → Finds (codes "--address") words Otherwise → HasAddress words a → ⊥
-no_address words a found (ts, again, gives) = go gives
-  where
-    go : GivesAddress ts a → ⊥
-    go (inl (value, single, spelled)) = (found ts again).1 value single
-    go (inr (absent, is)) = (found ts again).0 absent
-
 pub some_address : (value : List ℕ) (words : List (List ℕ)) (r : Option AddressValue) → (ss : List Setting) × AreSettings ss words × (values_of (codes "--address") ss ≡ value ∷ []) → IfSome r (λ a. IsAddressText value a) → IfSome r (λ a. HasAddress words a)
 some_address value words None found is = tt
 some_address value words (Some a) (ss, are, once) is = (ss, are, inl (value, once, is))
@@ -271,13 +146,6 @@ only_address value words (Some a) found only = λ b has. only b (address_spelled
 pub none_address : (value : List ℕ) (words : List (List ℕ)) (r : Option AddressValue) → (ss : List Setting) × AreSettings ss words × (values_of (codes "--address") ss ≡ value ∷ []) → IfNone r ((a : AddressValue) → IsAddressText value a → ⊥) → IfNone r ((a : AddressValue) → HasAddress words a → ⊥)
 none_address value words (Some a) found none = tt
 none_address value words None found none = λ a has. none a (address_spelled value words a found has)
-
--- the name in front was compared with the one that is looked for
-pub given_name : {a b name : List ℕ} {t : Bool} → t ≡ bytes_eq a b → t ≡ true → b ≡ name → a ≡ name
-given_name e is same = (bytes_eq-Decides _ _).0 (sym e ∙ is) ∙ same
-
-pub other_name : {a b name : List ℕ} {t : Bool} → t ≡ bytes_eq a b → t ≡ false → b ≡ name → a ≢ name
-other_name {a = a} {b = b} e apart same = λ is. cc (sym apart ∙ e ∙ (bytes_eq-Decides a b).1 (is ∙ sym same))
 
 -- what the words have of a name, their settings give
 pub gives_number : (name : List ℕ) (words : List (List ℕ)) (n : ℕ) (ss : List Setting) → AreSettings ss words → HasNumber name words n → GivesNumber name ss n

@@ -7,3 +7,4 @@ pub mod Status
 pub mod Words
 pub mod Station
 pub mod ServeWords
+pub mod ServeOptions

@@ -7,8 +7,6 @@ use Rattle.bmp_specs.specs.AddressText.{IsAddressText}
 use Rattle.bmp_specs.specs.NumberText.{IsNumberText}
 use Rattle.bmp_specs.specs.Prefix.{padded}
 use Rattle.bmp_specs.specs.Values.{AddressValue}
-use Rattle.station_top.specs.declared.serve_words.Found.{Found}
-use Rattle.station_top.specs.declared.serve_words.Found.TheVariants.{Never, Once, Otherwise}
 use Rattle.station_top.specs.declared.serve_words.ServeWords.{ServeWords}
 
 -- an option and its value
@@ -71,12 +69,6 @@ pub record IsServe (serve : ServeWords) (words : List (List ℕ)) : Type 0 where
   pub rounds : GivesNumber (codes "--rounds") settings serve.rounds
   pub address : GivesAddress settings serve.at.address
   pub may_serve : MayServe serve
-
--- what was found of an option in the words
-abbrev pub Finds : List ℕ → List (List ℕ) → Found → Type 0
-Finds name words Never = (settings : List Setting) × AreSettings settings words × (values_of name settings ≡ [])
-Finds name words (Once value) = (settings : List Setting) × AreSettings settings words × (values_of name settings ≡ value.now ∷ [])
-Finds name words Otherwise = (settings : List Setting) → AreSettings settings words → (values_of name settings ≢ []) × ((value : List ℕ) → values_of name settings ≢ value ∷ [])
 
 -- the words are options, of which one is given once with this number
 abbrev pub HasNumber : List ℕ → List (List ℕ) → ℕ → Type 0

@@ -1,13 +1,20 @@
 //! The options of `serve`, in any order and form.
 
-ghost use Rattle.std.specs.Prelude.{◌≡◌, ◌↔◌, ◌==◌, ◌∷◌, ◌<◌, ◌≤◌, ℕ, List, map, position, length, IsTrue, IfSome, IfNone, codes};
+ghost use Rattle.std.specs.Prelude.{◌≡◌, ◌≢◌, ◌↔◌, ◌≤◌, ℕ, List, Err, map, IsTrue, IfSome, IfNone, IfOk, false, true};
+ghost use Rattle.std.specs.List.{list_any};
 ghost use Rattle.std.specs.String.{string_bytes};
 ghost use Rattle.bmp_specs.specs.Values.{AddressValue};
-ghost use Rattle.station_top.specs.ServeWords.{Finds, HasNumber, HasAddress, IsInFront, IsOption, IsServe, MayServe, Setting};
+ghost use Rattle.clap.specs.Words.{app_of, rule_of};
+ghost use Rattle.station_top.specs.ServeOptions.{AreMatches, dashed, is_dashes, option_rule, serve_app};
+ghost use Rattle.station_top.specs.ServeWords.{HasNumber, HasAddress, IsServe, MayServe};
 ghost use Rattle.station_top.specs.declared.serve_words.ServeWords.{ServeWords as AnyServe};
 
+use crate::words::WordsFault;
+use clap::error::ErrorKind;
+use clap::{Arg, ArgMatches, Command};
 use ip_prefix::{Addr, parse_addr, parse_number};
 use station_doors::Listening;
+use std::alloc::{AllocError, Global};
 
 /// What `serve` is asked for.
 #[derive(Clone, Copy)]
@@ -19,116 +26,91 @@ pub struct ServeWords {
     pub rounds: u32,
 }
 
-// What was found of an option.
-#[derive(Clone, Copy)]
-enum Found<'a> {
-    // it is not given
-    Never,
-
-    // it is given once, with this value
-    Once(&'a [u8]),
-
-    // it is given again, or the words are no options
-    Otherwise,
+// The command `serve`, whose words have no name of a program in front.
+fn serve_command<'a>(alloc: Global) -> Result<Command<'a>, AllocError>
+    ensures { IfOk result (λ command. app_of command ≡ serve_app) }
+{
+    Command::new(alloc, "serve")
+        .no_binary_name(true)
+        .disable_help_flag(true)
+        .arg(required(alloc, "feeds"))?
+        .arg(required(alloc, "askers"))?
+        .arg(required(alloc, "feed-port"))?
+        .arg(required(alloc, "ask-port"))?
+        .arg(required(alloc, "rounds"))?
+        .arg(optional(alloc, "address"))
 }
 
-fn is_option(name: &[u8]) -> bool
-    ensures { IsTrue result ↔ IsOption name.now }
+// An option with a value, as `--name value` or `--name=value`.
+fn optional<'a>(alloc: Global, name: &'a str) -> Arg<'a>
+    ensures rule { rule_of result ≡ option_rule (name.entry.now, false) }
+    ensures local { result.global ≡ false }
 {
-    name == "--feeds".as_bytes()
-        || name == "--askers".as_bytes()
-        || name == "--feed-port".as_bytes()
-        || name == "--ask-port".as_bytes()
-        || name == "--rounds".as_bytes()
-        || name == "--address".as_bytes()
+    Arg::new(alloc, name).long(name)
 }
 
-// Where the first `=` is.
-fn first_equals(word: &[u8]) -> Option<usize>
-    ensures { result ≡ position (λ byte. byte == 61) word.now }
+fn required<'a>(alloc: Global, name: &'a str) -> Arg<'a>
+    ensures rule { rule_of result ≡ option_rule (name.entry.now, true) }
+    ensures local { result.global ≡ false }
 {
-    word.iter().position(|byte| *byte == b'=')
+    Arg::new(alloc, name).long(name).required(true)
 }
 
-// The option in front of the words, its value and the words behind both. None where no option with a value stands there.
-fn split_front(words: &[String]) -> Option<(&[u8], &[u8], &[String])>
-    ensures some { IfSome result (λ front. IsInFront (front.0.now, front.1.now) (map string_bytes words.now) (map string_bytes front.2.now)) }
-    ensures less { IfSome result (λ front. length front.2.now < length words.now) }
-    ensures none { IfNone result ((setting : Setting) (others : List (List ℕ)) → IsInFront setting (map string_bytes words.now) others → ⊥) }
+// Whether a `--` stands among the words, which would end the options.
+fn has_dashes(words: &[String]) -> bool
+    ensures { result ≡ list_any (λ word. is_dashes (string_bytes word)) words.now }
 {
-    match words {
-        [word, more @ ..] => split_word(word.as_bytes(), more),
-        [] => None,
+    words.iter().any(|word| word.as_str() == "--")
+}
+
+// Why there are no options, by the kind of error.
+fn fault_by(kind: ErrorKind) -> WordsFault
+    ensures { result ≡ WordsFault.Usage → kind ≢ ErrorKind.OutOfMemory }
+{
+    match kind {
+        ErrorKind::OutOfMemory => WordsFault::NoMemory,
+        _ => WordsFault::Usage,
     }
 }
 
-// The same of a word and those behind it.
-fn split_word<'a>(word: &'a [u8], more: &'a [String]) -> Option<(&'a [u8], &'a [u8], &'a [String])>
-    ensures some { IfSome result (λ front. IsInFront (front.0.now, front.1.now) (word.now ∷ map string_bytes more.now) (map string_bytes front.2.now)) }
-    ensures less { IfSome result (λ front. length front.2.now ≤ length more.now) }
-    ensures none { IfNone result ((setting : Setting) (others : List (List ℕ)) → IsInFront setting (word.now ∷ map string_bytes more.now) others → ⊥) }
+// The options in the words, each given once. `Usage` exactly where they are no words of `serve`.
+fn read_options<'a>(alloc: Global, words: &'a [String]) -> Result<ArgMatches<'a>, WordsFault>
+    ensures ok { IfOk result (λ matches. AreMatches (map string_bytes words.entry.now) matches) }
+    ensures usage { result ≡ Err WordsFault.Usage → (serve : AnyServe) → IsServe serve (map string_bytes words.entry.now) → ⊥ }
 {
-    match first_equals(word) {
-        Some(place) => {
-            let name = &word[..place];
-            if is_option(name) {
-                Some((name, &word[place + 1..], more))
-            } else {
-                None
-            }
-        }
-        None => match more {
-            [value, others @ ..] if is_option(word) => Some((word, value.as_bytes(), others)),
-            _ => None,
-        },
+    if has_dashes(words) {
+        return Err(WordsFault::Usage);
     }
-}
-
-// What the words give for an option.
-fn find_option<'a>(words: &'a [String], name: &str) -> Found<'a>
-    ensures { Finds name.now (map string_bytes words.now) result }
-{
-    let mut rest = words;
-    let mut found = Found::Never;
-    while !rest.is_empty() {
-        match split_front(rest) {
-            Some((option, value, others)) => {
-                if option == name.as_bytes() {
-                    match found {
-                        Found::Never => found = Found::Once(value),
-                        _ => return Found::Otherwise,
-                    }
-                }
-                rest = others;
-            }
-            None => return Found::Otherwise,
-        }
+    let Ok(command) = serve_command(alloc) else {
+        return Err(WordsFault::NoMemory);
+    };
+    match command.try_get_matches_from(words) {
+        Ok(matches) => Ok(matches),
+        Err(error) => Err(fault_by(error.kind())),
     }
-    found
 }
 
 // The number that the words give for an option, which is given once.
-fn find_number(words: &[String], name: &str) -> Option<u32>
-    ensures some { IfSome result (λ n. HasNumber name.now (map string_bytes words.now) n) }
-    ensures only { IfSome result (λ n. (m : ℕ) → HasNumber name.now (map string_bytes words.now) m → m ≡ n) }
-    ensures none { IfNone result ((n : ℕ) → HasNumber name.now (map string_bytes words.now) n → ⊥) }
+fn find_number(matches: &ArgMatches<'_>, name: &str) -> Option<u32>
+    ensures some { (words : List (List ℕ)) → AreMatches words matches.now → IfSome result (λ n. HasNumber (dashed name.now) words n) }
+    ensures only { (words : List (List ℕ)) → AreMatches words matches.now → IfSome result (λ n. (m : ℕ) → HasNumber (dashed name.now) words m → m ≡ n) }
+    ensures none { (words : List (List ℕ)) → AreMatches words matches.now → IfNone result ((n : ℕ) → HasNumber (dashed name.now) words n → ⊥) }
 {
-    match find_option(words, name) {
-        Found::Once(value) => parse_number(value),
-        _ => None,
+    match matches.get_str(name) {
+        Some(value) => parse_number(value.as_bytes()),
+        None => None,
     }
 }
 
 // The address that the words give, where they give it once, or 127.0.0.1 where they give none.
-fn find_address(words: &[String]) -> Option<Addr>
-    ensures some { IfSome result (λ address. HasAddress (map string_bytes words.now) address) }
-    ensures only { IfSome result (λ address. (other : AddressValue) → HasAddress (map string_bytes words.now) other → other ≡ address) }
-    ensures none { IfNone result ((address : AddressValue) → HasAddress (map string_bytes words.now) address → ⊥) }
+fn find_address(matches: &ArgMatches<'_>) -> Option<Addr>
+    ensures some { (words : List (List ℕ)) → AreMatches words matches.now → IfSome result (λ address. HasAddress words address) }
+    ensures only { (words : List (List ℕ)) → AreMatches words matches.now → IfSome result (λ address. (other : AddressValue) → HasAddress words other → other ≡ address) }
+    ensures none { (words : List (List ℕ)) → AreMatches words matches.now → IfNone result ((address : AddressValue) → HasAddress words address → ⊥) }
 {
-    match find_option(words, "--address") {
-        Found::Once(value) => parse_addr(value),
-        Found::Never => Some(Addr::v4([127, 0, 0, 1])),
-        Found::Otherwise => None,
+    match matches.get_str("address") {
+        Some(value) => parse_addr(value.as_bytes()),
+        None => Some(Addr::v4([127, 0, 0, 1])),
     }
 }
 
@@ -167,29 +149,27 @@ fn may_serve(serve: &ServeWords) -> bool
         && (feed_end <= ask_port as u32 || ask_end <= feed_port as u32)
 }
 
-/// What the words after `serve` ask for: `--feeds N --askers M --feed-port P --ask-port Q --rounds K`, in any order, and
-/// optionally `--address A`, which is 127.0.0.1 where it is missing. Each option is given once, as `--name value` or as
-/// `--name=value`. None exactly where the words are no such options.
-pub fn read_serve(words: &[String]) -> Option<ServeWords>
-    ensures some { IfSome result (λ serve. IsServe serve (map string_bytes words.now)) }
-    ensures none { IfNone result ((serve : AnyServe) → IsServe serve (map string_bytes words.now) → ⊥) }
+// What the options ask for.
+fn serve_of(matches: &ArgMatches<'_>) -> Option<ServeWords>
+    ensures some { (words : List (List ℕ)) → AreMatches words matches.now → IfSome result (λ serve. IsServe serve words) }
+    ensures none { (words : List (List ℕ)) → AreMatches words matches.now → IfNone result ((serve : AnyServe) → IsServe serve words → ⊥) }
 {
-    let Some(feeds) = find_number(words, "--feeds") else {
+    let Some(feeds) = find_number(matches, "feeds") else {
         return None;
     };
-    let Some(askers) = find_number(words, "--askers") else {
+    let Some(askers) = find_number(matches, "askers") else {
         return None;
     };
-    let Some(feed_number) = find_number(words, "--feed-port") else {
+    let Some(feed_number) = find_number(matches, "feed-port") else {
         return None;
     };
-    let Some(ask_number) = find_number(words, "--ask-port") else {
+    let Some(ask_number) = find_number(matches, "ask-port") else {
         return None;
     };
-    let Some(rounds) = find_number(words, "--rounds") else {
+    let Some(rounds) = find_number(matches, "rounds") else {
         return None;
     };
-    let Some(address) = find_address(words) else {
+    let Some(address) = find_address(matches) else {
         return None;
     };
     let Some(feed_port) = port_of(feed_number) else {
@@ -209,4 +189,20 @@ pub fn read_serve(words: &[String]) -> Option<ServeWords>
         rounds,
     };
     if may_serve(&serve) { Some(serve) } else { None }
+}
+
+/// What the words after `serve` ask for: `--feeds N --askers M --feed-port P --ask-port Q --rounds K`, in any order, and
+/// optionally `--address A`, which is 127.0.0.1 where it is missing. Each option is given once, as `--name value` or as
+/// `--name=value`. `Usage` exactly where the words are no such options.
+pub fn read_serve(alloc: Global, words: &[String]) -> Result<ServeWords, WordsFault>
+    ensures ok { IfOk result (λ serve. IsServe serve (map string_bytes words.now)) }
+    ensures usage { result ≡ Err WordsFault.Usage → (serve : AnyServe) → IsServe serve (map string_bytes words.now) → ⊥ }
+{
+    match read_options(alloc, words) {
+        Ok(matches) => match serve_of(&matches) {
+            Some(serve) => Ok(serve),
+            None => Err(WordsFault::Usage),
+        },
+        Err(fault) => Err(fault),
+    }
 }

@@ -1,16 +1,17 @@
-use Rattle.std.proofs.Common.{map, sym, ◌∙◌}
-use Rattle.std.specs.String.{string_bytes}
-use Rattle.station_top.proofs.Settings.{some_address, only_address, none_address, address_missing, is_loopback}
+use Rattle.std.proofs.Common.{Some, codes, sym, ap, ◌∙◌}
+use Rattle.station_top.proofs.Settings.{only_address, none_address, is_loopback}
+use Rattle.station_top.proofs.OptionServe.{told_once, address_left_out}
 use Rattle.station_top.proofs.serve_words.find_address.Goals as goal
 
-pub returns-in-Once-clause-some : goal.returns-in-Once-clause-some
-returns-in-Once-clause-some c = some_address c.in-Once.value.now (map string_bytes c.args.words.now) c.parse_addr.result c.in-Once.ensures c.parse_addr.ensures.some
+pub returns-in-Some-clause-only : goal.returns-in-Some-clause-only
+returns-in-Some-clause-only c = λ words are.
+    let value = c.as_bytes.result.now in
+    only_address value words c.parse_addr.result (told_once words c.args.matches.now (codes "address") value are (sym c.in-Some.ensures ∙ ap Some (sym c.as_bytes.ensures.value))) c.parse_addr.ensures.only
 
-pub returns-in-Once-clause-only : goal.returns-in-Once-clause-only
-returns-in-Once-clause-only c = only_address c.in-Once.value.now (map string_bytes c.args.words.now) c.parse_addr.result c.in-Once.ensures c.parse_addr.ensures.only
+pub returns-in-Some-clause-none : goal.returns-in-Some-clause-none
+returns-in-Some-clause-none c = λ words are.
+    let value = c.as_bytes.result.now in
+    none_address value words c.parse_addr.result (told_once words c.args.matches.now (codes "address") value are (sym c.in-Some.ensures ∙ ap Some (sym c.as_bytes.ensures.value))) c.parse_addr.ensures.none
 
-pub returns-in-Once-clause-none : goal.returns-in-Once-clause-none
-returns-in-Once-clause-none c = none_address c.in-Once.value.now (map string_bytes c.args.words.now) c.parse_addr.result c.in-Once.ensures c.parse_addr.ensures.none
-
-pub returns-in-Never-clause-only : goal.returns-in-Never-clause-only
-returns-in-Never-clause-only c = λ other has. address_missing (map string_bytes c.args.words.now) other c.in-Never.ensures has ∙ sym (is_loopback c.v4.result c.v4.ensures.family c.v4.ensures.octets)
+pub returns-in-None-clause-only : goal.returns-in-None-clause-only
+returns-in-None-clause-only c = λ words are other has. address_left_out words c.args.matches.now are (sym c.in-None.ensures) other has ∙ sym (is_loopback c.v4.result c.v4.ensures.family c.v4.ensures.octets)
