@@ -1,5 +1,5 @@
 -- The words of a call.
-use Rattle.std.specs.Prelude.{◌≡◌, ◌≢◌, ℕ, Bool, true, false, List, [], ◌∷◌, codes}
+use Rattle.std.specs.Prelude.{◌≡◌, ◌≢◌, ◌⊎◌, ℕ, Bool, true, false, List, [], ◌∷◌, codes}
 use Rattle.std.specs.List.{join_with_byte}
 use Rattle.bmp_specs.specs.Query.{QueryValue, quit, space, IsQuery}
 use Rattle.query_lang.specs.Queries.{query_value}
@@ -39,6 +39,10 @@ pub record IsCall (call : Call) (words : List (List ℕ)) : Type 0 where
   pub is_plain : IsPlain call.lenient given plain
   pub is_command : IsCommand call.command (first ∷ plain)
 
--- to read the words takes memory: their first is `replay`
+-- to read the words behind this one takes memory
+abbrev pub TakesMemory : List ℕ → Type 0
+TakesMemory first = (first ≡ codes "replay") ⊎ (first ≡ codes "serve")
+
+-- to read the words takes memory: their first is `replay` or `serve`
 abbrev pub TakeMemory : List (List ℕ) → Type 0
-TakeMemory words = (asked : List (List ℕ)) × (words ≡ codes "replay" ∷ asked)
+TakeMemory words = (first : List ℕ) × (asked : List (List ℕ)) × (words ≡ first ∷ asked) × TakesMemory first

@@ -3,7 +3,7 @@ ghost use Rattle.std.specs.List.{join_with_byte};
 ghost use Rattle.std.specs.String.{string_bytes};
 ghost use Rattle.bmp_specs.specs.Query.{QueryValue, quit, space};
 ghost use Rattle.query_lang.specs.Queries.{query_value};
-ghost use Rattle.station_top.specs.Words.{IsAsking, IsCall, IsCommand, IsPlain, TakeMemory};
+ghost use Rattle.station_top.specs.Words.{IsAsking, IsCall, IsCommand, IsPlain, TakeMemory, TakesMemory};
 ghost use Rattle.station_top.specs.declared.words.Call.{Call as AnyCall};
 ghost use Rattle.station_top.specs.declared.words.Command.{Command as AnyCommand};
 
@@ -110,7 +110,7 @@ fn read_asked(alloc: Global, words: &[String]) -> Result<Query, WordsFault>
 fn read_command(alloc: Global, first: &str, plain: &[String]) -> Result<Command, WordsFault>
     ensures ok { IfOk result (λ command. IsCommand command (first.now ∷ map string_bytes plain.now)) }
     ensures usage { result ≡ Err WordsFault.Usage → (command : AnyCommand) → IsCommand command (first.now ∷ map string_bytes plain.now) → ⊥ }
-    ensures memory { result ≡ Err WordsFault.NoMemory → first.now ≡ codes "replay" }
+    ensures memory { result ≡ Err WordsFault.NoMemory → TakesMemory first.now }
 {
     if is_replay(first) {
         return match read_asked(alloc, plain) {
@@ -122,9 +122,9 @@ fn read_command(alloc: Global, first: &str, plain: &[String]) -> Result<Command,
         return Ok(Command::Check);
     }
     if is_serve(first) {
-        return match read_serve(plain) {
-            Some(serve) => Ok(Command::Serve(serve)),
-            None => Err(WordsFault::Usage),
+        return match read_serve(alloc, plain) {
+            Ok(serve) => Ok(Command::Serve(serve)),
+            Err(fault) => Err(fault),
         };
     }
     Err(WordsFault::Usage)
@@ -141,7 +141,7 @@ fn split_lenient(given: &[String]) -> (bool, &[String])
 }
 
 /// What the words of a call ask for, which don't hold the program's name. `Usage` exactly where they are no command;
-/// after `NoMemory` nothing was read of them but `replay`, which is their first, and a `--lenient` right after it.
+/// after `NoMemory` they begin with `replay` or `serve`, which may take memory to read.
 pub fn read_words(alloc: Global, words: &[String]) -> Result<Call, WordsFault>
     // The call is the one that the words are.
     ensures ok { IfOk result (λ call. IsCall call (map string_bytes words.now)) }

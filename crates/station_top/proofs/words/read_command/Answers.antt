@@ -9,5 +9,7 @@ returns-in-Err-clause-usage c = λ usage command is.
     let fault : c.in-Err.fault ≡ Usage = cc usage in
     no_replay c.args.first.now (map string_bytes c.args.plain.now) (c.is_replay.ensures.0 c.if-is_replay.true) (c.in-Err.ensures.usage (ap Err fault)) command is
 
-pub returns-in-None-clause-usage : goal.returns-in-None-clause-usage
-returns-in-None-clause-usage c = λ usage command is. no_serve c.args.first.now (map string_bytes c.args.plain.now) (c.is_serve.ensures.0 c.if-is_serve.true) c.in-None.ensures.none command is
+pub returns-in-Err-read_serve-clause-usage : goal.returns-in-Err-read_serve-clause-usage
+returns-in-Err-read_serve-clause-usage c = λ usage command is.
+    let fault : c.in-Err-read_serve.fault ≡ Usage = cc usage in
+    no_serve c.args.first.now (map string_bytes c.args.plain.now) (c.is_serve.ensures.0 c.if-is_serve.true) (c.in-Err-read_serve.ensures.usage (ap Err fault)) command is

@@ -1,6 +1,7 @@
-use Rattle.std.proofs.Common.{◌≡◌, ◌<◌, ◌-◌, ◌∷◌, List, ℕ, Err, codes, length, map, take, drop, sym, ap, ◌∙◌, arith}
+use Rattle.std.proofs.Common.{◌≡◌, ◌<◌, ◌-◌, ◌∷◌, List, ℕ, Err, length, map, take, drop, sym, ap, subst, ◌∙◌, arith}
 use Rattle.std.specs.String.{string_bytes}
 use Rattle.station_top.specs.declared.words.WordsFault.TheVariants.{NoMemory}
+use Rattle.station_top.specs.Words.{TakesMemory}
 use Rattle.station_top.proofs.Commands.{first_word}
 use Rattle.station_top.proofs.words.read_words.Goals as goal
 
@@ -11,5 +12,4 @@ returns-in-Err-clause-memory c = λ memory.
     let some : 0 < length words = omega (arith, c.in-len1-up.len_at_least) in
     let split = first_word string_bytes words c.first-item.result some c.first-item.is in
     let fault : c.in-Err.fault ≡ NoMemory = cc memory in
-    let first : string_bytes c.first-item.result ≡ codes "replay" = sym c.as_str.ensures.value ∙ c.in-Err.ensures.memory (ap Err fault) in
-    (given, split ∙ ap (λ (word : List ℕ). word ∷ given) first)
+    (string_bytes c.first-item.result, given, split, subst TakesMemory c.as_str.ensures.value (c.in-Err.ensures.memory (ap Err fault)))
