@@ -4,3 +4,5 @@ pub mod Returning
 pub mod Taking
 pub mod Runs
 pub mod Ends
+pub mod Decided
+mod Drilled

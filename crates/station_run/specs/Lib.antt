@@ -4,3 +4,4 @@ pub mod Handed
 pub mod Pairing
 pub mod Served
 pub mod Serve
+pub mod Drill

@@ -99,7 +99,11 @@ pub fn pair<B: BodyReading + Drop, P: Port + Drop, K: Link + Drop>(
 }
 
 // Keeps the pass, where all were kept so far and there is memory for it. True where it is kept.
-fn keep_feed(feeds: &mut FeedList<RouterTables>, pass: FeedPass<RouterTables>, kept: bool) -> bool
+pub(crate) fn keep_feed(
+    feeds: &mut FeedList<RouterTables>,
+    pass: FeedPass<RouterTables>,
+    kept: bool,
+) -> bool
     ensures { IsTrue result → IsTrue kept × (feeds.new ≡ feeds.old ++ pass ∷ []) }
 {
     if kept {
@@ -110,7 +114,11 @@ fn keep_feed(feeds: &mut FeedList<RouterTables>, pass: FeedPass<RouterTables>, k
 }
 
 // The same of an asker's pass.
-fn keep_ask(asks: &mut AskList<RouterTables>, pass: AskPass<RouterTables>, kept: bool) -> bool
+pub(crate) fn keep_ask(
+    asks: &mut AskList<RouterTables>,
+    pass: AskPass<RouterTables>,
+    kept: bool,
+) -> bool
     ensures { IsTrue result → IsTrue kept × (asks.new ≡ asks.old ++ pass ∷ []) }
 {
     if kept { asks.push(pass).is_ok() } else { false }

@@ -57,7 +57,7 @@ fn make_room<B: BodyReading + Drop, P: Port + Drop, K: Link + Drop>(
 }
 
 // What every lane has until it publishes.
-fn no_tables(alloc: Global) -> Option<Arc<RouterTables>>
+pub(crate) fn no_tables(alloc: Global) -> Option<Arc<RouterTables>>
     ensures { IfSome result (λ t. StandsFor (arc_value t) (entry_values [])) }
 {
     let tables = RouterTables::new(alloc).ok()?;

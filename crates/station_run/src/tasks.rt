@@ -98,7 +98,7 @@ impl<K: Link + Drop> AskWork<K> {
     ghost use Rattle.station_run.specs.Tasks.{AskIsDone};
 
     // Serves the connections of the asker.
-    fn serve(&mut self)
+    pub(crate) fn serve(&mut self)
         ensures { AskIsDone K.aside K.told K.faults self.old self.new }
     {
         self.served = serve_session(&mut self.pass, &mut self.link, self.rounds);
