@@ -7,12 +7,26 @@ mod frames;
 mod lane;
 mod publisher;
 mod routes;
+mod streams;
 mod tables;
 
 use lane::Versions;
 use publisher::Call;
 use std::{env, io};
 use tables::Order;
+
+// The stream of a lane of a drill; a number that is missing is 0.
+fn stream(
+    rt: &HostRuntime,
+    seed: Option<usize>,
+    lane: Option<usize>,
+    messages: Option<String>,
+) -> io::Result<()> {
+    let messages = messages.and_then(|word| word.parse::<u32>().ok());
+    let seed = seed.unwrap_or(0) as u32;
+    let lane = lane.unwrap_or(0) as u32;
+    streams::run(rt, seed, lane, messages.unwrap_or(0))
+}
 
 fn main(rt: HostRuntime) -> io::Result<()> {
     let mut words = env::args(&rt)?;
@@ -34,13 +48,15 @@ fn main(rt: HostRuntime) -> io::Result<()> {
         Some("lane_keep") => lane::run(&rt, Versions::EveryTenth),
         Some("lane_seek") => lane::seek(&rt, number, times),
         Some("lane_walk") => lane::walk(&rt, number),
+        Some("stream") => stream(&rt, number, times, words.next()),
         _ => {
             println!(rt; "usage: bench frames [PIECE] | publish [N] | snapshot [N]")?;
             println!(rt;
                 "       bench trie [N [TIMES]] | shuffled [N [TIMES]] | map [N] | map_shuffled [N]"
             )?;
             println!(rt; "       bench runs [N] | runs_shuffled [N]")?;
-            println!(rt; "       bench lane | lane_keep | lane_seek [N [TIMES]] | lane_walk [N]")
+            println!(rt; "       bench lane | lane_keep | lane_seek [N [TIMES]] | lane_walk [N]")?;
+            println!(rt; "       bench stream SEED LANE MESSAGES")
         }
     }
 }
