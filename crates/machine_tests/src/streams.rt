@@ -29,8 +29,8 @@ fn feed(
 
 // What the machine writes for `cut`, `routers` and `count`, one after another, where each of these streams was taken in
 // pieces of so many bytes on a lane of its own and published in one step, and no connection has ended. None where there
-// is no stream or there are more than 64, where the pieces are empty, where the schedule has more than 4,096 events, and where the replies have more
-// than 65,536 bytes.
+// is no stream or there are more than 64, where the pieces are empty, where the schedule has more than 4,096 events, and
+// where the replies have more than 65,536 bytes.
 pub(crate) fn replies_to(alloc: Global, streams: &[ByteList], piece: usize) -> Option<MemSink> {
     let lanes = streams.len();
     if lanes == 0 || lanes > 64 || piece == 0 {
