@@ -13,8 +13,8 @@
 //! replies are; that the revision of that history is the one that is written; and which outcome comes.
 //! Of `drill`: that its cut stands for a history whose part of each lane is the opening and all messages of its stream.
 //! That threads run at once, and that they get on, no contract says.
-//! Begin with `specs/Serve.antt`, `specs/Served.antt` and `specs/Handed.antt`, then `src/run.rt`; `specs/Drill.antt`, then `src/drilling.rt`; `src/works.rt` has the
-//! join.
+//! Begin with `specs/Serve.antt`, `specs/Served.antt` and `specs/Handed.antt`, then `src/run.rt`; for a drill with
+//! `specs/Drill.antt`, then `src/drilling.rt`. `src/works.rt` has the join.
 #![tactic(auto)]
 
 mod doors;
