@@ -23,8 +23,8 @@ fn stream(
     messages: Option<String>,
 ) -> io::Result<()> {
     let messages = messages.and_then(|word| word.parse::<u32>().ok());
-    let seed = seed.unwrap_or(0) as u32;
-    let lane = lane.unwrap_or(0) as u32;
+    let seed = seed.unwrap_or(0).min(u32::MAX as usize) as u32;
+    let lane = lane.unwrap_or(0).min(u32::MAX as usize) as u32;
     streams::run(rt, seed, lane, messages.unwrap_or(0))
 }
 
