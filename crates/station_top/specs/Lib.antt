@@ -8,3 +8,4 @@ pub mod Words
 pub mod Station
 pub mod ServeWords
 pub mod ServeOptions
+pub mod DrillWords

@@ -1,12 +1,13 @@
 -- The words of a call.
-use Rattle.std.specs.Prelude.{◌≡◌, ◌≢◌, ◌⊎◌, ℕ, Bool, true, false, List, [], ◌∷◌, codes}
+use Rattle.std.specs.Prelude.{◌≡◌, ◌≢◌, ◌⊎◌, ⊤, ℕ, Bool, true, false, List, [], ◌∷◌, codes}
 use Rattle.std.specs.List.{join_with_byte}
 use Rattle.bmp_specs.specs.Query.{QueryValue, quit, space, IsQuery}
 use Rattle.query_lang.specs.Queries.{query_value}
+use Rattle.station_top.specs.DrillWords.{IsDrill}
 use Rattle.station_top.specs.ServeWords.{IsServe}
 use Rattle.station_top.specs.declared.words.Call.{Call}
 use Rattle.station_top.specs.declared.words.Command.{Command}
-use Rattle.station_top.specs.declared.words.Command.TheVariants.{Replay, Check, Serve}
+use Rattle.station_top.specs.declared.words.Command.TheVariants.{Replay, Check, Serve, Drill}
 
 -- the line is this query, which isn't the end of a session
 pub record IsAsking (line : List ℕ) (query : QueryValue) : Type 0 where
@@ -24,13 +25,22 @@ abbrev pub IsCommand : Command → List (List ℕ) → Type 0
 IsCommand (Replay query) words = IsReplay (query_value query) words
 IsCommand Check words = words ≡ codes "check" ∷ []
 IsCommand (Serve serve) words = (options : List (List ℕ)) × (words ≡ codes "serve" ∷ options) × IsServe serve options
+IsCommand (Drill drill) words = (numbers : List (List ℕ)) × (words ≡ codes "drill" ∷ numbers) × IsDrill drill numbers
+
+-- `--lenient` may stand behind the command's name: it reads what routers send
+abbrev pub MayBeLenient : Command → Type 0
+MayBeLenient (Replay query) = ⊤
+MayBeLenient Check = ⊤
+MayBeLenient (Serve serve) = ⊤
+MayBeLenient (Drill drill) = ⊥
 
 -- Where `--lenient` stands in front of the words, they are that word and these; else they are these.
 abbrev pub IsPlain : Bool → List (List ℕ) → List (List ℕ) → Type 0
 IsPlain true given plain = given ≡ codes "--lenient" ∷ plain
 IsPlain false given plain = (plain ≡ given) × ((more : List (List ℕ)) → given ≢ codes "--lenient" ∷ more)
 
--- The words are those of the command, with `--lenient` right after the first one exactly where the call is lenient.
+-- The words are those of the command, with `--lenient` right after the first one exactly where the call is lenient,
+-- which not every command may be.
 pub record IsCall (call : Call) (words : List (List ℕ)) : Type 0 where
   pub first : List ℕ
   pub given : List (List ℕ)
@@ -38,6 +48,7 @@ pub record IsCall (call : Call) (words : List (List ℕ)) : Type 0 where
   pub spelled : words ≡ first ∷ given
   pub is_plain : IsPlain call.lenient given plain
   pub is_command : IsCommand call.command (first ∷ plain)
+  pub may_be_lenient : MayBeLenient call.command ⊎ (call.lenient ≡ false)
 
 -- to read the words behind this one takes memory
 abbrev pub TakesMemory : List ℕ → Type 0

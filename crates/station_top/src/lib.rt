@@ -16,6 +16,7 @@
 
 mod account;
 mod counts;
+mod drill_words;
 mod replay;
 mod serve_words;
 mod status;
@@ -23,6 +24,7 @@ mod take;
 mod top;
 mod words;
 
+pub use drill_words::DrillWords;
 pub use serve_words::ServeWords;
 pub use status::Status;
 pub use take::{MOST_READ, MOST_TAKEN};

@@ -1,12 +1,13 @@
-ghost use Rattle.std.specs.Prelude.{◌≡◌, ◌≢◌, ◌↔◌, [], ◌∷◌, IsTrue, IfSome, IfNone, IfOk, Err, map, codes};
+ghost use Rattle.std.specs.Prelude.{◌≡◌, ◌≢◌, ◌↔◌, ◌⊎◌, [], ◌∷◌, IsTrue, IfSome, IfNone, IfOk, Err, false, map, codes};
 ghost use Rattle.std.specs.List.{join_with_byte};
 ghost use Rattle.std.specs.String.{string_bytes};
 ghost use Rattle.bmp_specs.specs.Query.{QueryValue, quit, space};
 ghost use Rattle.query_lang.specs.Queries.{query_value};
-ghost use Rattle.station_top.specs.Words.{IsAsking, IsCall, IsCommand, IsPlain, TakeMemory, TakesMemory};
+ghost use Rattle.station_top.specs.Words.{IsAsking, IsCall, IsCommand, IsPlain, MayBeLenient, TakeMemory, TakesMemory};
 ghost use Rattle.station_top.specs.declared.words.Call.{Call as AnyCall};
 ghost use Rattle.station_top.specs.declared.words.Command.{Command as AnyCommand};
 
+use crate::drill_words::{DrillWords, read_drill};
 use crate::serve_words::{ServeWords, read_serve};
 use query_lang::{Query, parse};
 use std::alloc::Global;
@@ -23,6 +24,9 @@ pub enum Command {
 
     /// `serve`: routers and clients side by side.
     Serve(ServeWords),
+
+    /// `drill`: lanes over streams that follow from a few numbers.
+    Drill(DrillWords),
 }
 
 /// What the words of a call ask for.
@@ -62,6 +66,12 @@ fn is_serve(word: &str) -> bool
     ensures { IsTrue result ↔ (word.now ≡ codes "serve") }
 {
     word == "serve"
+}
+
+fn is_drill(word: &str) -> bool
+    ensures { IsTrue result ↔ (word.now ≡ codes "drill") }
+{
+    word == "drill"
 }
 
 fn is_lenient(word: &str) -> bool
@@ -106,10 +116,16 @@ fn read_asked(alloc: Global, words: &[String]) -> Result<Query, WordsFault>
     }
 }
 
-// The command that a word and those after it are.
-fn read_command(alloc: Global, first: &str, plain: &[String]) -> Result<Command, WordsFault>
+// The command that a word and those after it are, where it may be lenient or isn't to be so.
+fn read_command(
+    alloc: Global,
+    first: &str,
+    lenient: bool,
+    plain: &[String],
+) -> Result<Command, WordsFault>
     ensures ok { IfOk result (λ command. IsCommand command (first.now ∷ map string_bytes plain.now)) }
-    ensures usage { result ≡ Err WordsFault.Usage → (command : AnyCommand) → IsCommand command (first.now ∷ map string_bytes plain.now) → ⊥ }
+    ensures lenient { IfOk result (λ command. MayBeLenient command ⊎ (lenient ≡ false)) }
+    ensures usage { result ≡ Err WordsFault.Usage → (command : AnyCommand) → IsCommand command (first.now ∷ map string_bytes plain.now) → MayBeLenient command ⊎ (lenient ≡ false) → ⊥ }
     ensures memory { result ≡ Err WordsFault.NoMemory → TakesMemory first.now }
 {
     if is_replay(first) {
@@ -125,6 +141,12 @@ fn read_command(alloc: Global, first: &str, plain: &[String]) -> Result<Command,
         return match read_serve(alloc, plain) {
             Ok(serve) => Ok(Command::Serve(serve)),
             Err(fault) => Err(fault),
+        };
+    }
+    if is_drill(first) && !lenient {
+        return match read_drill(plain) {
+            Some(drill) => Ok(Command::Drill(drill)),
+            None => Err(WordsFault::Usage),
         };
     }
     Err(WordsFault::Usage)
@@ -154,7 +176,7 @@ pub fn read_words(alloc: Global, words: &[String]) -> Result<Call, WordsFault>
     match words {
         [first, given @ ..] => {
             let (lenient, plain) = split_lenient(given);
-            match read_command(alloc, first.as_str(), plain) {
+            match read_command(alloc, first.as_str(), lenient, plain) {
                 Ok(command) => Ok(Call { command, lenient }),
                 Err(fault) => Err(fault),
             }
