@@ -6,11 +6,13 @@ use Rattle.bmp_specs.specs.Query.{QueryValue, quit, space, IsQuery}
 use Rattle.query_lang.specs.Queries.{query_value}
 use Rattle.query_lang.specs.declared.query.Query.{Query}
 use Rattle.query_lang.specs.declared.query.Query.TheVariants.{Routers, Cut, Peers, Marks, Table, Count, Exact, Longest, Within, Origin, Stats, Changes, Quit}
+use Rattle.station_top.specs.DrillWords.{IsDrill}
 use Rattle.station_top.specs.ServeWords.{IsServe}
 use Rattle.station_top.specs.Words.{IsAsking, IsCommand}
+use Rattle.station_top.specs.declared.drill_words.DrillWords.{DrillWords}
 use Rattle.station_top.specs.declared.serve_words.ServeWords.{ServeWords}
 use Rattle.station_top.specs.declared.words.Command.{Command}
-use Rattle.station_top.specs.declared.words.Command.TheVariants.{Replay, Check, Serve}
+use Rattle.station_top.specs.declared.words.Command.TheVariants.{Replay, Check, Serve, Drill}
 
 -- no other query is the end of a session
 pub not_quit : (query : Query) → ¬ (query ≡ Quit) → query_value query ≢ quit
@@ -55,6 +57,9 @@ no_replay first asked is none (Serve serve) (options, e, given) =
 no_replay first asked is none Check e =
     let other : codes "replay" ≡ codes "check" = cc (is, e) in
     absurd (omega (arith, ap length other))
+no_replay first asked is none (Drill drill) (numbers, e, given) =
+    let other : codes "replay" ≡ codes "drill" = cc (is, e) in
+    absurd (omega (arith, ap length other))
 
 pub no_serve : (first : List ℕ) (options : List (List ℕ)) → first ≡ codes "serve" → ((serve : ServeWords) → IsServe serve options → ⊥) → (command : Command) → IsCommand command (first ∷ options) → ⊥
 no_serve first options is none (Serve serve) (given, e, are) =
@@ -66,4 +71,22 @@ no_serve first options is none (Replay query) r =
     absurd (omega (arith, ap length other))
 no_serve first options is none Check e =
     let other : codes "serve" ≡ codes "check" = cc (is, e) in
+    absurd (omega (arith, ap (λ (l : List ℕ). get_or l 0 0) other))
+no_serve first options is none (Drill drill) (numbers, e, given) =
+    let other : codes "serve" ≡ codes "drill" = cc (is, e) in
+    absurd (omega (arith, ap (λ (l : List ℕ). get_or l 0 0) other))
+
+pub no_drill : (first : List ℕ) (numbers : List (List ℕ)) → first ≡ codes "drill" → ((drill : DrillWords) → IsDrill drill numbers → ⊥) → (command : Command) → IsCommand command (first ∷ numbers) → ⊥
+no_drill first numbers is none (Drill drill) (given, e, are) =
+    let same : given ≡ numbers = cc e in
+    none drill (subst (λ (words : List (List ℕ)). IsDrill drill words) same are)
+no_drill first numbers is none (Replay query) r =
+    let spelled = r.spelled in
+    let other : codes "drill" ≡ codes "replay" = cc (is, spelled) in
+    absurd (omega (arith, ap length other))
+no_drill first numbers is none (Serve serve) (options, e, given) =
+    let other : codes "drill" ≡ codes "serve" = cc (is, e) in
+    absurd (omega (arith, ap (λ (l : List ℕ). get_or l 0 0) other))
+no_drill first numbers is none Check e =
+    let other : codes "drill" ≡ codes "check" = cc (is, e) in
     absurd (omega (arith, ap (λ (l : List ℕ). get_or l 0 0) other))

@@ -14,3 +14,4 @@ pub mod OptionWalk
 pub mod OptionMatches
 pub mod OptionTaken
 pub mod OptionServe
+pub mod ThreeNumbers

@@ -2,8 +2,8 @@
 
 ghost use Rattle.std.specs.Prelude.{◌≡◌, ◌↔◌, ℕ, List, [], ◌∷◌, map, IsTrue, IfSome, IfNone};
 ghost use Rattle.std.specs.String.{string_bytes};
-ghost use Rattle.station_top.specs.DrillWords.{IsDrill, MayDrill};
 ghost use Rattle.bmp_specs.specs.NumberText.{IsNumberText};
+ghost use Rattle.station_top.specs.DrillWords.{IsDrill, MayDrill};
 ghost use Rattle.station_top.specs.declared.drill_words.DrillWords.{DrillWords as AnyDrill};
 
 use ip_prefix::parse_number;

@@ -1,15 +1,23 @@
 use Rattle.std.proofs.Common.{◌≡◌, Err, map, ap}
 use Rattle.std.specs.String.{string_bytes}
 use Rattle.station_top.specs.declared.words.WordsFault.TheVariants.{Usage}
-use Rattle.station_top.proofs.Commands.{no_replay, no_serve}
+use Rattle.station_top.proofs.Commands.{no_drill, no_replay, no_serve}
 use Rattle.station_top.proofs.words.read_command.Goals as goal
+use Rattle.station_top.proofs.words.read_command.Goals.{in-Some, in-None}
 
 pub returns-in-Err-clause-usage : goal.returns-in-Err-clause-usage
-returns-in-Err-clause-usage c = λ usage command is.
+returns-in-Err-clause-usage c = λ usage command is may.
     let fault : c.in-Err.fault ≡ Usage = cc usage in
     no_replay c.args.first.now (map string_bytes c.args.plain.now) (c.is_replay.ensures.0 c.if-is_replay.true) (c.in-Err.ensures.usage (ap Err fault)) command is
 
 pub returns-in-Err-read_serve-clause-usage : goal.returns-in-Err-read_serve-clause-usage
-returns-in-Err-read_serve-clause-usage c = λ usage command is.
+returns-in-Err-read_serve-clause-usage c = λ usage command is may.
     let fault : c.in-Err-read_serve.fault ≡ Usage = cc usage in
     no_serve c.args.first.now (map string_bytes c.args.plain.now) (c.is_serve.ensures.0 c.if-is_serve.true) (c.in-Err-read_serve.ensures.usage (ap Err fault)) command is
+
+pub returns-then-not-lenient-clause-usage : goal.returns-then-not-lenient-clause-usage
+returns-then-not-lenient-clause-usage c = λ usage command is may.
+    elim c.match-read_drill.branch [
+      | in-Some w ↦ cc (usage, w.result-is)
+      | in-None w ↦ no_drill c.args.first.now (map string_bytes c.args.plain.now) (c.is_drill.ensures.0 c.if-is_drill.true) w.in-None.ensures.none command is
+    ]
