@@ -1,5 +1,5 @@
 -- What a command comes to, from what its steps say.
-use Rattle.std.proofs.Common.{◌≡◌, ℕ, ◌^◌, ◌<◌, ◌≤◌, List, [], ◌∷◌, ◌++◌, Option, Some, None, Result, Ok, Err, refl, sym, ap, ◌∙◌, subst, inl, inr, arith, append-nil}
+use Rattle.std.proofs.Common.{◌≡◌, ◌⊎◌, Bool, false, ℕ, ◌^◌, ◌<◌, ◌≤◌, List, [], ◌∷◌, ◌++◌, Option, Some, None, Result, Ok, Err, refl, sym, ap, ◌∙◌, subst, inl, inr, arith, append-nil}
 use Rattle.std.specs.Prelude.{OnOk, OnErr, sum_by}
 use Rattle.std.specs.Io.KnownBytes.{Appends, Keeps}
 use Rattle.std.proofs.lemmas.List.Sums.{sum_by-cons}
@@ -19,17 +19,19 @@ use Rattle.wire_io.proofs.Joins.{join, appends_none, keeps_appends}
 use Rattle.bmp_message.specs.Effects.{GivesMessages}
 use Rattle.station_doors.specs.Doors.{YardValue, HandsOut, TakesBack, one_more, untouched}
 use Rattle.query_eval.specs.Replies.{PutsReply}
-use Rattle.station_top.specs.Station.{LendsWhereTold, IsWritten, IsTaken, FromYard, IsReplyTo, IsStopped, TakesOneInput, Runs, refused, replied, starved, unready, called, Concludes, CallConcludes, Answers, replied_to, served, AnswersFault}
+use Rattle.station_top.specs.Station.{LendsWhereTold, IsWritten, IsTaken, FromYard, IsReplyTo, IsStopped, TakesOneInput, Runs, refused, replied, starved, unready, called, Concludes, CallConcludes, Answers, replied_to, served, drilled, DrillMeans, drilled_whole, drill_starved, DrillConcludes, AnswersFault}
 use Rattle.station_top.specs.Status.{status_of, status_served}
 use Rattle.station_top.specs.Take.{TakesInput, BreaksOff}
-use Rattle.station_top.specs.Words.{IsCall}
+use Rattle.station_top.specs.Words.{IsCall, MayBeLenient}
 use Rattle.station_run.specs.Serve.{AnswersFault as EndsFault}
 use Rattle.station_run.specs.declared.outcome.Outcome.{Outcome}
 use Rattle.station_run.specs.declared.outcome.Outcome.TheVariants as outcome
+use Rattle.station_top.specs.Drill.{IsDrillText}
+use Rattle.station_top.specs.declared.drill_words.DrillWords.{DrillWords}
 use Rattle.station_top.specs.declared.serve_words.ServeWords.{ServeWords}
 use Rattle.station_top.specs.declared.words.Call.{Call}
 use Rattle.station_top.specs.declared.words.Command.{Command}
-use Rattle.station_top.specs.declared.words.Command.TheVariants.{Replay, Check, Serve}
+use Rattle.station_top.specs.declared.words.Command.TheVariants.{Replay, Check, Serve, Drill}
 use Rattle.station_top.specs.declared.status.Status.{Status}
 use Rattle.station_top.specs.declared.status.Status.TheVariants.{Done, Stopped, Usage, ReadFault, WriteFault, NoMemory, YardFault}
 use Rattle.station_top.specs.declared.take.Taken.{Taken}
@@ -106,6 +108,14 @@ module _ {O : Type 0} {faults : O → ℕ} {told : O → Option (List ℕ)} {asi
         written = is_written a b (reply ++ stop_line taken.cause) r (status_of taken.cause) status w fine fault;
       }
 
+  -- a drill was run, and its replies were written
+  pub concludes_drill : (drill : DrillWords) (a b : O) (r : Result (Unit {0}) Failed) (status : Status) → PutsReply faults told aside (IsDrillText drill.seed drill.lanes drill.messages) a r b → OnOk r (status ≡ Done) → OnErr r (status ≡ WriteFault) → DrillConcludes drill (told a) (told b) status
+  concludes_drill drill a b r status puts fine fault = record { meant = Done; text = puts.text; means = drilled_whole puts.text puts.is_reply; written = is_written a b puts.text r Done status puts.written fine fault }
+
+-- there was no memory for a drill
+pub concludes_no_drill : (drill : DrillWords) (told : Option (List ℕ)) → DrillConcludes drill told told NoMemory
+concludes_no_drill drill told = record { meant = NoMemory; text = []; means = drill_starved; written = inl (refl, appends_none told) }
+
 -- no cause has the status of a failed write
 no_write_fault : (cause : Cause) → status_of cause ≡ WriteFault → ⊥
 no_write_fault Ended is = cc is
@@ -134,6 +144,11 @@ concludes_unread meaning Stands Replies old new number told Usage from = absurd 
 concludes_unread meaning Stands Replies old new number told ReadFault from = absurd from
 concludes_unread meaning Stands Replies old new number told WriteFault from = absurd from
 
+-- a command that is never lenient
+not_lenient : {P : Type 0} → ⊥ ⊎ P → P
+not_lenient (inl none) = absurd none
+not_lenient (inr p) = p
+
 -- the words are a call
 pub answers_called : (Serves : Meaning → ServeWords → Outcome → Type 0) (call : Call) (words : List (List ℕ)) (old new : Option YardValue) (number calls : ℕ) (told0 told1 : Option (List ℕ)) (status : Status) → IsCall call words → CallConcludes (Serves (meaning_of call.lenient)) call.command (meaning_of call.lenient) old new number calls told0 told1 status
     → Answers Serves words old new number calls told0 told1 status
@@ -146,6 +161,10 @@ answers_called Serves call words old new number calls told0 told1 status is c = 
     go (Replay query) same (counted, k) = takes (Replay query) same tt counted k
     go Check same (counted, k) = takes Check same tt counted k
     go (Serve serve) same (outcome, comes, ends) = served serve call.lenient outcome (subst (λ (m : Command). IsCall (record { command = m; lenient = call.lenient }) words) same is) comes ends
+    go (Drill drill) same (still, uncalled, k) =
+        let strict : call.lenient ≡ false = not_lenient (subst (λ (m : Command). MayBeLenient m ⊎ (call.lenient ≡ false)) same is.may_be_lenient) in
+        let of_drill : IsCall (record { command = Drill drill; lenient = call.lenient }) words = subst (λ (m : Command). IsCall (record { command = m; lenient = call.lenient }) words) same is in
+        drilled drill (subst (λ (b : Bool). IsCall (record { command = Drill drill; lenient = b }) words) strict of_drill) still uncalled k
 
 -- a fault of a station that served is answered exactly where one was counted
 write_only : (o : Outcome) → status_served o ≡ WriteFault → o ≡ outcome.WriteFault

@@ -15,3 +15,4 @@ pub mod OptionMatches
 pub mod OptionTaken
 pub mod OptionServe
 pub mod ThreeNumbers
+pub mod Drilling

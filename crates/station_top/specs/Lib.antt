@@ -9,3 +9,4 @@ pub mod Station
 pub mod ServeWords
 pub mod ServeOptions
 pub mod DrillWords
+pub mod Drill

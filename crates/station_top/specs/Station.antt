@@ -1,5 +1,5 @@
 -- The top call: what it writes, what its status says, and what it asks of the yard.
-use Rattle.std.specs.Prelude.{◌≡◌, ◌≢◌, ℕ, Bool, ◌⊎◌, List, [], ◌∷◌, ◌++◌, Option, Some, None, Contains, Result, Ok, Err, length}
+use Rattle.std.specs.Prelude.{◌≡◌, ◌≢◌, ℕ, Bool, false, ◌⊎◌, List, [], ◌∷◌, ◌++◌, Option, Some, None, Contains, Result, Ok, Err, length}
 use Rattle.std.specs.Io.KnownBytes.{Appends}
 use Rattle.bmp_specs.specs.declared.causes.Cause.{Cause}
 use Rattle.bmp_specs.specs.Check.{check_lines}
@@ -17,35 +17,41 @@ use Rattle.query_lang.specs.Queries.{query_value}
 use Rattle.station_doors.specs.Doors.{YardValue, one_more}
 use Rattle.station_run.specs.declared.outcome.Outcome.{Outcome}
 use Rattle.station_top.specs.Input.{HasCome}
+use Rattle.station_top.specs.Drill.{IsDrillText}
+use Rattle.station_top.specs.DrillWords.{MayDrill}
 use Rattle.station_top.specs.ServeWords.{MayServe}
 use Rattle.station_top.specs.Take.{BreaksOff, Comes}
 use Rattle.station_top.specs.Status.{status_of, status_served}
 use Rattle.station_top.specs.Words.{IsCall, TakeMemory}
+use Rattle.station_top.specs.declared.drill_words.DrillWords.{DrillWords}
 use Rattle.station_top.specs.declared.serve_words.ServeWords.{ServeWords}
 use Rattle.station_top.specs.declared.status.Status.{Status}
 use Rattle.station_top.specs.declared.status.Status.TheVariants.{Done, Stopped, Usage, ReadFault, WriteFault, NoMemory, YardFault}
 use Rattle.station_top.specs.declared.take.Taken.{Taken}
 use Rattle.station_top.specs.declared.words.Call.{Call}
 use Rattle.station_top.specs.declared.words.Command.{Command}
-use Rattle.station_top.specs.declared.words.Command.TheVariants.{Replay, Check, Serve}
+use Rattle.station_top.specs.declared.words.Command.TheVariants.{Replay, Check, Serve, Drill}
 
 -- the bytes are the reply of a command on these entries
 abbrev pub IsReplyTo : Command → List EntryValue → List ℕ → Type 0
 IsReplyTo (Replay query) entries bytes = IsReply (query_value query) (entries ∷ []) bytes
 IsReplyTo Check entries bytes = bytes ≡ check_lines entries
 IsReplyTo (Serve serve) entries bytes = ⊥
+IsReplyTo (Drill drill) entries bytes = ⊥
 
 -- the command is asked with something that has a reply, or with numbers that a station takes
 abbrev pub MayAsk : Command → Type 0
 MayAsk (Replay query) = query_value query ≢ quit
 MayAsk Check = Unit {0}
 MayAsk (Serve serve) = MayServe serve
+MayAsk (Drill drill) = MayDrill drill
 
 -- the command takes the one input connection
 abbrev pub TakesOneInput : Command → Type 0
 TakesOneInput (Replay query) = Unit {0}
 TakesOneInput Check = Unit {0}
 TakesOneInput (Serve serve) = ⊥
+TakesOneInput (Drill drill) = ⊥
 
 -- the bytes are a reply, and then the line of the cause
 abbrev pub IsStopped : (List ℕ → Type 0) → Cause → List ℕ → Type 0
@@ -109,12 +115,27 @@ pub record Concludes (meaning : Meaning) (Replies : List EntryValue → List ℕ
   pub runs : Runs meaning Replies old new number meant text
   pub written : IsWritten told0 told1 text meant status
 
+-- what a drill comes to, before anything is written: the status that is meant, and the text
+pub data DrillMeans (drill : DrillWords) : Status → List ℕ → Type 0 where
+  -- the replies on what the lanes make of their streams
+  drilled_whole : (text : List ℕ) → IsDrillText drill.seed drill.lanes drill.messages text → DrillMeans drill Done text
+  -- want of memory: nothing is written
+  drill_starved : DrillMeans drill NoMemory []
+
+-- what a drill answers, and what it wrote
+pub record DrillConcludes (drill : DrillWords) (told0 told1 : Option (List ℕ)) (status : Status) : Type 0 where
+  pub meant : Status
+  pub text : List ℕ
+  pub means : DrillMeans drill meant text
+  pub written : IsWritten told0 told1 text meant status
+
 -- What a command answers, and what it wrote: one that takes the one input connection makes one call of the yard; of
--- `serve` the relation says all.
+-- `serve` the relation says all; `drill` asks the yard for nothing.
 abbrev pub CallConcludes : (ServeWords → Outcome → Type 0) → Command → Meaning → Option YardValue → Option YardValue → ℕ → ℕ → Option (List ℕ) → Option (List ℕ) → Status → Type 0
 CallConcludes Serves (Replay query) meaning old new number calls told0 told1 status = (calls ≡ one_more number) × Concludes meaning (IsReplyTo (Replay query)) old new number told0 told1 status
 CallConcludes Serves Check meaning old new number calls told0 told1 status = (calls ≡ one_more number) × Concludes meaning (IsReplyTo Check) old new number told0 told1 status
 CallConcludes Serves (Serve serve) meaning old new number calls told0 told1 status = (outcome : Outcome) × Serves serve outcome × (status ≡ status_served outcome)
+CallConcludes Serves (Drill drill) meaning old new number calls told0 told1 status = (new ≡ old) × (calls ≡ number) × DrillConcludes drill told0 told1 status
 
 -- what a call answers, and what it wrote
 pub data Answers (Serves : Meaning → ServeWords → Outcome → Type 0) (words : List (List ℕ)) (old new : Option YardValue) (number calls : ℕ) (told0 told1 : Option (List ℕ)) (status : Status) : Type 0 where
@@ -122,6 +143,8 @@ pub data Answers (Serves : Meaning → ServeWords → Outcome → Type 0) (words
   replied_to : (meant : Status) (text : List ℕ) → Means words old new number calls meant text → IsWritten told0 told1 text meant status → Answers Serves words old new number calls told0 told1 status
   -- they are a call of `serve`, whose relation says what was written and what became of the yard
   served : (serve : ServeWords) (lenient : Bool) (outcome : Outcome) → IsCall (record { command = Serve serve; lenient = lenient }) words → Serves (meaning_of lenient) serve outcome → status ≡ status_served outcome → Answers Serves words old new number calls told0 told1 status
+  -- they are a call of `drill`, and the yard is asked for nothing
+  drilled : (drill : DrillWords) → IsCall (record { command = Drill drill; lenient = false }) words → new ≡ old → calls ≡ number → DrillConcludes drill told0 told1 status → Answers Serves words old new number calls told0 told1 status
 
 -- the status is this one exactly where the count rose
 pub record AnswersFault (before now : ℕ) (status fault : Status) : Type 0 where

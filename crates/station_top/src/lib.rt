@@ -1,21 +1,25 @@
 //! The station itself: words and connections in, a reply and a status out.
 //!
 //! `station` is the top call: the program hands it its words, the yard and standard output, and ends with
-//! the status that it answers. It answers three commands: `replay` with a query, its reply on what a router's
-//! stream leaves in its tables; `check`, how many messages of each type the stream has; and `serve`, routers and
-//! clients side by side (`station_run`). All read streams by the RFCs alone, or with `--lenient` right after the
-//! command as routers send them.
+//! the status that it answers. It answers four commands: `replay` with a query, its reply on what a router's
+//! stream leaves in its tables; `check`, how many messages of each type the stream has; `serve`, routers and
+//! clients side by side (`station_run`); and `drill`, lanes over streams that follow from a few numbers. The first three
+//! read streams by the RFCs alone, or with `--lenient` right after the command as routers send them; `drill` by the RFCs
+//! alone.
 //!
 //! Proved: which status comes, by the words and by what a yard in memory tells; which bytes were written,
 //! by the walk of the bytes that were taken, in whatever pieces they came and by the meaning of bodies that the
 //! words ask for; that a write fault and a yard's
 //! fault are answered exactly where one was counted; how many calls of the yard were made; and that the
 //! port is given back as it is. Of `serve`: which words are its options, and what `station_run` promises of it.
+//! Of `drill`: which words are its numbers, that the yard is asked for nothing, and that the bytes are the replies on
+//! what each lane makes of its stream.
 //! Begin with `specs/Station.antt`, then `src/top.rt`.
 #![tactic(auto)]
 
 mod account;
 mod counts;
+mod drill;
 mod drill_words;
 mod replay;
 mod serve_words;

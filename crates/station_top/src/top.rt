@@ -9,12 +9,15 @@ ghost use Rattle.station_doors.specs.Doors.{one_more};
 ghost use Rattle.query_eval.specs.Replies.{PutsReply};
 ghost use Rattle.station_run.specs.Serve.{AnswersFault as EndsFault, Comes};
 ghost use Rattle.station_top.specs.Status.{status_of, status_served};
+ghost use Rattle.station_top.specs.DrillWords.{MayDrill};
 ghost use Rattle.station_top.specs.ServeWords.{MayServe};
-ghost use Rattle.station_top.specs.Station.{Answers, CallConcludes, Concludes, FromYard, AnswersFault, IsStopped, MayAsk};
+ghost use Rattle.station_top.specs.Station.{Answers, CallConcludes, Concludes, DrillConcludes, FromYard, AnswersFault, IsStopped, MayAsk};
 
 use crate::Status;
 use crate::account::{Account, Replies};
 use crate::counts::Counts;
+use crate::drill::write_drill;
+use crate::drill_words::DrillWords;
 use crate::replay::Replay;
 use crate::serve_words::ServeWords;
 use crate::take::{Taken, take_input};
@@ -24,7 +27,7 @@ use bmp_specs::Cause;
 use core::mem::replace_with;
 use reply_text::put_stop;
 use station_doors::Yard;
-use station_run::{FromEnding, Outcome, serve};
+use station_run::{FromEnding, Outcome, drill, serve};
 use std::alloc::Global;
 use std::sync::Wait;
 use std::thread::Threads;
@@ -206,6 +209,25 @@ where
     }
 }
 
+// Runs a drill, and writes its replies.
+fn run_drill<O: Sink, R: Threads + Wait + Sync>(
+    rt: &R,
+    alloc: Global,
+    words: DrillWords,
+    out: &mut O,
+) -> Status
+    requires { MayDrill words }
+    ensures concludes { DrillConcludes words (O.told out.old) (O.told out.new) result }
+    ensures out { AnswersFault (O.faults out.old) (O.faults out.new) result Status.WriteFault }
+    ensures yard { result ≡ Status.YardFault → ⊥ }
+    ensures aside { O.aside out.new ≡ O.aside out.old }
+{
+    match drill(rt, alloc, words.seed, words.lanes, words.messages) {
+        Ok(cut) => unless_failed(write_drill(out, &cut), Status::Done),
+        Err(_) => Status::NoMemory,
+    }
+}
+
 // Runs the command of a call.
 fn run_call<Y: Yard, O: Sink, R: Threads + Wait + Sync>(
     rt: &R,
@@ -229,6 +251,7 @@ where
         Command::Serve(words) => {
             status_served_by(serve_by(rt, alloc, lenient, &words, yard, out))
         }
+        Command::Drill(words) => run_drill(rt, alloc, words, out),
     }
 }
 
@@ -242,10 +265,14 @@ where
 ///
 /// `serve` with its options asks the yard to listen, then for the port of each lane and the link of each asker, writes
 /// `ready`, serves routers and clients side by side by the threads of `rt`, gives all back, and writes `done` and the
-/// last revision (`station_run`). Other words are usage.
+/// last revision (`station_run`).
 ///
-/// The bodies of the messages are read by the RFCs alone, and where the second word is `--lenient`, as routers send
-/// them (`lenient` of `bmp_specs`).
+/// `drill` with a seed, the number of lanes and the number of messages asks the yard for nothing. Its lanes take the
+/// streams that follow from these numbers (`drill_streams`), side by side with askers; in the end it writes the replies of
+/// `cut`, `routers` and `count`, on the openings and the messages, and not on any closing.
+///
+/// Other words are usage. The bodies of the messages are read by the RFCs alone, and where the second word is
+/// `--lenient`, which `drill` does not take, as routers send them (`lenient` of `bmp_specs`).
 pub fn station<Y: Yard, O: Sink, R: Threads + Wait + Sync>(
     rt: &R,
     alloc: Global,

@@ -1,3 +1,4 @@
+use Rattle.std.proofs.Common.{refl}
 use Rattle.station_top.proofs.Concluding.{ends_write, ends_yard}
 use Rattle.station_top.proofs.top.run_call.Goals as goal
 
@@ -15,3 +16,9 @@ returns-in-Serve-clause-out g c = ends_write _ _ c.serve_by.result c.status_serv
 
 pub returns-in-Serve-clause-yard : goal.returns-in-Serve-clause-yard
 returns-in-Serve-clause-yard g c = ends_yard _ _ c.serve_by.result c.status_served_by.result c.status_served_by.ensures c.serve_by.ensures.yard
+
+pub returns-in-Drill-clause-concludes : goal.returns-in-Drill-clause-concludes
+returns-in-Drill-clause-concludes g c = rw c.in-Drill.is (refl, refl, c.run_drill.ensures.concludes)
+
+pub returns-in-Drill-clause-yard : goal.returns-in-Drill-clause-yard
+returns-in-Drill-clause-yard g c = record { rose = λ is. absurd (c.run_drill.ensures.yard is); calm = λ _. refl }

@@ -1,0 +1,5 @@
+use Rattle.station_top.proofs.Drilling.{replied_on_drill}
+use Rattle.station_top.proofs.drill.write_drill.Goals as goal
+
+pub returns : goal.returns
+returns g c seed lanes messages is = replied_on_drill seed lanes messages _ is _ _ _ ((rw c.deref.ensures at c.write_replies.ensures) is.history is.stands)
