@@ -4,10 +4,10 @@
 #
 #   bench/lanes.sh OTHER [PREFIXES]
 #
-# OTHER is a program that writes for the words `gen-table PREFIXES SEED` the stream of one peer with so many IPv4
-# prefixes (1,000,000), and a fifth as many of IPv6, and that counts for `replay count` the routes that standard input
-# leaves. The stream comes with its UPDATEs in prefix order, and with one prefix an UPDATE. For each, these run in turn,
-# ROUNDS times (5), from a file in the cache:
+# OTHER is a program that counts for `replay count` the routes that standard input leaves. The stream is that of one peer
+# with so many IPv4 prefixes (1,000,000), and a fifth as many of IPv6 (`bench/table`), with its UPDATEs in prefix order,
+# and with one prefix an UPDATE; and that of a lane of a drill, with a million messages for 4,096 prefixes of four peers
+# that come and go. For each, these run in turn, ROUNDS times (5), from a file in the cache:
 #
 #   quiet      takes the stream in reads of 64 KiB, and publishes after each; the client beside it does nothing
 #   asks       the same, with a client that takes a snapshot after each publication
@@ -29,7 +29,6 @@ said() { awk -v w="$2" '$1 == w { print $2 }' "$work/$1.said"; }
 measure() {
     local order=$1
     input=$work/stream
-    "$(dirname "$0")/reorder" "$order" <"$work/generated" >"$input"
     for _ in $(seq "$rounds"); do
         spend "$order.other" "$other" replay count
         for client in quiet asks keeps; do
@@ -44,7 +43,12 @@ measure() {
     done
 }
 
-"$other" gen-table "$prefixes" 7 >"$work/generated"
+streams=$(built bench)
+here=$(dirname "$0")
+"$here/table" "$prefixes" 7 >"$work/generated"
 for order in sorted single; do
+    "$here/reorder" "$order" <"$work/generated" >"$work/stream"
     measure "$order"
 done
+"$streams" stream 7 0 1000000 >"$work/stream"
+measure drill

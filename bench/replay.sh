@@ -3,9 +3,8 @@
 #
 #   bench/replay.sh OTHER [PREFIXES]
 #
-# OTHER is a program that takes the same words and writes the same bytes, and that writes for the words
-# `gen-table PREFIXES SEED` the stream of one peer with so many IPv4 prefixes (1,000,000), and a fifth as many
-# of IPv6. The stream comes with its UPDATEs in prefix order, and shuffled. The two run in turn on one stream,
+# OTHER is a program that takes the same words and writes the same bytes. The stream is that of one peer with so
+# many IPv4 prefixes (1,000,000), and a fifth as many of IPv6 (`bench/table`). It comes with its UPDATEs in prefix order, and shuffled. The two run in turn on one stream,
 # ROUNDS times (5), from a file in the cache, with their output to /dev/null. Prints for each command the
 # least processor times and the peak memories, and their ratios: below 1 ours is the better. The prefix, the
 # address and the origin that are asked for stand in the stream, in the middle of its IPv4 prefixes. The bytes
@@ -20,7 +19,7 @@ program=bmpstation
 . "$(dirname "$0")/measure.sh"
 
 output=/dev/null
-"$other" gen-table "$prefixes" 7 >"$work/generated"
+"$(dirname "$0")/table" "$prefixes" 7 >"$work/generated"
 
 # Both answer, and write the same.
 same() {

@@ -4,9 +4,8 @@
 #
 #   bench/tables.sh OTHER [PREFIXES]
 #
-# OTHER is a program that writes for the words `gen-table PREFIXES SEED` the stream of one peer with so many
-# IPv4 prefixes (1,000,000), and a fifth as many of IPv6, and that counts for `replay count` the routes that
-# standard input leaves. The stream comes with its UPDATEs in prefix order, shuffled, and with one prefix an
+# OTHER is a program that counts for `replay count` the routes that standard input leaves. The stream is that of
+# one peer with so many IPv4 prefixes (1,000,000), and a fifth as many of IPv6 (`bench/table`). It comes with its UPDATEs in prefix order, shuffled, and with one prefix an
 # UPDATE. For each, these run in turn, ROUNDS times (5), from a file in the cache:
 #
 #   lane       takes the stream, and makes new tables for each read of 64 KiB
@@ -73,7 +72,7 @@ for _ in $(seq "$rounds"); do
     run empty.lane lane
     spend empty.other "$other" replay count
 done
-"$other" gen-table "$prefixes" 7 >"$work/generated"
+"$(dirname "$0")/table" "$prefixes" 7 >"$work/generated"
 for order in sorted shuffled single; do
     measure "$order"
 done
