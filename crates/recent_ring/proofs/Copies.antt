@@ -6,6 +6,10 @@ use Rattle.std.proofs.lemmas.Option.{get_or_from_slice_get, slice_get_within, sl
 use Rattle.circular_buffer.specs.Buffer.{Buffer, buffer, keep_last}
 use Rattle.recent_ring.specs.Recent.{RecentValue, IsCopy}
 
+-- one item more
+pub alike_more : {T : Type 0} (R : T → T → Type 0) (items copy : List T) (place : ℕ) (x y : T) → Some x ≡ slice_get items place → R x y → AllZip R (take place items) copy → AllZip R (take (place + 1) items) (copy ++ y ∷ [])
+alike_more R items copy place x y at alike so_far = all_zip_more R items copy place x y (slice_get_within items place x (sym at)) (sym (get_or_from_slice_get items place x x (sym at))) so_far alike
+
 -- one item more, where there is room
 pub copied_more : {T : Type 0} (R : T → T → Type 0) (items copy next : Buffer T) (place : ℕ) (x y : T) → Some x ≡ slice_get items.items place → R x y → length items.items ≤ items.capacity
     → AllZip R (take place items.items) copy.items → copy.capacity ≡ items.capacity → next ≡ buffer (keep_last copy.capacity (copy.items ++ y ∷ [])) copy.capacity
@@ -13,7 +17,7 @@ pub copied_more : {T : Type 0} (R : T → T → Type 0) (items copy next : Buffe
 copied_more {T} R items copy next place x y at alike fits so_far room is =
     let xs = items.items in
     let ys = copy.items in
-    let more : AllZip R (take (place + 1) xs) (ys ++ y ∷ []) = all_zip_more R xs ys place x y (slice_get_within xs place x (sym at)) (sym (get_or_from_slice_get xs place x x (sym at))) so_far alike in
+    let more : AllZip R (take (place + 1) xs) (ys ++ y ∷ []) = alike_more R xs ys place x y at alike so_far in
     let long : length (take (place + 1) xs) ≡ length (ys ++ y ∷ []) = length_all_zip R (take (place + 1) xs) (ys ++ y ∷ []) more in
     let whole : length (ys ++ y ∷ []) - copy.capacity ≡ 0 = omega (arith, length-take (place + 1) xs) in (
       subst (λ (b : Buffer T). AllZip R (take (place + 1) xs) b.items) (sym is) (subst (λ (k : ℕ). AllZip R (take (place + 1) xs) (drop k (ys ++ y ∷ []))) (sym whole) more),

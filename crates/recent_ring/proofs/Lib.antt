@@ -1,3 +1,4 @@
 pub mod LastItems
 pub mod Copies
 pub mod TwoParts
+pub mod Joined

@@ -1,5 +1,5 @@
 -- The last items of a list in two parts: what copies share, and what was pushed since.
-use Rattle.std.proofs.Common.{◌≡◌, ℕ, zero, suc, ◌+◌, ◌-◌, ◌^◌, ◌<◌, ◌≤◌, inl, inr, min, List, [], ◌∷◌, ◌++◌, length, drop, refl, sym, ap, ◌∙◌, subst, arith, append_assoc, append-nil, length-append, length-drop}
+use Rattle.std.proofs.Common.{◌≡◌, ℕ, zero, suc, ◌+◌, ◌-◌, ◌^◌, ◌<◌, ◌≤◌, inl, inr, min, List, [], ◌∷◌, ◌++◌, length, drop, refl, sym, ap, ◌∙◌, subst, arith, append_assoc, length-append, length-drop}
 use Rattle.std.proofs.Math.Seq.{drop-append_seam, drop-append-add}
 use Rattle.std.proofs.lemmas.Bool.{cases_lt}
 use Rattle.std.proofs.lemmas.List.Elements.{length_all_zip}
@@ -54,26 +54,15 @@ module _ {X : Type 0} where
   slice_get-drop (suc n) [] i = refl
   slice_get-drop (suc n) (x ∷ xs) i = let next : suc (n + i) ≡ suc n + i = omega arith in slice_get-drop n xs i ∙ ap (slice_get (x ∷ xs)) next
 
-  in_front : (xs ys : List X) (i : ℕ) → i < length xs → slice_get (xs ++ ys) i ≡ slice_get xs i
+  pub in_front : (xs ys : List X) (i : ℕ) → i < length xs → slice_get (xs ++ ys) i ≡ slice_get xs i
   in_front [] ys i h = absurd (omega arith)
   in_front (x ∷ xs) ys zero h = refl
   in_front (x ∷ xs) ys (suc i) h = in_front xs ys i (omega arith)
 
-  behind : (xs ys : List X) (i : ℕ) → length xs ≤ i → slice_get (xs ++ ys) i ≡ slice_get ys (i - length xs)
+  pub behind : (xs ys : List X) (i : ℕ) → length xs ≤ i → slice_get (xs ++ ys) i ≡ slice_get ys (i - length xs)
   behind [] ys i h = let same : i ≡ i - 0 = omega arith in ap (slice_get ys) same
   behind (x ∷ xs) ys zero h = absurd (omega arith)
   behind (x ∷ xs) ys (suc i) h = let same : i - length xs ≡ suc i - length (x ∷ xs) = omega arith in behind xs ys i (omega arith) ∙ ap (slice_get ys) same
-
-  -- the item at a place stands in the first part, or in the second
-  pub item_in_front : (xs ys items : List X) (place i : ℕ) → last_items (xs ++ ys) ≡ items → i ≡ length xs + length ys - 1024 + place → i < length xs → slice_get xs i ≡ slice_get items place
-  item_in_front xs ys items place i seen is within =
-      let at : i ≡ length (xs ++ ys) - 1024 + place = omega (arith, is, length-append xs ys) in
-      sym (in_front xs ys i within) ∙ ap (slice_get (xs ++ ys)) at ∙ sym (slice_get-drop (length (xs ++ ys) - 1024) (xs ++ ys) place) ∙ ap (λ (l : List X). slice_get l place) seen
-
-  pub item_behind : (xs ys items : List X) (place i : ℕ) → last_items (xs ++ ys) ≡ items → i ≡ length xs + length ys - 1024 + place → length xs ≤ i → slice_get ys (i - length xs) ≡ slice_get items place
-  item_behind xs ys items place i seen is past =
-      let at : i ≡ length (xs ++ ys) - 1024 + place = omega (arith, is, length-append xs ys) in
-      sym (behind xs ys i past) ∙ ap (slice_get (xs ++ ys)) at ∙ sym (slice_get-drop (length (xs ++ ys) - 1024) (xs ++ ys) place) ∙ ap (λ (l : List X). slice_get l place) seen
 
 module _ {X : Type 0} (R : X → X → Type 0) where
   all_zip_same : ((x : X) → R x x) → (xs : List X) → AllZip R xs xs
@@ -99,10 +88,3 @@ module _ {X : Type 0} (R : X → X → Type 0) where
       let whole : AllZip R (xs ++ ys) (xs ++ zs) = all_zip_append xs xs ys zs (all_zip_same same xs) a in
       let long : length (xs ++ ys) ≡ length (xs ++ zs) = length_all_zip R (xs ++ ys) (xs ++ zs) whole in
       subst (λ (l : List X). AllZip R l (last_items (xs ++ zs))) seen (subst (λ (k : ℕ). AllZip R (last_items (xs ++ ys)) (drop (k - 1024) (xs ++ zs))) long (all_zip_drop (length (xs ++ ys) - 1024) (xs ++ ys) (xs ++ zs) whole))
-
-  -- a copy in one piece
-  pub copy_in_one : (items zs : List X) → length items ≤ 1024 → AllZip R items zs → AllZip R items (last_items (zs ++ []))
-  copy_in_one items zs short a =
-      let long : length items ≡ length zs = length_all_zip R items zs a in
-      let none : length zs - 1024 ≡ 0 = omega (arith, long, short) in
-      subst (λ (l : List X). AllZip R items (last_items l)) (sym (append-nil zs)) (subst (λ (k : ℕ). AllZip R items (drop k zs)) (sym none) a)

@@ -1,5 +1,9 @@
 -- The last items of a list, a notion of ours: the 1,024 steps that are kept of a lane.
-use Rattle.std.specs.Prelude.{◌≡◌, ℕ, ◌-◌, ◌^◌, min, List, length, drop}
+use Rattle.std.specs.Prelude.{◌≡◌, ℕ, ◌-◌, ◌^◌, min, List, [], ◌∷◌, ◌++◌, length, drop}
+use Rattle.std.specs.Arc.{arc_value}
+use Rattle.std.specs.declared.alloc.Global.{Global}
+use Rattle.std.specs.declared.sync.Arc.{Arc}
+use Rattle.std.specs.declared.vec.Vec.{Vec}
 use Rattle.std.specs.List.{AllZip}
 
 -- how many items a list has, and the last of them, oldest first
@@ -19,3 +23,8 @@ recent all = record { total = min (length all) (2 ^ 64 - 1); items = last_items 
 pub record IsCopy {T : Type 0} (R : T → T → Type 0) (r s : RecentValue T) : Type 0 where
   pub total : s.total ≡ r.total
   pub items : AllZip R r.items s.items
+
+-- the items of pieces, one piece after another
+abbrev pub joined : {T : Type 0} → List (Arc (Vec T Global) Global) → List T
+joined [] = []
+joined (p ∷ ps) = (arc_value p).items ++ joined ps

@@ -1,16 +1,17 @@
 //! The last items of a list that grows at its end: at most 1,024 of them, and how many there were in all.
 //!
 //! A contract sees a `Recent<T>` as that total, which ends at 2^64 - 1, and the list of the items kept,
-//! oldest first. The items stand in two rings on the heap: one that copies share, behind an `Arc`, and
-//! one with what was pushed since. So a push moves no item, and a copy takes few.
+//! oldest first. The items stand in pieces that copies share, each behind an `Arc`, and in a ring with what
+//! was pushed since. So a push moves no item, and a copy takes only what was pushed since the last one.
 //!
 //! Proved: after any number of pushes the ring is that of the list of all items pushed (`push`, clause
 //! `list`, and `specs/Recent.antt`); `get` counts from the oldest kept; `copy` has the same total and
 //! items that are alike by the trait `Keep`.
-//! Begin with `specs/Recent.antt`, then `src/ring.rt`.
+//! Begin with `specs/Recent.antt`, then `src/ring.rt` and `src/pieces.rt`.
 #![tactic(auto)]
 
 mod keep;
+mod pieces;
 mod ring;
 
 pub use keep::Keep;

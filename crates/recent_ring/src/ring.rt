@@ -4,6 +4,7 @@ ghost use Rattle.std.specs.Option.{option_copied};
 ghost use Rattle.recent_ring.specs.Recent.{last_items, recent, IsCopy};
 
 use crate::keep::Keep;
+use crate::pieces::{Piece, and_one_more, from_the_last, not_needed, piece_of};
 use circular_buffer::HeapCircularBuffer;
 use std::alloc::Global;
 use std::marker::Model;
@@ -13,14 +14,14 @@ use wire_io::NoMemory;
 // How many items are kept.
 const KEPT: usize = 1024;
 
-// How many items a copy takes one by one, past those that it shares. Past that it makes one piece of all.
+// How many items make a piece.
 const FEW: usize = 64;
 
 /// The last items of a list, oldest first, and how many the list has.
 #[derive(Drop)]
 pub struct Recent<T> {
-    // what copies share
-    older: Arc<HeapCircularBuffer<T>>,
+    // pieces that copies share
+    older: Arc<Vec<Arc<Piece<T>>>>,
 
     // what was pushed since
     newer: HeapCircularBuffer<T>,
@@ -31,13 +32,13 @@ pub struct Recent<T> {
 impl<T> Model for Recent<T> {
     ghost use Rattle.std.specs.Prelude.{◌≡◌, ◌++◌, length, min};
     ghost use Rattle.std.specs.Arc.{arc_value};
-    ghost use Rattle.recent_ring.specs.Recent.{RecentValue, last_items};
+    ghost use Rattle.recent_ring.specs.Recent.{RecentValue, joined, last_items};
 
     ghost Value = { RecentValue T };
 
-    ghost view = { λ r. record { total = r.total; items = last_items ((arc_value r.older).items ++ r.newer.items) } };
+    ghost view = { λ r. record { total = r.total; items = last_items (joined (arc_value r.older).items ++ r.newer.items) } };
 
-    ghost invariant = { λ r. (r.newer.capacity ≡ 1024) × (length (last_items ((arc_value r.older).items ++ r.newer.items)) ≡ min r.total 1024) };
+    ghost invariant = { λ r. (r.newer.capacity ≡ 1024) × (length (last_items (joined (arc_value r.older).items ++ r.newer.items)) ≡ min r.total 1024) };
 }
 
 impl<T: Drop> Recent<T> {
@@ -45,9 +46,8 @@ impl<T: Drop> Recent<T> {
     pub fn new(alloc: Global) -> Result<Recent<T>, NoMemory>
         ensures { IfOk result (λ ring. ring ≡ recent []) }
     {
-        let none = HeapCircularBuffer::with_capacity(alloc, 0)?;
         Ok(Recent {
-            older: Arc::new(alloc, none)?,
+            older: Arc::new(alloc, Vec::new(alloc))?,
             newer: HeapCircularBuffer::with_capacity(alloc, KEPT)?,
             total: 0,
         })
@@ -83,36 +83,35 @@ impl<T: Drop> Recent<T> {
     pub fn get(&self, place: u64) -> Option<&T>
         ensures { option_copied result ≡ slice_get self.now.items place }
     {
-        let older = self.older.len();
-        let dropped = (older + self.newer.len()).saturating_sub(KEPT);
-        if KEPT <= place as usize {
+        let len = self.len();
+        if len <= place {
             return None;
         }
-        let index = dropped + place as usize;
-        if index < older {
-            self.older.get(index)
+        let back = (len - 1 - place) as usize;
+        let newer = self.newer.len();
+        if back < newer {
+            self.newer.get(newer - 1 - back)
         } else {
-            self.newer.get(index - older)
+            from_the_last(&self.older, back - newer)
         }
     }
 }
 
 impl<T: Keep + Drop> Recent<T> {
-    /// An equal ring: the same total, and items that are alike. A ring shares one piece with its copies; past
-    /// that a copy takes the items that were pushed since, each by `keep`, where they are fewer than 64. Where
-    /// they are more it takes all that are kept, and these are the piece that its own copies share: who copies
-    /// often goes on with the copy.
+    /// An equal ring: the same total, and items that are alike. It shares the pieces of the older items. Of those that
+    /// were pushed since, it takes each by `keep`; where these are 64 or more they are its own last piece, which its
+    /// copies share: who copies often goes on with the copy.
     pub fn copy(&self) -> Result<Recent<T>, NoMemory>
         ensures { IfOk result (IsCopy T.alike self.now) }
     {
         if self.newer.len() < FEW {
             self.sharing()
         } else {
-            self.in_one_piece()
+            self.with_a_piece()
         }
     }
 
-    // A copy that shares the older items.
+    // A copy with the same pieces.
     fn sharing(&self) -> Result<Recent<T>, NoMemory>
         ensures { IfOk result (IsCopy T.alike self.now) }
     {
@@ -124,34 +123,19 @@ impl<T: Keep + Drop> Recent<T> {
         })
     }
 
-    // A copy with all items in a piece that its copies share.
-    fn in_one_piece(&self) -> Result<Recent<T>, NoMemory>
+    // A copy with one piece more, and without those that have none of the last items.
+    fn with_a_piece(&self) -> Result<Recent<T>, NoMemory>
         ensures { IfOk result (IsCopy T.alike self.now) }
     {
         let alloc = *self.newer.allocator();
-        let all = self.all()?;
-        let older = Arc::new(alloc, all)?;
-        let newer = HeapCircularBuffer::with_capacity(alloc, KEPT)?;
-        let total = self.total;
+        let piece = piece_of(alloc, &self.newer)?;
+        let first = not_needed(&self.older, KEPT.saturating_sub(self.newer.len()));
+        let older = and_one_more(alloc, &self.older[first..], piece)?;
         Ok(Recent {
-            older,
-            newer,
-            total,
+            older: Arc::new(alloc, older)?,
+            newer: HeapCircularBuffer::with_capacity(alloc, KEPT)?,
+            total: self.total,
         })
-    }
-
-    // A ring with items that are alike.
-    fn all(&self) -> Result<HeapCircularBuffer<T>, NoMemory>
-        ensures { IfOk result (λ copy. AllZip T.alike self.now.items copy.items) }
-    {
-        let mut copy = HeapCircularBuffer::with_capacity(*self.newer.allocator(), KEPT)?;
-        for place in 0..self.len() {
-            if let Some(item) = self.get(place) {
-                let kept = item.keep()?;
-                copy.push_back(kept);
-            }
-        }
-        Ok(copy)
     }
 }
 
