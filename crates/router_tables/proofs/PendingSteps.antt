@@ -1,8 +1,10 @@
 -- What one more change that is gathered makes of the rows.
-use Rattle.std.proofs.Common.{◌≡◌, inl, inr, false, List, ◌++◌, map, Option, Some, sym, ap, ◌∙◌, subst}
+use Rattle.std.proofs.Common.{◌≡◌, inl, inr, Bool, false, cond, List, ◌++◌, map, Option, None, Some, refl, sym, ap, ◌∙◌, subst}
 use Rattle.std.specs.BTreeMap.{is_at}
+use Rattle.std.specs.Ordering.{is_eq}
 use Rattle.std.specs.Map.{lookup}
 use Rattle.std.specs.Option.{unwrap_or}
+use Rattle.std.proofs.lemmas.Cmp.{tied_itself}
 use Rattle.bmp_specs.specs.declared.peers.View.{View}
 use Rattle.bmp_specs.specs.Orders.{key_cmp, nlri_cmp, view_cmp}
 use Rattle.bmp_specs.specs.PeerUp.{IsUp}
@@ -54,3 +56,20 @@ gathered_for key view nlris to old gone new was now before g out here stays = re
       (subst (λ (p : PendingValue). IsGathered view nlris to was p) (sym (ap (λ (o : Option PendingValue). unwrap_or o no_changes) here)) g);
   others = λ other apart. let not_it = at_other key_cmp key_total key_exact key other apart in ap (λ (o : Option PendingValue). unwrap_or o no_changes) (stays other not_it ∙ out other not_it);
 }
+
+-- a peer that has changes has these instead
+pub gathered_there : (key : KeyValue) (view : View) (nlris : List NlriValue) (to : Option AttrsValue) (old new : PendingTables) (was now : PendingValue) → Some was ≡ lookup (is_at (key_cmp key)) old → IsGathered view nlris to was now
+    → ((k : KeyValue) → lookup (is_at (key_cmp k)) new ≡ cond (is_at (key_cmp key) k) (Some now) (lookup (is_at (key_cmp k)) old)) → IsGatheredFor key view nlris to old new
+gathered_there key view nlris to old new was now there g each =
+    let changes : Option PendingValue → PendingValue = (λ o. unwrap_or o no_changes) in
+    let here : changes_of new key ≡ now = ap changes (each key ∙ ap (λ (b : Bool). cond b (Some now) (lookup (is_at (key_cmp key)) old)) (ap is_eq (tied_itself key_total key))) in
+    record {
+      this = subst (λ (p : PendingValue). IsGathered view nlris to p (changes_of new key)) (ap changes there) (subst (λ (p : PendingValue). IsGathered view nlris to was p) (sym here) g);
+      others = λ other apart. ap changes (each other ∙ ap (λ (b : Bool). cond b (Some now) (lookup (is_at (key_cmp other)) old)) (at_other key_cmp key_total key_exact key other apart));
+    }
+
+-- a peer that has none has these
+pub gathered_first : (key : KeyValue) (view : View) (nlris : List NlriValue) (to : Option AttrsValue) (old new : PendingTables) (now : PendingValue) → lookup (is_at (key_cmp key)) old ≡ None → IsGathered view nlris to no_changes now → lookup (is_at (key_cmp key)) new ≡ Some now
+    → ((k : KeyValue) → is_at (key_cmp key) k ≡ false → lookup (is_at (key_cmp k)) new ≡ lookup (is_at (key_cmp k)) old) → IsGatheredFor key view nlris to old new
+gathered_first key view nlris to old new now none g here stays =
+    gathered_for key view nlris to old old new no_changes now (sym (ap (λ (o : Option PendingValue). unwrap_or o no_changes) none)) g (λ k other. refl) here stays

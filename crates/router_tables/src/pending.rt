@@ -1,6 +1,8 @@
-ghost use Rattle.std.specs.Prelude.{◌≡◌, [], ◌∷◌, ◌++◌, List, OnOk};
+ghost use Rattle.std.specs.Prelude.{◌≡◌, [], ◌∷◌, ◌++◌, List, None, OnOk};
+ghost use Rattle.std.specs.BTreeMap.{is_at};
+ghost use Rattle.std.specs.Map.{lookup};
 ghost use Rattle.std.specs.Option.{option_map, unwrap_or};
-ghost use Rattle.bmp_specs.specs.Orders.{nlri_cmp};
+ghost use Rattle.bmp_specs.specs.Orders.{key_cmp, nlri_cmp};
 ghost use Rattle.bmp_specs.specs.PeerUp.{Names};
 ghost use Rattle.bmp_specs.specs.Values.{EffectValue};
 ghost use Rattle.route_runs.specs.Layers.{AreChangedTo};
@@ -118,7 +120,25 @@ pub(crate) fn gather(
 ) -> Result<(), NoMemory>
     ensures { OnOk result (IsGatheredFor key.now view nlris.now (option_map shared to.entry) pending.old.entries pending.new.entries) }
 {
-    let mut changes = so_far(pending.remove(key));
+    match pending.get_mut(key) {
+        Some(changes) => changes.change(alloc, view, nlris, to),
+        None => gather_first(alloc, pending, key, view, nlris, to),
+    }
+}
+
+// Gathers the first changes of a peer's tables.
+fn gather_first(
+    alloc: Global,
+    pending: &mut BTreeMap<PeerKey, Pending>,
+    key: &PeerKey,
+    view: View,
+    nlris: &[Nlri],
+    to: Option<&Route>,
+) -> Result<(), NoMemory>
+    ensures { OnOk result (lookup (is_at (key_cmp key.now)) pending.old.entries ≡ None
+        → IsGatheredFor key.now view nlris.now (option_map shared to.entry) pending.old.entries pending.new.entries) }
+{
+    let mut changes = Pending::new();
     changes.change(alloc, view, nlris, to)?;
     pending.insert(*key, changes)?;
     Ok(())
@@ -137,14 +157,4 @@ pub(crate) fn drop_gathered(
 {
     pending.remove(key);
     tables.remove(key);
-}
-
-// The changes of a peer so far.
-fn so_far(changes: Option<Pending>) -> Pending
-    ensures { result ≡ unwrap_or changes no_changes }
-{
-    match changes {
-        Some(changes) => changes,
-        None => Pending::new(),
-    }
 }
