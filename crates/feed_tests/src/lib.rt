@@ -2,4 +2,14 @@
 #![tactic(auto)]
 
 #[cfg(test)]
+mod cuts;
+#[cfg(test)]
 mod lanes;
+#[cfg(test)]
+mod lives;
+#[cfg(test)]
+mod shown;
+#[cfg(test)]
+mod watched;
+#[cfg(test)]
+mod worked;

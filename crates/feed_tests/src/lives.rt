@@ -1,0 +1,208 @@
+//! Connections of one lane, one after another, each of which ends in one of several ways.
+ghost use Rattle.std.specs.Prelude.{◌<◌, ◌≤◌};
+
+use crate::shown::{Shown, nothing, shows};
+use crate::watched::{Call, Look, look_on};
+use crate::worked::{INITIATION, PEER_UP, ROUTES, TERMINATION};
+use bmp_specs::{Cause, Why};
+use feed_worker::LaneEnd;
+use router_tables::LaneState;
+use station_doors::MemPort;
+use stats_book::Counts;
+use std::alloc::Global;
+use std::process::Abort;
+use std::sync::Wait;
+use std::test::*;
+use wire_io::ByteList;
+
+// How a connection ends behind its Initiation, its Peer Up Notification and two routes.
+#[derive(Clone, Copy, Debug, PartialEq, Eq)]
+enum End {
+    OfRouter,
+    InsideMessage,
+    OfVersion,
+    OfBody,
+    OfTermination,
+    OfRead,
+}
+
+const ENDS: [End; 6] = [
+    End::OfRouter,
+    End::InsideMessage,
+    End::OfVersion,
+    End::OfBody,
+    End::OfTermination,
+    End::OfRead,
+];
+
+// The length of the three messages in front of the end.
+const FRONT: u64 = 270;
+
+impl End {
+    // What stands behind the routes.
+    fn rest(self) -> &'static str {
+        match self {
+            End::OfRouter | End::OfRead => "",
+            // a message cut behind its length
+            End::InsideMessage => "0300000014",
+            // "Version" 4
+            End::OfVersion => "040000000604",
+            // an Initiation of one byte, which is no TLV
+            End::OfBody => "0300000007040a",
+            End::OfTermination => TERMINATION,
+        }
+    }
+
+    fn cause(self) -> Cause {
+        match self {
+            End::OfRouter => Cause::Ended,
+            End::InsideMessage => Cause::CutShort { offset: FRONT },
+            End::OfVersion => Cause::Broken {
+                offset: FRONT,
+                why: Why::Version,
+            },
+            End::OfBody => Cause::Broken {
+                offset: FRONT,
+                why: Why::Body,
+            },
+            End::OfTermination => Cause::Terminated,
+            End::OfRead => Cause::ReadFault { offset: FRONT },
+        }
+    }
+
+    // Whether the lane asks for more than the first read gave.
+    fn reads_on(self) -> bool {
+        matches!(self, End::OfRouter | End::InsideMessage | End::OfRead)
+    }
+}
+
+// A port with a connection for each end, whose first read gives all of it.
+fn port(alloc: Global, ends: &[End]) -> Result<MemPort, Fail> {
+    let mut connections = Vec::new(alloc);
+    let mut fails = Vec::new(alloc);
+    let mut reads = 0u64;
+    for end in ends {
+        let mut connection = ByteList::new(alloc);
+        for text in [INITIATION, PEER_UP, ROUTES, end.rest()] {
+            connection.extend(hex::decode(alloc, text)?.as_slice())?;
+        }
+        connections.push(connection)?;
+        if *end == End::OfRead {
+            fails.push(reads.saturating_add(1))?;
+        }
+        reads = reads.saturating_add(if end.reads_on() { 2 } else { 1 });
+    }
+    Ok(MemPort::new(alloc, connections.as_slice(), &[], fails.as_slice())?)
+}
+
+// What a lane comes to.
+#[derive(Clone, Copy)]
+struct Place {
+    revision: u64,
+    shown: Shown,
+}
+
+// What the tables show behind the messages of a connection, where so many steps were made before it.
+fn told(end: End, steps: u64) -> Shown {
+    let (messages, more) = match end {
+        End::OfTermination => (4, 12),
+        _ => (3, 0),
+    };
+    Shown {
+        counts: Counts {
+            messages,
+            bytes: FRONT + more,
+            ..Counts::none()
+        },
+        texts: (4, 2),
+        is_up: true,
+        routes: 2,
+        ..nothing(LaneState::Live, steps.saturating_add(4))
+    }
+}
+
+// The looks at the connection that ends so, and what the lane then comes to.
+fn look_at(looks: &mut Vec<Look>, at: Place, end: End) -> Result<Place, Fail> {
+    let steps = at.shown.steps;
+    let given = FRONT.saturating_add(end.rest().len() as u64 / 2);
+    let told = told(end, steps);
+    let open = Look {
+        call: Call::Read,
+        taken: 0,
+        revision: at.revision.saturating_add(1),
+        shown: nothing(LaneState::Live, steps.saturating_add(1)),
+    };
+    let last = Look {
+        call: Call::Close,
+        taken: given,
+        revision: open.revision.saturating_add(told.counts.messages),
+        shown: told,
+    };
+    looks.push(open)?;
+    if end.reads_on() {
+        looks.push(Look {
+            call: Call::Read,
+            ..last
+        })?;
+    }
+    looks.push(last)?;
+    Ok(Place {
+        revision: last.revision.saturating_add(1),
+        shown: nothing(LaneState::Closed(end.cause()), steps.saturating_add(5)),
+    })
+}
+
+// The looks at a lane that serves up to so many connections, and what it comes to.
+fn looks_at(alloc: Global, ends: &[End], rounds: usize) -> Result<(Vec<Look>, Place), Fail> {
+    let mut looks = Vec::new(alloc);
+    let mut taken = 0u64;
+    let mut at = Place {
+        revision: 0,
+        shown: nothing(LaneState::Idle, 0),
+    };
+    for round in 0..rounds {
+        // the bytes of the connection before
+        looks.push(Look {
+            call: Call::Next,
+            taken,
+            revision: at.revision,
+            shown: at.shown,
+        })?;
+        let Some(end) = ends.get(round) else {
+            break;
+        };
+        at = look_at(&mut looks, at, *end)?;
+        taken = FRONT.saturating_add(end.rest().len() as u64 / 2);
+    }
+    Ok((looks, at))
+}
+
+fn serves<R: Wait + Abort>(rt: &R, alloc: Global, ends: &[End], rounds: u32) -> Result<(), Fail>
+    requires { rounds ≤ 4096 }
+{
+    let seen = look_on(rt, alloc, port(alloc, ends)?, rounds)?;
+    let (looks, last) = looks_at(alloc, ends, rounds as usize)?;
+    assert_eq!(rt; seen.looks.len(), looks.len(), "{ends:?}, {rounds} rounds");
+    for (look, wanted) in seen.looks.iter().zip(looks.iter()) {
+        assert_eq!(rt; *look, *wanted, "{ends:?}, {rounds} rounds");
+    }
+    assert_eq!(rt; seen.end, LaneEnd::Over);
+    assert_eq!(rt; seen.entries, last.revision);
+    assert_eq!(rt; shows(&seen.tables), last.shown);
+    Ok(())
+}
+
+// However a connection ended, the next one of the lane begins anew, and the revisions go on. No more are served than
+// the lane is to serve, or than there are.
+#[test]
+fn one_connection_after_another(rt: HostRuntime) -> Result<(), Fail> {
+    let alloc = rt.alloc();
+    for first in ENDS {
+        for second in ENDS {
+            for rounds in 0..5 {
+                serves(&rt, alloc, &[first, second, first], rounds)?;
+            }
+        }
+    }
+    Ok(())
+}
