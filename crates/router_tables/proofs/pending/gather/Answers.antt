@@ -16,7 +16,7 @@ returns-in-Some c =
     let to = option_map shared c.args.to in
     on_ok_weaker c.change.result
     (λ gathered. gathered_there c.args.key.now c.args.view c.args.nlris.now to c.args.pending.now.entries (c.get_mut.follows.lender c.change.new.self).entries c.in-Some.changes.now c.change.new.self c.in-Some.ensures.value gathered
-        (((c.get_mut.follows.holds c.change.new.self).3 (subst (λ (o : Option PendingValue). IsSome o) c.in-Some.ensures.value refl)).0)) c.change.ensures
+    (((c.get_mut.follows.holds c.change.new.self).3 (subst (λ (o : Option PendingValue). IsSome o) c.in-Some.ensures.value refl)).0)) c.change.ensures
 
 pub returns-in-None : goal.returns-in-None
 returns-in-None c =
