@@ -64,6 +64,7 @@ fn every_cut_publishes_the_whole_messages(rt: HostRuntime) -> Result<(), Fail> {
     let alloc = rt.alloc();
     let session = worked_session(alloc)?;
     let bytes = session.bytes.as_slice();
+    assert!(rt; bytes.len() <= 1000);
     let all = bytes.len() as u32;
     let at_once = look_on(&rt, alloc, port(alloc, bytes, &[])?, 1)?;
     saw_whole_messages(&rt, &session, &at_once);

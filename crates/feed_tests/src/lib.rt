@@ -8,6 +8,8 @@ mod lanes;
 #[cfg(test)]
 mod lives;
 #[cfg(test)]
+mod refused;
+#[cfg(test)]
 mod shown;
 #[cfg(test)]
 mod watched;

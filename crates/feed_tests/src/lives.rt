@@ -121,33 +121,39 @@ fn told(end: End, steps: u64) -> Shown {
     }
 }
 
-// The looks at the connection that ends so, and what the lane then comes to.
-fn look_at(looks: &mut Vec<Look>, at: Place, end: End) -> Result<Place, Fail> {
-    let steps = at.shown.steps;
-    let given = FRONT.saturating_add(end.rest().len() as u64 / 2);
-    let told = told(end, steps);
-    let open = Look {
+// The look in front of a read behind all bytes, where it is made.
+fn put_further(looks: &mut Vec<Look>, last: &Look, end: End) -> Result<(), Fail> {
+    if !end.reads_on() {
+        return Ok(());
+    }
+    Ok(looks.push(Look {
         call: Call::Read,
-        taken: 0,
-        revision: at.revision.saturating_add(1),
-        shown: nothing(LaneState::Live, steps.saturating_add(1)),
-    };
+        ..*last
+    })?)
+}
+
+// The looks at the connection that ends so, and what the lane then comes to.
+fn look_at(looks: &mut Vec<Look>, at: &Place, end: End) -> Result<Place, Fail> {
+    let steps = at.shown.steps;
+    let opened = at.revision.saturating_add(1);
+    let told = told(end, steps);
+    let revision = opened.saturating_add(told.counts.messages);
     let last = Look {
         call: Call::Close,
-        taken: given,
-        revision: open.revision.saturating_add(told.counts.messages),
+        taken: FRONT.saturating_add(end.rest().len() as u64 / 2),
+        revision,
         shown: told,
     };
-    looks.push(open)?;
-    if end.reads_on() {
-        looks.push(Look {
-            call: Call::Read,
-            ..last
-        })?;
-    }
+    looks.push(Look {
+        call: Call::Read,
+        taken: 0,
+        revision: opened,
+        shown: nothing(LaneState::Live, steps.saturating_add(1)),
+    })?;
+    put_further(looks, &last, end)?;
     looks.push(last)?;
     Ok(Place {
-        revision: last.revision.saturating_add(1),
+        revision: revision.saturating_add(1),
         shown: nothing(LaneState::Closed(end.cause()), steps.saturating_add(5)),
     })
 }
@@ -171,7 +177,7 @@ fn looks_at(alloc: Global, ends: &[End], rounds: usize) -> Result<(Vec<Look>, Pl
         let Some(end) = ends.get(round) else {
             break;
         };
-        at = look_at(&mut looks, at, *end)?;
+        at = look_at(&mut looks, &at, *end)?;
         taken = FRONT.saturating_add(end.rest().len() as u64 / 2);
     }
     Ok((looks, at))
