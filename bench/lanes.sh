@@ -15,6 +15,10 @@
 #
 # A ratio is that of least processor times to OTHER's: below 1 ours is the faster. Bytes are of peak memory, by the
 # `time` of GNU.
+#
+# Then the stream of a lane of a drill with MESSAGES messages (100,000) is taken by one lane, and by LANES lanes (64) at
+# once, each with a copy of it and a client of its own. The pace of lanes is how many messages they publish in a second of
+# the clock, the greatest of the runs, without the time that reading the stream takes.
 set -euo pipefail
 
 other=${1:?usage: bench/lanes.sh OTHER [PREFIXES]}
@@ -52,3 +56,21 @@ for order in sorted single; do
 done
 "$streams" stream 7 0 1000000 >"$work/stream"
 measure drill
+
+# The greatest pace of the runs of a name.
+pace() { sort -n "$work/$1.pace" | tail -n 1; }
+
+lanes=${LANES:-64}
+input=$work/stream
+"$streams" stream 7 0 "${MESSAGES:-100000}" >"$input"
+echo "$lanes lanes at once, $(stat -c %s "$input") bytes each, $(nproc) processors"
+for client in quiet asks keeps; do
+    for _ in $(seq "$rounds"); do
+        for number in 1 "$lanes"; do
+            run "$client.$number" "$client" 65536 "$number"
+            said "$client.$number" messages_per_second >>"$work/$client.$number.pace"
+        done
+    done
+    awk -v c="$client" -v a="$(pace "$client.1")" -v b="$(pace "$client.$lanes")" -v n="$lanes" -v m="$(peak "$client.$lanes")" \
+        'BEGIN { printf "  %s one lane %d messages a second, %d lanes %d, ratio %.2f; %d KiB\n", c, a, n, b, b / a, m }'
+done

@@ -1,34 +1,29 @@
-//! One lane that takes standard input.
-ghost use Rattle.std.specs.Prelude.{◌≡◌, ◌<◌, [], IfSome};
+//! Lanes that take standard input.
+ghost use Rattle.std.specs.Prelude.{◌≡◌, ℕ, ◌<◌, ◌≤◌, [], IfSome};
 ghost use Rattle.std.specs.Arc.{arc_value};
-ghost use Rattle.cut_publisher.specs.Opening.{AreFeedsOf, IsOpened};
+ghost use Rattle.cut_publisher.specs.Opening.{IsOpened};
 ghost use Rattle.rib_model.specs.Entries.{entry_values};
 ghost use Rattle.router_tables.specs.Tables.{StandsFor};
 
-use crate::watch::{Client, Watch};
-use bmp_message::Reading;
-use cut_publisher::{AskList, FeedList, FeedPass, Naming, Publisher, Station, name, open_station};
-use feed_worker::{LaneEnd, LanePort, serve_feed};
+use crate::lanes::{Outcome, lanes_of, serve_all};
+use crate::watch::Client;
+use cut_publisher::{Naming, Station, name, open_station};
 use router_tables::RouterTables;
-use station_doors::SurePort;
 use std::alloc::Global;
 use std::io;
 use std::io::Read;
 use std::marker::Brand;
+use std::rt::Clock;
 use std::sync::{Arc, Wait};
+use std::thread::Threads;
+use std::time::{Duration, Instant};
 use wire_io::ByteList;
 
 /// The most bytes of one read of a port.
 const READ: usize = 65_536;
 
-/// What a run comes to.
-#[derive(Drop)]
-struct Outcome {
-    entries: u64,
-    turns: u64,
-    revision: u64,
-    kept: usize,
-}
+/// The most lanes.
+const MOST_LANES: u32 = 64;
 
 // All bytes of the input.
 fn read_all<R: Read + Drop>(alloc: Global, mut input: R) -> io::Result<ByteList> {
@@ -40,36 +35,54 @@ fn read_all<R: Read + Drop>(alloc: Global, mut input: R) -> io::Result<ByteList>
             break;
         }
         if bytes.extend(&buffer[..count]).is_err() {
-            return Err(io::Error::from(io::ErrorKind::OutOfMemory));
+            return Err(no_memory());
         }
     }
     Ok(bytes)
 }
 
+fn no_memory() -> io::Error {
+    io::Error::from(io::ErrorKind::OutOfMemory)
+}
+
 /// Takes the input as the one connection of a lane, in reads of at most so many bytes (65,536), publishes it
 /// read by read with a client beside it, and prints how many entries were published, how many turns the client had,
 /// the revision that it saw last, and how many versions it kept.
-pub fn run<I: Read + Drop, R: Wait + Print>(
+///
+/// Where the number of lanes is given, from 1 to 64, each of them takes the input so at once with the others, beside a
+/// client of its own. Then the numbers are those of all, and the greatest revision; and how long the lanes took is
+/// printed, in microseconds, and how many messages they published in a second.
+pub fn run<I: Read + Drop, R: Threads + Wait + Clock + Print + Sync>(
     rt: &R,
     alloc: Global,
     input: I,
     client: Client,
     piece: Option<u32>,
+    lanes: Option<u32>,
 ) -> io::Result<()> {
-    let bytes = read_all(alloc, input)?;
+    let connection = [read_all(alloc, input)?];
     let piece = piece.unwrap_or(READ as u32).max(1);
-    match outcome_of(rt, alloc, bytes, client, piece) {
-        Some(outcome) => {
-            println!(rt; "entries {}", outcome.entries)?;
-            println!(rt; "turns {}", outcome.turns)?;
-            println!(rt; "revision {}", outcome.revision)?;
-            println!(rt; "kept {}", outcome.kept)
-        }
-        None => Err(io::Error::from(io::ErrorKind::OutOfMemory)),
+    let count = lanes.unwrap_or(1).clamp(1, MOST_LANES);
+    let (outcome, spent) = outcome_of(rt, alloc, connection, client, piece, count)?;
+    println!(rt; "entries {}", outcome.entries)?;
+    println!(rt; "turns {}", outcome.turns)?;
+    println!(rt; "revision {}", outcome.revision)?;
+    println!(rt; "kept {}", outcome.kept)?;
+    if lanes.is_some() {
+        print_pace(rt, outcome.messages, spent)?;
     }
+    Ok(())
 }
 
-// What the lane has until it publishes.
+// How long the lanes took, and how many messages they published in a second.
+fn print_pace<R: Print>(rt: &R, messages: u64, spent: Duration) -> io::Result<()> {
+    let micros = spent.as_micros().min(u128::from(u64::MAX)) as u64;
+    let pace = messages.saturating_mul(1_000_000) / micros.max(1);
+    println!(rt; "microseconds {micros}")?;
+    println!(rt; "messages_per_second {pace}")
+}
+
+// What the lanes have until they publish.
 fn no_tables(alloc: Global) -> Option<Arc<RouterTables>>
     ensures { IfSome result (λ t. StandsFor (arc_value t) (entry_values [])) }
 {
@@ -77,32 +90,36 @@ fn no_tables(alloc: Global) -> Option<Arc<RouterTables>>
     Arc::new(alloc, tables).ok()
 }
 
-fn outcome_of<R: Wait>(
+// What so many lanes come to, and how long they took.
+fn outcome_of<R: Threads + Wait + Clock + Sync>(
     rt: &R,
     alloc: Global,
-    bytes: ByteList,
+    connection: [ByteList; 1],
     client: Client,
     piece: u32,
-) -> Option<Outcome>
-    requires { 0 < piece }
+    lanes: u32,
+) -> io::Result<(Outcome, Duration)>
+    requires piece { 0 < piece }
+    requires lanes { (0 < lanes) × (lanes ≤ 64) }
 {
-    let connections = [bytes];
-    let port = SurePort::new(alloc, &connections, piece).ok()?;
-    drop(connections);
-    let first = no_tables(alloc)?;
-    let station = open_station(alloc, first, 1, 1).ok()?;
-    outcome_in::<Brand, R>(rt, alloc, station, port, client)
+    let first = no_tables(alloc).ok_or(no_memory())?;
+    let Ok(station) = open_station(alloc, first, lanes, lanes) else {
+        return Err(no_memory());
+    };
+    outcome_in::<Brand, R>(rt, alloc, station, connection, client, piece)
 }
 
-fn outcome_in<J: Naming, R: Wait>(
+fn outcome_in<J: Naming + Send + Sync, R: Threads + Wait + Clock + Sync>(
     rt: &R,
     alloc: Global,
     station: Station<RouterTables>,
-    port: SurePort,
+    connection: [ByteList; 1],
     client: Client,
-) -> Option<Outcome>
+    piece: u32,
+) -> io::Result<(Outcome, Duration)>
     requires named { station.publisher.station ≡ J.site }
-    requires opened { IsOpened 1 1 station.publisher station.feeds station.asks }
+    requires opened { (lanes : ℕ) × IsOpened lanes lanes station.publisher station.feeds station.asks }
+    requires piece { 0 < piece }
 {
     let Station {
         publisher,
@@ -110,45 +127,17 @@ fn outcome_in<J: Naming, R: Wait>(
         mut asks,
     } = station;
     let publisher = name::<RouterTables, J, R>(rt, publisher, &mut asks);
-    let outcome = serve(rt, alloc, &publisher, &mut feeds, &mut asks, port, client);
+    let lanes = lanes_of::<J>(alloc, &mut feeds, &mut asks, &connection, client, piece);
+    drop(connection);
+    let start = Instant::now(rt);
+    let outcome = match lanes {
+        Some(lanes) => serve_all(rt, alloc, &publisher, lanes),
+        None => None,
+    };
     publisher.close(rt);
-    outcome
-}
-
-// Takes the last pass of a lane out of the list.
-fn take_feed<J: Naming>(feeds: &mut FeedList<RouterTables>) -> Option<FeedPass<RouterTables>>
-    requires { AreFeedsOf J.site feeds.old }
-    ensures { IfSome result (λ f. f.station ≡ J.site) }
-{
-    feeds.pop()
-}
-
-fn serve<J: Naming, R: Wait>(
-    rt: &R,
-    alloc: Global,
-    publisher: &Publisher<RouterTables, J>,
-    feeds: &mut FeedList<RouterTables>,
-    asks: &mut AskList<RouterTables>,
-    port: SurePort,
-    client: Client,
-) -> Option<Outcome>
-    requires { AreFeedsOf J.site feeds.old }
-{
-    let mut pass = take_feed::<J>(feeds)?;
-    if pass.count() > 0 {
-        return None;
+    let spent = start?.elapsed(rt)?;
+    match outcome {
+        Some(outcome) => Ok((outcome, spent)),
+        None => Err(no_memory()),
     }
-    let asker = asks.pop()?;
-    let mut port = LanePort::new(Watch::new(alloc, port, client, asker));
-    let end = serve_feed::<Reading, Watch, J, R>(rt, alloc, publisher, &mut pass, &mut port, 1);
-    if end == LaneEnd::NoMemory {
-        return None;
-    }
-    let (turns, revision, kept) = port.into_port().seen();
-    Some(Outcome {
-        entries: pass.count(),
-        turns,
-        revision,
-        kept,
-    })
 }

@@ -1,0 +1,136 @@
+//! Lanes that take their streams at once, each in a thread of its own where one can be made.
+ghost use Rattle.std.specs.Prelude.{◌≡◌, ◌<◌};
+ghost use Rattle.cut_publisher.specs.Opening.{AreFeedsOf};
+
+use crate::watch::{Client, Watch};
+use bmp_message::Reading;
+use cut_publisher::{AskList, FeedList, FeedPass, Naming, Publisher};
+use feed_worker::{LaneEnd, LanePort, serve_feed};
+use router_tables::RouterTables;
+use station_doors::SurePort;
+use std::alloc::Global;
+use std::marker::PhantomData;
+use std::sync::Wait;
+use std::thread;
+use std::thread::Threads;
+use wire_io::ByteList;
+
+/// What lanes come to: how many entries they published and how many of these were messages, how many turns their
+/// clients had, the greatest revision that one of these saw last, and how many versions they kept.
+#[derive(Clone, Copy)]
+pub struct Outcome {
+    pub entries: u64,
+    pub messages: u64,
+    pub turns: u64,
+    pub revision: u64,
+    pub kept: u64,
+}
+
+impl Outcome {
+    // What no lane comes to.
+    const NONE: Outcome = Outcome {
+        entries: 0,
+        messages: 0,
+        turns: 0,
+        revision: 0,
+        kept: 0,
+    };
+
+    // What these lanes and others come to.
+    fn and(self, other: Outcome) -> Outcome {
+        Outcome {
+            entries: self.entries.saturating_add(other.entries),
+            messages: self.messages.saturating_add(other.messages),
+            turns: self.turns.saturating_add(other.turns),
+            revision: self.revision.max(other.revision),
+            kept: self.kept.saturating_add(other.kept),
+        }
+    }
+}
+
+/// A lane that has one connection to take, and its client. It is of the station `J`.
+#[derive(Drop)]
+pub struct Lane<J: Naming> {
+    pass: FeedPass<RouterTables>,
+    port: LanePort<Watch>,
+    station: PhantomData<J>,
+    ghost of: { pass.station ≡ J.site },
+}
+
+/// A lane for each pass, with this one connection, which it takes in reads of at most so many bytes.
+pub fn lanes_of<J: Naming>(
+    alloc: Global,
+    feeds: &mut FeedList<RouterTables>,
+    asks: &mut AskList<RouterTables>,
+    connection: &[ByteList; 1],
+    client: Client,
+    piece: u32,
+) -> Option<Vec<Lane<J>>>
+    requires feeds { AreFeedsOf J.site feeds.old }
+    requires piece { 0 < piece }
+{
+    let mut lanes = Vec::new(alloc);
+    while let Some(pass) = feeds.pop() {
+        let port = SurePort::new(alloc, connection, piece).ok()?;
+        let asker = asks.pop()?;
+        lanes
+            .push(Lane {
+                pass,
+                port: LanePort::new(Watch::new(alloc, port, client, asker)),
+                station: PhantomData,
+            })
+            .ok()?;
+    }
+    Some(lanes)
+}
+
+impl<J: Naming> Lane<J> {
+    // Takes the connection. None for want of memory.
+    fn serve<R: Wait>(
+        self,
+        rt: &R,
+        alloc: Global,
+        publisher: &Publisher<RouterTables, J>,
+    ) -> Option<Outcome> {
+        let Lane {
+            mut pass,
+            mut port,
+            station: _,
+        } = self;
+        if pass.count() > 0 {
+            return None;
+        }
+        let end = serve_feed::<Reading, Watch, J, R>(rt, alloc, publisher, &mut pass, &mut port, 1);
+        if end == LaneEnd::NoMemory {
+            return None;
+        }
+        let (turns, revision, kept) = port.into_port().seen();
+        Some(Outcome {
+            entries: pass.count(),
+            // without the opening and the closing
+            messages: pass.count().saturating_sub(2),
+            turns,
+            revision,
+            kept: kept as u64,
+        })
+    }
+}
+
+/// Takes the connections of all lanes at once. None for want of memory.
+pub fn serve_all<J: Naming + Send + Sync, R: Threads + Wait + Sync>(
+    rt: &R,
+    alloc: Global,
+    publisher: &Publisher<RouterTables, J>,
+    lanes: Vec<Lane<J>>,
+) -> Option<Outcome> {
+    let outcomes = thread::map_vec(
+        rt,
+        lanes,
+        &|lane: Lane<J>| lane.serve(rt, alloc, publisher),
+    ).ok()?;
+    let mut all = Outcome::NONE;
+    for outcome in outcomes.as_slice() {
+        all = all.and((*outcome)?);
+    }
+    Some(all)
+}
