@@ -1,6 +1,6 @@
 -- Changes and tables have NLRI alone.
 use Rattle.std.proofs.Common.{◌≡◌, ℕ, ◌+◌, ◌<◌, true, ◌⊎◌, inl, inr, List, [], length, get_or, Option, None, Some, refl, ap, sym, ◌∙◌, subst, arith}
-use Rattle.std.specs.List.{All}
+use Rattle.std.specs.List.{Contains}
 use Rattle.std.specs.Option.{is_some}
 use Rattle.std.proofs.lemmas.Bool.{cases_lt}
 use Rattle.std.proofs.lemmas.List.{get_or_default}
@@ -8,15 +8,15 @@ use Rattle.bmp_specs.specs.Orders.{nlri_cmp}
 use Rattle.bmp_specs.specs.Values.{NlriValue}
 use Rattle.route_runs.specs.Layers.{IsLayered}
 use Rattle.route_runs.specs.Message.{IsAllSet}
-use Rattle.route_runs.specs.Nlri.{IsNlri, AreNlri}
+use Rattle.route_runs.specs.Nlri.{AreNlri, AreKeys}
 use Rattle.route_runs.specs.Override.{value_at, or_else}
 use Rattle.route_runs.specs.Runs.{changed, IsChanged}
 
 -- the elements up to a place, and the one there
-pub one_more : (list : List NlriValue) (n : ℕ) (x : NlriValue) → n < length list → x ≡ get_or list n x → IsNlri x → ((k : ℕ) (d : NlriValue) → k < n → IsNlri (get_or list k d)) → (k : ℕ) (d : NlriValue) → k < n + 1 → IsNlri (get_or list k d)
-one_more list n x within is here so_far k d lt = elim (cases_lt k n) [
+pub one_more : (P : NlriValue → Type 0) (list : List NlriValue) (n : ℕ) (x : NlriValue) → n < length list → x ≡ get_or list n x → P x → ((k : ℕ) (d : NlriValue) → k < n → P (get_or list k d)) → (k : ℕ) (d : NlriValue) → k < n + 1 → P (get_or list k d)
+one_more P list n x within is here so_far k d lt = elim (cases_lt k n) [
   | inl less ↦ so_far k d less
-  | inr more ↦ let same : k ≡ n = omega (arith, lt, more) in subst IsNlri (is ∙ get_or_default list n x d within ∙ ap (λ k. get_or list k d) (sym same)) here
+  | inr more ↦ let same : k ≡ n = omega (arith, lt, more) in subst P (is ∙ get_or_default list n x d within ∙ ap (λ k. get_or list k d) (sym same)) here
 ]
 
 pub nlri_none : {X : Type 0} (es : List (NlriValue × X)) → es ≡ [] → AreNlri es
@@ -30,11 +30,11 @@ changed_or_there : {A : Type 0} (a : Option (Option A)) (b : Option A) → is_so
 changed_or_there None b e = inr e
 changed_or_there (Some x) b e = inl refl
 
-pub nlri_changed : {A : Type 0} (old new : List (NlriValue × A)) (run : List (NlriValue × Option A)) → IsChanged nlri_cmp old run new → AreNlri old → AreNlri run → AreNlri new
-nlri_changed old new run c o r q has = elim (changed_or_there (value_at nlri_cmp q run) (value_at nlri_cmp q old) (sym (ap is_some (c.values q)) ∙ has)) [ inl h ↦ r q h | inr h ↦ o q h ]
+pub keys_changed : {A : Type 0} (P : NlriValue → Type 0) (old new : List (NlriValue × A)) (run : List (NlriValue × Option A)) → IsChanged nlri_cmp old run new → AreKeys P old → AreKeys P run → AreKeys P new
+keys_changed P old new run c o r q has = elim (changed_or_there (value_at nlri_cmp q run) (value_at nlri_cmp q old) (sym (ap is_some (c.values q)) ∙ has)) [ inl h ↦ r q h | inr h ↦ o q h ]
 
-pub nlri_layered : {A : Type 0} (keys : List NlriValue) (to : Option A) (old run new : List (NlriValue × Option A)) → All IsNlri keys → IsAllSet nlri_cmp keys to run → IsLayered nlri_cmp old run new → AreNlri old → AreNlri new
-nlri_layered keys to old run new all set l o q has = elim (one_of_both (value_at nlri_cmp q run) (value_at nlri_cmp q old) (sym (ap is_some (l.values q)) ∙ has)) [
-  | inl h ↦ let c = set.listed q h in subst IsNlri c.2 (all c.0 q c.1)
+pub keys_layered : {A : Type 0} (P : NlriValue → Type 0) (keys : List NlriValue) (to : Option A) (old run new : List (NlriValue × Option A)) → ((q : NlriValue) → Contains keys q → P q) → IsAllSet nlri_cmp keys to run → IsLayered nlri_cmp old run new → AreKeys P old → AreKeys P new
+keys_layered P keys to old run new all set l o q has = elim (one_of_both (value_at nlri_cmp q run) (value_at nlri_cmp q old) (sym (ap is_some (l.values q)) ∙ has)) [
+  | inl h ↦ all q (set.listed q h)
   | inr h ↦ o q h
 ]

@@ -14,4 +14,11 @@ pub mod Origins
 pub mod Indexing
 pub mod WithOrigin
 pub mod Counting
+pub mod Rising
 pub mod Listing
+pub mod Halves
+pub mod OriginHalves
+pub mod LastOfHalves
+pub mod NumberOrder
+pub mod NumberBytes
+pub mod ChangesOfHalves

@@ -18,7 +18,7 @@ use Rattle.route_runs.specs.Message.{IsAllSet}
 use Rattle.route_runs.specs.Override.{value_at, or_else}
 use Rattle.route_runs.specs.Rows.{set_at, paired, named, rows, IsHandle, IsRun}
 use Rattle.route_runs.proofs.Contents.{value-append, value-in_order, rising-in_order, at_mapped}
-use Rattle.route_runs.proofs.Merging.{Rising, rising_head, rising_tail, none_below}
+use Rattle.route_runs.proofs.Merging.{Rising, rising_head, rising_tail, none_below, or_none, less_cases}
 use Rattle.route_runs.proofs.OneSet.{strict_dedup}
 use Rattle.route_runs.proofs.Overriding.{value-named}
 use Rattle.route_runs.proofs.Searching.{itself}
@@ -106,6 +106,16 @@ module _ {K : Type 0} (cmp : K → K → Ordering) (total : IsTotalOrder cmp) (e
 
   pub last_values : IsStableByKey (λ (e : K × ℕ). e.0) cmp xs ys → (q : K) → value_at cmp q zs ≡ value_at cmp q xs
   last_values s q = ap (value_at cmp q) is ∙ value_dedup cmp E same q ys ∙ value_stable cmp total xs ys s q
+
+-- ---- rows that stand in the order of their keys
+module _ {K : Type 0} (cmp : K → K → Ordering) (total : IsTotalOrder cmp) (exact : CmpEqualImpliesEq cmp) where
+  pub value_reverse : (q : K) (es : List (K × ℕ)) → Rising cmp es → value_at cmp q (reverse es) ≡ value_at cmp q es
+  value_reverse q [] s = refl
+  value_reverse q (e ∷ es) s =
+      ap (value_at cmp q) (reverse-append (e ∷ []) es) ∙ value-append cmp q (reverse es) (e ∷ [])
+      ∙ ap (λ o. or_else o (value_at cmp q (e ∷ []))) (value_reverse q es (rising_tail cmp e es s))
+      ∙ sym (less_cases (is_at (cmp q) e.0) e.1 (value_at cmp q es) None (λ at. none_below cmp total exact q e.0 es at (rising_head cmp e es s)))
+      ∙ ap (cond (is_at (cmp q) e.0) (Some e.1)) (or_none (value_at cmp q es))
 
 -- ---- the changes of one message
 module _ {A : Type 0} (P P' : List (List A)) (keeps : Keeps P P') {K : Type 0} where

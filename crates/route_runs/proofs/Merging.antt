@@ -13,7 +13,7 @@ use Rattle.std.proofs.lemmas.Map.Views.{tells_apart}
 use Rattle.route_runs.specs.Override.{value_at, or_else}
 use Rattle.route_runs.specs.Weave.{merged}
 
-or_none : {X : Type 0} (a : Option X) → or_else a None ≡ a
+pub or_none : {X : Type 0} (a : Option X) → or_else a None ≡ a
 or_none None = refl
 or_none (Some x) = refl
 
@@ -75,7 +75,7 @@ module _ {K X : Type 0} (cmp : K → K → Ordering) where
         | false ↦ rising-filter test es (rising_tail e es s)
       ]
 
-less_cases : {X : Type 0} (b : Bool) (v : X) (o p : Option X) → (b ≡ true → o ≡ None) → cond b (Some v) (or_else o p) ≡ or_else o (cond b (Some v) p)
+pub less_cases : {X : Type 0} (b : Bool) (v : X) (o p : Option X) → (b ≡ true → o ≡ None) → cond b (Some v) (or_else o p) ≡ or_else o (cond b (Some v) p)
 less_cases false v o p h = refl
 less_cases true v None p h = refl
 less_cases true v (Some x) p h = let e : Some x ≡ None = h refl in absurd cc

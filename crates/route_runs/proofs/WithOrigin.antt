@@ -10,10 +10,11 @@ use Rattle.std.specs.Ordering.{is_lt, nat_cmp, ordering_then, ordering_reverse}
 use Rattle.std.proofs.lemmas.Bool.Decides.{nat_tests}
 use Rattle.bmp_specs.specs.Orders.{family_number, nlri_cmp}
 use Rattle.bmp_specs.specs.Values.{AttrsValue, NlriValue}
+use Rattle.bmp_specs.specs.declared.wire.Family.TheVariants.{V6}
 use Rattle.bmp_specs.proofs.OrderLaws.{nlri_total, nlri_exact}
 use Rattle.route_runs.specs.Cursor.{Walking, moved}
-use Rattle.route_runs.specs.Nlri.{IsNlri, AreNlri}
-use Rattle.route_runs.specs.Origins.{attrs_origin, is_number, of_origin, with_origin, passes, least_nlri, when}
+use Rattle.route_runs.specs.Nlri.{IsNlri, IsNlriOf, AreNlri}
+use Rattle.route_runs.specs.Origins.{attrs_origin, is_number, of_origin, with_origin, passes, least_nlri, least_high, when}
 use Rattle.route_runs.specs.Override.{value_at}
 use Rattle.route_runs.specs.Places.{is_after, is_from, IsFirst}
 use Rattle.route_runs.specs.Walk.{left}
@@ -50,18 +51,14 @@ module _ (asn : ℕ) where
   walking place es = record { pairs = with_origin asn es; place = Some place }
 
   module _ (es l : List (NlriValue × AttrsValue)) (s : Rising nlri_cmp es) (place : NlriValue) (r : Option (NlriValue × AttrsValue)) where
-    pub origin_next : (at : Bool) (place' : NlriValue) → left nlri_cmp (when at place) (walking place es) ≡ l → IsFirst nlri_cmp (passes nlri_cmp at place) (λ q. of_origin attrs_origin asn (value_at nlri_cmp q es)) r → Some place' ≡ moved (Some place) r
+    pub origin_next : (at : Bool) (place' : NlriValue) → left nlri_cmp (when at place) (walking place es) ≡ l → IsFirst nlri_cmp (passes nlri_cmp at place) (λ q. value_at nlri_cmp q (with_origin asn es)) r → Some place' ≡ moved (Some place) r
         → l ≡ option_to_list r ++ left nlri_cmp None (walking place' es)
-    origin_next true place' view f on = walked_from nlri_cmp nlri_total nlri_exact (Some place) place (walking place es) (walking place' es) l r view refl (rising_with es s)
-        (first_ext nlri_cmp (is_from nlri_cmp place) (λ q. of_origin attrs_origin asn (value_at nlri_cmp q es)) (λ q. value_at nlri_cmp q (with_origin asn es)) r (λ q. value_with q es s) f) on refl
-    origin_next false place' view f on = walked_on nlri_cmp nlri_total nlri_exact None (walking place es) (walking place' es) l r view refl (rising_with es s)
-        (first_ext nlri_cmp (is_after nlri_cmp (Some place)) (λ q. of_origin attrs_origin asn (value_at nlri_cmp q es)) (λ q. value_at nlri_cmp q (with_origin asn es)) r (λ q. value_with q es s) f) on refl
+    origin_next true place' view f on = walked_from nlri_cmp nlri_total nlri_exact (Some place) place (walking place es) (walking place' es) l r view refl (rising_with es s) f on refl
+    origin_next false place' view f on = walked_on nlri_cmp nlri_total nlri_exact None (walking place es) (walking place' es) l r view refl (rising_with es s) f on refl
 
-    pub origin_ended : (at : Bool) → left nlri_cmp (when at place) (walking place es) ≡ l → IsFirst nlri_cmp (passes nlri_cmp at place) (λ q. of_origin attrs_origin asn (value_at nlri_cmp q es)) r → r ≡ None → l ≡ []
-    origin_ended true view f end = ended_from nlri_cmp nlri_total nlri_exact (Some place) place (walking place es) l r view refl
-        (first_ext nlri_cmp (is_from nlri_cmp place) (λ q. of_origin attrs_origin asn (value_at nlri_cmp q es)) (λ q. value_at nlri_cmp q (with_origin asn es)) r (λ q. value_with q es s) f) end
-    origin_ended false view f end = ended_on nlri_cmp nlri_total nlri_exact None (walking place es) l r view refl
-        (first_ext nlri_cmp (is_after nlri_cmp (Some place)) (λ q. of_origin attrs_origin asn (value_at nlri_cmp q es)) (λ q. value_at nlri_cmp q (with_origin asn es)) r (λ q. value_with q es s) f) end
+    pub origin_ended : (at : Bool) → left nlri_cmp (when at place) (walking place es) ≡ l → IsFirst nlri_cmp (passes nlri_cmp at place) (λ q. value_at nlri_cmp q (with_origin asn es)) r → r ≡ None → l ≡ []
+    origin_ended true view f end = ended_from nlri_cmp nlri_total nlri_exact (Some place) place (walking place es) l r view refl f end
+    origin_ended false view f end = ended_on nlri_cmp nlri_total nlri_exact None (walking place es) l r view refl f end
 
 -- ---- the least NLRI
 abbrev NotLess : Ordering → Type 0
@@ -90,9 +87,13 @@ from_least : (q : NlriValue) → IsNlri q → is_from nlri_cmp least_nlri q ≡ 
 from_least q h = ap not (ap is_lt (nlri_total.antisymm q least_nlri)
     ∙ le_then _ _ (le_then _ _ (le_then _ _ (zero_le (family_number q.prefix.address.family)) (zeros_le q.prefix.address.octets 16 h.prefix.address.len)) (zero_le q.prefix.bits)) (none_le q.id))
 
-all_listed : {X : Type 0} (P : X → Type 0) (xs : List X) → ((x : X) → Contains xs x → P x) → AllByRecursion P xs
+pub all_listed : {X : Type 0} (P : X → Type 0) (xs : List X) → ((x : X) → Contains xs x → P x) → AllByRecursion P xs
 all_listed P [] h = tt
 all_listed P (x ∷ xs) h = (h x (0, omega arith, refl), all_listed P xs (λ y c. h y (suc c.0, (let l = c.1 in omega (arith, l)), c.2)))
+
+pub from_least_high : (q : NlriValue) → IsNlriOf V6 q → is_from nlri_cmp least_high q ≡ true
+from_least_high q h = ap not (ap is_lt (nlri_total.antisymm q least_high)
+    ∙ le_then _ _ (le_then _ _ (le_then _ _ (ap (λ f. is_lt (ordering_reverse (nat_cmp 1 (family_number f)))) h.family) (zeros_le q.prefix.address.octets 16 h.nlri.prefix.address.len)) (zero_le q.prefix.bits)) (none_le q.id))
 
 pub all_from_least : (asn : ℕ) (es : List (NlriValue × AttrsValue)) → AreNlri es → filter (λ e. is_from nlri_cmp least_nlri e.0) (with_origin asn es) ≡ with_origin asn es
 all_from_least asn es all = all_from nlri_cmp nlri_total nlri_exact (is_from nlri_cmp least_nlri) (with_origin asn es)

@@ -11,4 +11,5 @@ pub mod Walk
 pub mod Nlri
 pub mod Longest
 pub mod Keys
+pub mod NumberKeys
 pub mod Origins

@@ -3,12 +3,11 @@ use Rattle.std.specs.Prelude.{◌≡◌, ℕ, Bool, true, false, nat_eq, if◌th
 use Rattle.std.specs.declared.cmp.Ordering.{Ordering}
 use Rattle.std.specs.List.{Contains, filter}
 use Rattle.std.specs.Option.{is_some}
-use Rattle.bmp_specs.specs.declared.wire.Family.TheVariants.{V4}
+use Rattle.bmp_specs.specs.declared.wire.Family.TheVariants.{V4, V6}
 use Rattle.bmp_specs.specs.MergedPath.{path_origin}
 use Rattle.bmp_specs.specs.Orders.{nlri_cmp}
 use Rattle.bmp_specs.specs.Values.{AttrsValue, NlriValue}
 use Rattle.route_runs.specs.Keys.{pair_cmp}
-use Rattle.route_runs.specs.Nlri.{AreNlri}
 use Rattle.route_runs.specs.Override.{value_at}
 use Rattle.route_runs.specs.Places.{is_after, is_from}
 use Rattle.route_runs.specs.Rows.{set_at}
@@ -68,10 +67,9 @@ passes cmp false place q = is_after cmp (Some place) q
 abbrev pub least_nlri : NlriValue
 least_nlri = record { prefix = record { address = record { family = V4; octets = replicate 16 0 }; bits = 0 }; id = None }
 
--- what a table keeps: each NLRI is one, and each row that has an origin AS is in the index
-pub record IsTable {U : Type 0} (pairs : List (NlriValue × AttrsValue)) (index : List ((ℕ × NlriValue) × U)) : Type 0 where
-  pub nlri : AreNlri pairs
-  pub indexed : IsIndexed nlri_cmp attrs_origin pairs index
+-- the least NLRI of IPv6
+abbrev pub least_high : NlriValue
+least_high = record { prefix = record { address = record { family = V6; octets = replicate 16 0 }; bits = 0 }; id = None }
 
 abbrev pub when : {X : Type 0} → Bool → X → Option X
 when true x = Some x

@@ -1,4 +1,4 @@
-ghost use Rattle.std.specs.Prelude.{◌≡◌, length, map, Some};
+ghost use Rattle.std.specs.Prelude.{◌≡◌, length, map, None};
 ghost use Rattle.std.specs.Arc.{arc_value};
 ghost use Rattle.std.specs.List.Sorted.{IsStrictlySortedBy};
 ghost use Rattle.std.specs.Option.{option_map};
@@ -13,21 +13,24 @@ use crate::runs::Runs;
 use std::cmp::Ordering;
 use std::sync::Arc;
 
-// How many keys are before a place.
-fn before_place<K: RunKey>(keys: &[K], place: K) -> usize
+// How many keys are before a place, or how many there are.
+fn before_place<K: RunKey>(keys: &[K], place: Option<K>) -> usize
     requires { IsStrictlySortedBy K.cmp keys.now }
-    ensures { IsBeforePoint K.cmp (Some place) keys.now result }
+    ensures { IsBeforePoint K.cmp place keys.now result }
 {
-    match keys.binary_search(&place) {
-        Ok(at) => at,
-        Err(at) => at,
+    match place {
+        None => keys.len(),
+        Some(place) => match keys.binary_search(&place) {
+            Ok(at) => at,
+            Err(at) => at,
+        },
     }
 }
 
 impl<K: RunKey, A> Run<K, A> {
-    // The last key before a place.
-    fn last_key(&self, place: K) -> Option<K>
-        ensures { IsNext (turned K.cmp) (Some place) (has_key K.cmp self.now) result }
+    // The last key before a place, or of all.
+    fn last_key(&self, place: Option<K>) -> Option<K>
+        ensures { IsNext (turned K.cmp) place (has_key K.cmp self.now) result }
     {
         let at = before_place(&self.keys, place);
         if at > 0 {
@@ -55,8 +58,8 @@ fn greater<K: RunKey>(a: Option<K>, b: Option<K>) -> Option<K>
 }
 
 // The last key of any run before a place.
-fn greatest<K: RunKey, A>(runs: &[Arc<Run<K, A>>], place: K) -> Option<K>
-    ensures { IsNext (turned K.cmp) (Some place) (has_latest K.cmp (map arc_value runs.now)) result }
+fn greatest<K: RunKey, A>(runs: &[Arc<Run<K, A>>], place: Option<K>) -> Option<K>
+    ensures { IsNext (turned K.cmp) place (has_latest K.cmp (map arc_value runs.now)) result }
 {
     let mut best = None;
     for run in runs {
@@ -66,8 +69,11 @@ fn greatest<K: RunKey, A>(runs: &[Arc<Run<K, A>>], place: K) -> Option<K>
 }
 
 // The last live pair before a place.
-fn last_live<'a, K: RunKey, A>(runs: &'a [Arc<Run<K, A>>], place: K) -> Option<(K, &'a Arc<A>)>
-    ensures { IsFirst (turned K.cmp) (is_after (turned K.cmp) (Some place)) (λ q. seen (latest K.cmp q (map arc_value runs.now))) (option_map shown result) }
+fn last_live<'a, K: RunKey, A>(
+    runs: &'a [Arc<Run<K, A>>],
+    place: Option<K>,
+) -> Option<(K, &'a Arc<A>)>
+    ensures { IsFirst (turned K.cmp) (is_after (turned K.cmp) place) (λ q. seen (latest K.cmp q (map arc_value runs.now))) (option_map shown result) }
 {
     let mut at = place;
     loop {
@@ -77,16 +83,23 @@ fn last_live<'a, K: RunKey, A>(runs: &'a [Arc<Run<K, A>>], place: K) -> Option<(
         if let Some(set) = live_in(runs, &key) {
             return Some((key, set));
         }
-        at = key;
+        at = Some(key);
     }
 }
 
 impl<K: RunKey, A: Drop> Runs<K, A> {
-    // The last pair before a place.
-    fn last_before(&self, place: &K) -> Option<(K, &Arc<A>)>
-        ensures { IsFirst (turned K.cmp) (is_after (turned K.cmp) (Some place.now)) (λ q. value_at K.cmp q self.now) (option_map shown result) }
+    // The last pair before a place, or of all.
+    fn last_before(&self, place: Option<K>) -> Option<(K, &Arc<A>)>
+        ensures { IsFirst (turned K.cmp) (is_after (turned K.cmp) place) (λ q. value_at K.cmp q self.now) (option_map shown result) }
     {
-        last_live(self.runs.as_slice(), *place)
+        last_live(self.runs.as_slice(), place)
+    }
+
+    /// The last pair. It takes no memory.
+    pub(crate) fn last(&self) -> Option<(K, &Arc<A>)>
+        ensures { IsFirst (turned K.cmp) (is_after (turned K.cmp) None) (λ q. value_at K.cmp q self.now) (option_map shown result) }
+    {
+        self.last_before(None)
     }
 
     /// The last pair at a place or before it. It takes no memory.
@@ -95,7 +108,7 @@ impl<K: RunKey, A: Drop> Runs<K, A> {
     {
         match self.get(place) {
             Some(set) => Some((*place, set)),
-            None => self.last_before(place),
+            None => self.last_before(Some(*place)),
         }
     }
 }

@@ -269,13 +269,20 @@ impl<'a, K: RunKey, A: Drop> Cursor<'a, K, A> {
         found
     }
 
-    /// The first pair after a key. The cursor stands there then.
-    pub(crate) fn after(&mut self, key: K) -> Option<(K, &'a Arc<A>)>
-        ensures first { IsFirst K.cmp (is_after K.cmp (Some key)) (λ q. value_at K.cmp q self.old.pairs) (option_map shown result) }
+    /// The first pair after a key, or of all. The cursor stands there then.
+    pub(crate) fn after(&mut self, place: Option<K>) -> Option<(K, &'a Arc<A>)>
+        ensures first { IsFirst K.cmp (is_after K.cmp place) (λ q. value_at K.cmp q self.old.pairs) (option_map shown result) }
         ensures pairs { self.new.pairs ≡ self.old.pairs }
     {
-        self.place = Some(key);
+        self.place = place;
         self.next()
+    }
+
+    /// The keys stand in order.
+    pub(crate) fn see_order(&self)
+        ensures { IsStrictlySortedBy K.cmp (keys_of self.now.pairs) }
+    {
+        self.runs.see_order();
     }
 
     /// The pair of a key, or the first one after it. The cursor stands there then.

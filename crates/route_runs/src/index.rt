@@ -75,7 +75,9 @@ fn run_of<K: RunKey>(alloc: Global, pairs: Vec<(u32, K)>) -> Result<Run<(u32, K)
 fn pairs_of<K: RunKey>(alloc: Global, run: &Run<K, Attrs>) -> Result<Run<(u32, K), ()>, NoMemory>
     ensures { IfOk result (Covers K.cmp attrs_origin run.now) }
 {
-    let mut pairs = Vec::new(alloc);
+    let Ok(mut pairs) = Vec::with_capacity(alloc, run.len()) else {
+        return Err(NoMemory);
+    };
     add_pairs(&mut pairs, run)?;
     run_of(alloc, pairs)
 }

@@ -1,25 +1,22 @@
-ghost use Rattle.std.specs.Prelude.{◌≡◌, ◌++◌, [], map, reverse, IfOk, OnOk};
-ghost use Rattle.std.specs.Arc.{arc_value};
+ghost use Rattle.std.specs.Prelude.{◌≡◌, [], true, reverse, IfOk};
 ghost use Rattle.std.specs.List.Sorted.{IsStrictlySortedBy};
 ghost use Rattle.std.specs.Map.{keys_of};
-ghost use Rattle.std.specs.Option.{option_map};
-ghost use Rattle.route_runs.specs.Layers.{all_to, handles_of, IsLayered, SaysTheSame};
+ghost use Rattle.route_runs.specs.Layers.{handles_of, SaysTheSame};
 ghost use Rattle.route_runs.specs.Override.{value_at};
 
 use crate::key::RunKey;
 use crate::run::Run;
-use crate::tidy::{Gathered, added, turn};
+use crate::tidy::{Gathered, turn};
 use std::alloc::Global;
 use std::marker::Model;
-use std::sync::Arc;
 use wire_io::NoMemory;
 
 /// Changes that are gathered before a table is made with them: keys as they came, each with a handle. Contracts
 /// see the last change of each key, in key order.
 #[derive(Drop)]
 pub(crate) struct Listed<K: RunKey, A> {
-    rows: Vec<(K, u32)>,
-    sets: Gathered<A>,
+    pub(crate) rows: Vec<(K, u32)>,
+    pub(crate) sets: Gathered<A>,
 }
 
 impl<K: RunKey, A> Model for Listed<K, A> {
@@ -50,20 +47,11 @@ impl<K: RunKey, A: Drop> Listed<K, A> {
         }
     }
 
-    /// The changes, and after them those of one message: each of these keys has the one set, or is gone.
-    pub(crate) fn add(
-        self,
-        alloc: Global,
-        keys: &[K],
-        set: Option<Arc<A>>,
-    ) -> Result<Listed<K, A>, NoMemory>
-        ensures { IfOk result (λ new. IsLayered K.cmp self (all_to keys.now (option_map arc_value set)) new) }
+    /// The changes are in order.
+    pub(crate) fn see_order(&self)
+        ensures { IsStrictlySortedBy K.cmp (keys_of self.now) }
     {
-        let mut rows = self.rows;
-        let mut sets = self.sets;
-        let handle = added(&mut sets, alloc, set)?;
-        list_all(&mut rows, keys, handle)?;
-        Ok(Listed { rows, sets })
+        let _rows = self.rows.len();
     }
 
     /// All changes as one run; none where there is no change.
@@ -97,20 +85,22 @@ impl<K: RunKey, A: Drop> Listed<K, A> {
     }
 }
 
-// Lists keys with one handle.
-fn list_all<K: RunKey>(rows: &mut Vec<(K, u32)>, keys: &[K], handle: u32) -> Result<(), NoMemory>
-    ensures { OnOk result (rows.new.items ≡ rows.old.items ++ map (λ (k : K). (k, handle)) keys.now) }
+// Whether the keys of rows rise.
+fn are_rising<K: RunKey>(rows: &[(K, u32)]) -> bool
+    ensures { result ≡ true → IsStrictlySortedBy K.cmp (keys_of rows.now) }
 {
-    for at in 0..keys.len() {
-        if rows.push((keys[at], handle)).is_err() {
-            return Err(NoMemory);
+    for at in 1..rows.len() {
+        let before = rows[at - 1];
+        let row = rows[at];
+        if !before.0.cmp(&row.0).is_lt() {
+            return false;
         }
     }
-    Ok(())
+    true
 }
 
-// Rows in the order of their keys, of each key the last one.
-fn last_of_each<K: RunKey>(rows: Vec<(K, u32)>) -> Result<Vec<(K, u32)>, NoMemory>
+// Rows sorted by their keys, of each key the last one.
+fn sorted_rows<K: RunKey>(rows: Vec<(K, u32)>) -> Result<Vec<(K, u32)>, NoMemory>
     ensures ordered { IfOk result (λ list. IsStrictlySortedBy K.cmp (keys_of list.items)) }
     ensures values { IfOk result (λ list. (q : K) → value_at K.cmp q list.items ≡ value_at K.cmp q (reverse rows.items)) }
 {
@@ -119,6 +109,17 @@ fn last_of_each<K: RunKey>(rows: Vec<(K, u32)>) -> Result<Vec<(K, u32)>, NoMemor
     rows.sort_by_key(|row| row.0)?;
     rows.dedup_by_key(|row| row.0);
     Ok(rows)
+}
+
+// Rows in the order of their keys, of each key the last one. Where they stand so they stay as they are.
+fn last_of_each<K: RunKey>(rows: Vec<(K, u32)>) -> Result<Vec<(K, u32)>, NoMemory>
+    ensures ordered { IfOk result (λ list. IsStrictlySortedBy K.cmp (keys_of list.items)) }
+    ensures values { IfOk result (λ list. (q : K) → value_at K.cmp q list.items ≡ value_at K.cmp q (reverse rows.items)) }
+{
+    if are_rising(&rows) {
+        return Ok(rows);
+    }
+    sorted_rows(rows)
 }
 
 // The keys of rows.

@@ -1,11 +1,16 @@
-ghost use Rattle.std.specs.Prelude.{◌≡◌, ◌+◌};
-ghost use Rattle.std.specs.Option.{option_map};
+ghost use Rattle.std.specs.Prelude.{◌≡◌, ◌+◌, ◌++◌, true, false, None};
+ghost use Rattle.std.specs.Option.{is_some, option_map};
+ghost use Rattle.bmp_specs.specs.Orders.{nlri_cmp};
 ghost use Rattle.route_runs.specs.Longest.{row_prefix, IsLastUpTo};
-ghost use Rattle.route_runs.specs.Nlri.{AreNlri};
-ghost use Rattle.route_runs.specs.Places.{shown};
+ghost use Rattle.route_runs.specs.Nlri.{AreNlri, AreHalves};
+ghost use Rattle.route_runs.specs.Override.{value_at};
+ghost use Rattle.route_runs.specs.Places.{shown, turned, is_after, is_from, IsFirst};
 
+use crate::key4::Key4;
+use crate::key6::Key6;
 use crate::runs::Runs;
-use ip_prefix::{Nlri, Prefix};
+use crate::table_cursor::{family_of, pair4, pair6};
+use ip_prefix::{Family, Nlri, Prefix};
 use path_attrs::Attrs;
 use prefix_trie::Steps;
 use rib_model::Route;
@@ -13,19 +18,24 @@ use std::marker::Model;
 use std::sync::ledger::Ledger;
 
 /// A table of which rows are read one by one, each for a step. Outside of this file nothing else of the
-/// table can be read, so what has only this counts each row that it reads. A contract sees the table.
+/// table can be read, so what has only this counts each row that it reads. A contract sees the table, its IPv4 rows
+/// first.
 #[derive(Drop)]
 pub(crate) struct Looks<'a> {
-    runs: &'a Runs<Nlri, Attrs>,
+    low: &'a Runs<Key4, Attrs>,
+    high: &'a Runs<Key6, Attrs>,
 }
 
 impl<'a> Model for Looks<'a> {
-    ghost use Rattle.std.specs.Prelude.{List};
+    ghost use Rattle.std.specs.Prelude.{List, ◌++◌};
     ghost use Rattle.bmp_specs.specs.Values.{AttrsValue, NlriValue};
+    ghost use Rattle.route_runs.specs.Nlri.{AreHalves};
 
     ghost Value = { List (NlriValue × AttrsValue) };
 
-    ghost view = { λ l. l.runs.now };
+    ghost view = { λ l. l.low.now ++ l.high.now };
+
+    ghost invariant = { λ l. AreHalves l.low.now l.high.now };
 }
 
 // The prefix of a row.
@@ -38,12 +48,42 @@ fn prefix_of(found: &Option<(Nlri, &Route)>) -> Option<Prefix>
     }
 }
 
+// The pair of IPv6 that was found, or else the last one of IPv4.
+fn or_last_of_low<'a>(
+    found: &Option<(Key6, &'a Route)>,
+    low: &'a Runs<Key4, Attrs>,
+) -> Option<(Nlri, &'a Route)>
+    ensures some { is_some found.now ≡ true → option_map shown result ≡ option_map shown found.now }
+    ensures none { is_some found.now ≡ false → IsFirst (turned nlri_cmp) (is_after (turned nlri_cmp) None) (λ q. value_at nlri_cmp q low.now) (option_map shown result) }
+{
+    if found.is_some() {
+        return pair6(found);
+    }
+    pair4(&low.last())
+}
+
+// The pair of an NLRI, or the last one of both families before it.
+fn last_in_both<'a>(
+    low: &'a Runs<Key4, Attrs>,
+    high: &'a Runs<Key6, Attrs>,
+    nlri: &Nlri,
+) -> Option<(Nlri, &'a Route)>
+    requires { AreHalves low.now high.now }
+    ensures { IsFirst (turned nlri_cmp) (is_from (turned nlri_cmp) nlri.now) (λ q. value_at nlri_cmp q (low.now ++ high.now)) (option_map shown result) }
+{
+    match family_of(nlri) {
+        Family::V4 => pair4(&low.at_or_before(&Key4::of(nlri))),
+        Family::V6 => or_last_of_low(&high.at_or_before(&Key6::of(nlri)), low),
+    }
+}
+
 impl<'a> Looks<'a> {
-    /// The looks at a table.
-    pub(crate) fn new(runs: &'a Runs<Nlri, Attrs>) -> Looks<'a>
-        ensures { result ≡ runs.now }
+    /// The looks at a table of two families.
+    pub(crate) fn new(low: &'a Runs<Key4, Attrs>, high: &'a Runs<Key6, Attrs>) -> Looks<'a>
+        requires { AreHalves low.now high.now }
+        ensures { result ≡ low.now ++ high.now }
     {
-        Looks { runs }
+        Looks { low, high }
     }
 
     /// The last prefix at a place or before it, for one step.
@@ -61,7 +101,7 @@ impl<'a> Looks<'a> {
             prefix: *place,
             id: Some(u32::MAX),
         };
-        let found = self.runs.at_or_before(&last);
+        let found = last_in_both(self.low, self.high, &last);
         prefix_of(&found)
     }
 }

@@ -1,4 +1,4 @@
-ghost use Rattle.std.specs.Prelude.{◌≡◌, ◌∷◌, [], replicate, IfOk};
+ghost use Rattle.std.specs.Prelude.{◌≡◌, ◌∷◌, [], true, replicate, IfOk};
 ghost use Rattle.std.specs.Arc.{arc_value};
 ghost use Rattle.std.specs.List.Sorted.{IsStrictlySortedBy};
 ghost use Rattle.std.specs.Option.{option_map};
@@ -11,8 +11,22 @@ use std::alloc::Global;
 use std::sync::Arc;
 use wire_io::NoMemory;
 
-// Keys in order, each once.
-fn in_order<K: RunKey>(keys: Vec<K>) -> Vec<K>
+// Whether keys rise.
+fn keys_rise<K: RunKey>(keys: &[K]) -> bool
+    ensures { result ≡ true → IsStrictlySortedBy K.cmp keys.now }
+{
+    for at in 1..keys.len() {
+        let before = keys[at - 1];
+        let key = keys[at];
+        if !before.cmp(&key).is_lt() {
+            return false;
+        }
+    }
+    true
+}
+
+// Keys sorted, each once.
+fn sorted_keys<K: RunKey>(keys: Vec<K>) -> Vec<K>
     ensures ordered { IsStrictlySortedBy K.cmp result.items }
     ensures same { HasSame keys.items result.items }
 {
@@ -20,6 +34,17 @@ fn in_order<K: RunKey>(keys: Vec<K>) -> Vec<K>
     keys.sort_unstable();
     keys.dedup();
     keys
+}
+
+// Keys in order, each once. Where they stand so they stay as they are.
+fn in_order<K: RunKey>(keys: Vec<K>) -> Vec<K>
+    ensures ordered { IsStrictlySortedBy K.cmp result.items }
+    ensures same { HasSame keys.items result.items }
+{
+    if keys_rise(&keys) {
+        return keys;
+    }
+    sorted_keys(keys)
 }
 
 // So many times one handle.

@@ -58,7 +58,7 @@ fn next_of<K: RunKey>(index: &mut Cursor<'_, (u32, K), ()>, asn: u32, place: &K)
     ensures next { IsNext K.cmp (Some place.now) (λ q. is_some (value_at (pair_cmp K.cmp) (asn, q) index.old.pairs)) result }
     ensures pairs { index.new.pairs ≡ index.old.pairs }
 {
-    match index.after((asn, *place)) {
+    match index.after(Some((asn, *place))) {
         None => None,
         Some((pair, _)) => { if pair.0 == asn { Some(pair.1) } else { None } }
     }

@@ -1,14 +1,18 @@
-ghost use Rattle.std.specs.Prelude.{◌≡◌, ◌↔◌, ◌++◌, [], IsNone, Some, option_to_list};
-ghost use Rattle.std.specs.Option.{option_map};
+ghost use Rattle.std.specs.Prelude.{◌≡◌, ◌↔◌, ◌++◌, [], IsNone, Some, true, false, option_to_list};
+ghost use Rattle.std.specs.Option.{is_some, option_map};
+ghost use Rattle.bmp_specs.specs.Orders.{nlri_cmp};
+ghost use Rattle.bmp_specs.specs.declared.wire.Family.TheVariants.{V6};
 ghost use Rattle.route_runs.specs.Cursor.{moved};
-ghost use Rattle.route_runs.specs.Origins.{least_nlri};
-ghost use Rattle.route_runs.specs.Places.{shown};
+ghost use Rattle.route_runs.specs.Nlri.{AreHalves, AreKeys, IsNlriOf};
+ghost use Rattle.route_runs.specs.Origins.{least_nlri, least_high, passes, with_origin};
+ghost use Rattle.route_runs.specs.Override.{value_at};
+ghost use Rattle.route_runs.specs.Places.{shown, IsFirst};
 
-use crate::cursor::Cursor;
-use crate::origin::first_of;
-use crate::runs::Runs;
-use ip_prefix::{Addr, Nlri, Prefix};
-use path_attrs::Attrs;
+use crate::key4::Key4;
+use crate::key6::Key6;
+use crate::origin_cursor::OriginCursor;
+use crate::table_cursor::{family_of, pair4, pair6};
+use ip_prefix::{Addr, Family, Nlri, Prefix};
 use rib_model::Route;
 use std::marker::Model;
 
@@ -16,25 +20,26 @@ use std::marker::Model;
 /// that are left. It takes no memory.
 #[derive(Drop)]
 pub struct OriginWalk<'a> {
-    pub(crate) runs: &'a Runs<Nlri, Attrs>,
-    pub(crate) index: Cursor<'a, (u32, Nlri), ()>,
+    pub(crate) low: OriginCursor<'a, Key4>,
+    pub(crate) high: OriginCursor<'a, Key6>,
     pub(crate) asn: u32,
     pub(crate) place: Nlri,
     pub(crate) at: bool,
 }
 
 impl<'a> Model for OriginWalk<'a> {
-    ghost use Rattle.std.specs.Prelude.{List, Some};
+    ghost use Rattle.std.specs.Prelude.{◌++◌, List, Some};
     ghost use Rattle.bmp_specs.specs.Orders.{nlri_cmp};
     ghost use Rattle.bmp_specs.specs.Values.{AttrsValue, NlriValue};
-    ghost use Rattle.route_runs.specs.Origins.{attrs_origin, with_origin, when, IsIndexed};
+    ghost use Rattle.route_runs.specs.Nlri.{AreHalves};
+    ghost use Rattle.route_runs.specs.Origins.{with_origin, when};
     ghost use Rattle.route_runs.specs.Walk.{left};
 
     ghost Value = { List (NlriValue × AttrsValue) };
 
-    ghost view = { λ w. left nlri_cmp (when w.at w.place) (record { pairs = with_origin w.asn w.runs.now; place = Some w.place }) };
+    ghost view = { λ w. left nlri_cmp (when w.at w.place) (record { pairs = with_origin w.asn (w.low ++ w.high); place = Some w.place }) };
 
-    ghost invariant = { λ w. IsIndexed nlri_cmp attrs_origin w.runs.now w.index.pairs };
+    ghost invariant = { λ w. AreHalves w.low w.high };
 }
 
 /// The first NLRI in their order.
@@ -44,6 +49,56 @@ pub(crate) fn least() -> Nlri
     Nlri {
         prefix: Prefix::new(Addr::v4([0; 4]), 0).unwrap(),
         id: None,
+    }
+}
+
+// The first key of IPv6.
+fn least_of_high() -> Key6
+    ensures { result ≡ least_high }
+{
+    let nlri = Nlri {
+        prefix: Prefix::new(Addr::v6([0; 16]), 0).unwrap(),
+        id: None,
+    };
+    Key6::of(&nlri)
+}
+
+// The pair of IPv4 that was found, or else the first one of IPv6 with this origin.
+fn or_first_of_high<'a>(
+    found: &Option<(Key4, &'a Route)>,
+    high: &mut OriginCursor<'a, Key6>,
+    asn: u32,
+) -> Option<(Nlri, &'a Route)>
+    requires { AreKeys (IsNlriOf V6) high.old }
+    ensures some { is_some found.now ≡ true → option_map shown result ≡ option_map shown found.now }
+    ensures none { is_some found.now ≡ false → IsFirst nlri_cmp (λ q. true) (λ q. value_at nlri_cmp q (with_origin asn high.old)) (option_map shown result) }
+    ensures same { high.new ≡ high.old }
+{
+    high.see_order();
+    if found.is_some() {
+        return pair4(found);
+    }
+    pair6(&high.first(asn, &least_of_high(), true))
+}
+
+// The first pair of both families with this origin: after a place, or from it on.
+fn first_in_both<'a>(
+    low: &mut OriginCursor<'a, Key4>,
+    high: &mut OriginCursor<'a, Key6>,
+    asn: u32,
+    place: &Nlri,
+    at: bool,
+) -> Option<(Nlri, &'a Route)>
+    requires { AreHalves low.old high.old }
+    ensures first { IsFirst nlri_cmp (passes nlri_cmp at place.now) (λ q. value_at nlri_cmp q (with_origin asn (low.old ++ high.old))) (option_map shown result) }
+    ensures low { low.new ≡ low.old }
+    ensures high { high.new ≡ high.old }
+{
+    low.see_order();
+    high.see_order();
+    match family_of(place) {
+        Family::V4 => or_first_of_high(&low.first(asn, &Key4::of(place), at), high, asn),
+        Family::V6 => pair6(&high.first(asn, &Key6::of(place), at)),
     }
 }
 
@@ -63,8 +118,10 @@ impl<'a> OriginWalk<'a> {
         ensures next { self.old ≡ option_to_list (option_map shown result) ++ self.new }
         ensures none { IsNone result ↔ (self.old ≡ []) }
     {
+        self.low.see_order();
+        self.high.see_order();
         let place = self.place;
-        let found = first_of(self.runs, &mut self.index, self.asn, &place, self.at);
+        let found = first_in_both(&mut self.low, &mut self.high, self.asn, &place, self.at);
         let last = place_after(place, &found);
         self.at = false;
         self.place = last;

@@ -1,4 +1,4 @@
-ghost use Rattle.std.specs.Prelude.{◌≡◌, ◌+◌, ◌≤◌, [], length, min, Some, IfOk, IsTrue};
+ghost use Rattle.std.specs.Prelude.{◌≡◌, ◌+◌, ◌++◌, ◌≤◌, [], length, min, Some, IfOk, IsTrue};
 ghost use Rattle.std.specs.List.{filter};
 ghost use Rattle.std.specs.List.Sorted.{IsStrictlySortedBy};
 ghost use Rattle.std.specs.Map.{keys_of};
@@ -14,15 +14,16 @@ ghost use Rattle.route_runs.specs.Runs.{shared, IsChanged};
 ghost use Rattle.route_runs.specs.Walk.{left, pairs_from};
 
 use crate::changes::Changes;
-use crate::index::with_changes;
+use crate::family::FamilyTable;
+use crate::key4::Key4;
+use crate::key6::Key6;
 use crate::listed::Listed;
 use crate::longest::longest_by_looks;
 use crate::looks::Looks;
 use crate::origin_walk::{OriginWalk, least};
-use crate::runs::Runs;
+use crate::table_cursor::{TableCursor, family_of};
 use crate::walk::{Place, Walk};
-use ip_prefix::{Addr, Nlri, Prefix};
-use path_attrs::Attrs;
+use ip_prefix::{Addr, Family, Nlri, Prefix};
 use prefix_trie::Steps;
 use rib_model::Route;
 use std::alloc::Global;
@@ -35,20 +36,20 @@ use wire_io::NoMemory;
 #[derive(Drop)]
 pub struct RouteTable {
     alloc: Global,
-    runs: Runs<Nlri, Attrs>,
-    index: Runs<(u32, Nlri), ()>,
+    low: FamilyTable<Key4>,
+    high: FamilyTable<Key6>,
 }
 
 impl Model for RouteTable {
-    ghost use Rattle.std.specs.Prelude.{List};
+    ghost use Rattle.std.specs.Prelude.{◌++◌, List};
     ghost use Rattle.bmp_specs.specs.Values.{AttrsValue, NlriValue};
-    ghost use Rattle.route_runs.specs.Origins.{IsTable};
+    ghost use Rattle.route_runs.specs.Nlri.{AreHalves};
 
     ghost Value = { List (NlriValue × AttrsValue) };
 
-    ghost view = { λ t. t.runs };
+    ghost view = { λ t. t.low ++ t.high };
 
-    ghost invariant = { λ t. IsTable t.runs t.index };
+    ghost invariant = { λ t. AreHalves t.low t.high };
 }
 
 impl RouteTable {
@@ -58,8 +59,8 @@ impl RouteTable {
     {
         RouteTable {
             alloc,
-            runs: Runs::new(alloc),
-            index: Runs::new(alloc),
+            low: FamilyTable::new(alloc),
+            high: FamilyTable::new(alloc),
         }
     }
 
@@ -69,12 +70,14 @@ impl RouteTable {
         ensures table { IfOk result (IsChanged nlri_cmp self.now changes.old) }
         ensures emptied { changes.new ≡ [] }
     {
-        let listed = std::mem::replace(&mut changes.listed, Listed::new(self.alloc));
-        let (runs, index) = with_changes(self.alloc, &self.runs, &self.index, listed)?;
+        let low = std::mem::replace(&mut changes.low, Listed::new(self.alloc));
+        let high = std::mem::replace(&mut changes.high, Listed::new(self.alloc));
+        let low = self.low.with(self.alloc, low)?;
+        let high = self.high.with(self.alloc, high)?;
         Ok(RouteTable {
             alloc: self.alloc,
-            runs,
-            index,
+            low,
+            high,
         })
     }
 
@@ -84,14 +87,18 @@ impl RouteTable {
         ensures ordered { IsStrictlySortedBy nlri_cmp (keys_of self.now) }
         ensures nlri { AreNlri self.now }
     {
-        self.runs.see_order();
+        self.low.see_order();
+        self.high.see_order();
     }
 
     /// The route of this NLRI.
     pub fn get(&self, nlri: &Nlri) -> Option<&Route>
         ensures { option_map shared result ≡ value_at nlri_cmp nlri.now self.now }
     {
-        self.runs.get(nlri)
+        match family_of(nlri) {
+            Family::V4 => self.low.get(&Key4::of(nlri)),
+            Family::V6 => self.high.get(&Key6::of(nlri)),
+        }
     }
 
     /// The longest prefix with a route that holds an address (RFC 1812, section 5.2.4.3), whatever the path
@@ -101,7 +108,8 @@ impl RouteTable {
         ensures longest { IsLongest addr.now self.now result }
         ensures cost { steps.new ≤ steps.old + width_of addr.now.family + 1 }
     {
-        longest_by_looks(&Looks::new(&self.runs), addr, steps)
+        self.see_order();
+        longest_by_looks(&Looks::new(self.low.rows(), self.high.rows()), addr, steps)
     }
 
     /// The routes from a place on, in the order of NLRI. It takes no memory.
@@ -120,7 +128,7 @@ impl RouteTable {
         ensures { result ≡ filter (λ e. is_after nlri_cmp nlri e.0) self.now }
     {
         Walk {
-            cursor: self.runs.cursor(nlri),
+            cursor: self.cursor(nlri),
             from: None,
         }
     }
@@ -130,8 +138,19 @@ impl RouteTable {
         ensures { result ≡ filter (λ e. is_from nlri_cmp nlri e.0) self.now }
     {
         Walk {
-            cursor: self.runs.cursor(None),
+            cursor: self.cursor(None),
             from: Some(nlri),
+        }
+    }
+
+    // A walk over the pairs after an NLRI, or over all.
+    fn cursor(&self, place: Option<Nlri>) -> TableCursor<'_>
+        ensures { result ≡ record { pairs = self.now; place = place } }
+    {
+        TableCursor {
+            low: self.low.rows().cursor(None),
+            high: self.high.rows().cursor(None),
+            place,
         }
     }
 
@@ -152,24 +171,22 @@ impl RouteTable {
         ensures left { result ≡ left nlri_cmp (when at place) (record { pairs = with_origin asn self.now; place = Some place }) }
         ensures nlri { AreNlri self.now }
     {
+        self.see_order();
         OriginWalk {
-            runs: &self.runs,
-            index: self.index.cursor(None),
+            low: self.low.origins(),
+            high: self.high.origins(),
             asn,
             place,
             at,
         }
     }
 
-    /// How many routes there are, or 2^64 - 1 where there are more. Where the table is one run, as after a merge with
-    /// the oldest, the rows of that run are counted; else it walks over all routes.
+    /// How many routes there are, or 2^64 - 1 where there are more. Where those of a family are one run, as after a
+    /// merge with the oldest, the rows of that run are counted; else it walks over all of them.
     pub fn count(&self) -> u64
         ensures { result ≡ min (length self.now) 18446744073709551615 }
     {
-        match self.runs.count_of_one() {
-            Some(count) => count,
-            None => self.count_by_walk(),
-        }
+        self.low.count().saturating_add(self.high.count())
     }
 
     /// Whether it is known at once that there is no route. A table whose last route is withdrawn may still have runs,
@@ -177,31 +194,19 @@ impl RouteTable {
     pub fn is_bare(&self) -> bool
         ensures { IsTrue result → self.now ≡ [] }
     {
-        self.runs.is_bare()
-    }
-
-    // How many routes a walk over all of them gives.
-    fn count_by_walk(&self) -> u64
-        ensures { result ≡ min (length self.now) 18446744073709551615 }
-    {
-        let mut walk = self.walk(Place::First);
-        let mut count = 0u64;
-        while walk.next().is_some() {
-            count = count.saturating_add(1);
-        }
-        count
+        self.low.is_bare() && self.high.is_bare()
     }
 
     /// An equal table, for the price of a counter for each run.
     pub fn share(&self) -> Result<RouteTable, NoMemory>
         ensures { IfOk result (λ copy. copy ≡ self.now) }
     {
-        let runs = self.runs.share(self.alloc)?;
-        let index = self.index.share(self.alloc)?;
+        let low = self.low.share(self.alloc)?;
+        let high = self.high.share(self.alloc)?;
         Ok(RouteTable {
             alloc: self.alloc,
-            runs,
-            index,
+            low,
+            high,
         })
     }
 }

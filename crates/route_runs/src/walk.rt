@@ -2,9 +2,8 @@ ghost use Rattle.std.specs.Prelude.{◌≡◌, ◌↔◌, ◌++◌, [], IsNone, 
 ghost use Rattle.std.specs.Option.{option_map};
 ghost use Rattle.route_runs.specs.Places.{shown};
 
-use crate::cursor::Cursor;
+use crate::table_cursor::TableCursor;
 use ip_prefix::Nlri;
-use path_attrs::Attrs;
 use rib_model::Route;
 use std::marker::Model;
 
@@ -25,7 +24,7 @@ pub enum Place {
 /// memory.
 #[derive(Drop)]
 pub struct Walk<'a> {
-    pub(crate) cursor: Cursor<'a, Nlri, Attrs>,
+    pub(crate) cursor: TableCursor<'a>,
     pub(crate) from: Option<Nlri>,
 }
 

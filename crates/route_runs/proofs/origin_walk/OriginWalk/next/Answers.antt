@@ -1,14 +1,24 @@
+use Rattle.std.proofs.Common.{◌++◌, ◌∙◌, None, option_to_list, ap, sym}
 use Rattle.std.specs.Option.{option_map}
+use Rattle.bmp_specs.specs.Orders.{nlri_cmp}
 use Rattle.route_runs.specs.Places.{shown}
+use Rattle.route_runs.specs.Walk.{left}
+use Rattle.route_runs.proofs.Halves.{rising_cat}
 use Rattle.route_runs.proofs.Left.{none_exactly}
-use Rattle.route_runs.proofs.WithOrigin.{origin_next, origin_ended}
+use Rattle.route_runs.proofs.WithOrigin.{origin_next, origin_ended, walking}
 use Rattle.route_runs.proofs.origin_walk.OriginWalk.next.Goals as goal
 
 pub returns-clause-next : goal.returns-clause-next
 returns-clause-next c =
-    origin_next c.self.inside.asn c.self.inside.runs.now c.args.self.now c.first_of-found.ensures.ordered c.self.inside.place (option_map shown c.first_of-found.result) c.self.inside.at c.place_after-last.result c.self.view_is c.first_of-found.ensures.first c.place_after-last.ensures
+    let es = c.self.inside.low in
+    let fs = c.self.inside.high in
+    origin_next c.self.inside.asn (es ++ fs) c.args.self.now (rising_cat es fs c.self.invariant c.see_order.ensures c.see_order-2.ensures) c.self.inside.place (option_map shown c.first_in_both-found.result) c.self.inside.at c.place_after-last.result c.self.view_is c.first_in_both-found.ensures.first c.place_after-last.ensures
+    ∙ ap (λ l. option_to_list (option_map shown c.first_in_both-found.result) ++ left nlri_cmp None (walking c.self.inside.asn c.place_after-last.result l))
+    (sym (ap (λ l. l ++ c.first_in_both-found.new.high) c.first_in_both-found.ensures.low ∙ ap (λ l. es ++ l) c.first_in_both-found.ensures.high))
 
 pub returns-clause-none : goal.returns-clause-none
 returns-clause-none c =
-    none_exactly shown c.first_of-found.result c.args.self.now _ (returns-clause-next c)
-    (origin_ended c.self.inside.asn c.self.inside.runs.now c.args.self.now c.first_of-found.ensures.ordered c.self.inside.place (option_map shown c.first_of-found.result) c.self.inside.at c.self.view_is c.first_of-found.ensures.first)
+    let es = c.self.inside.low in
+    let fs = c.self.inside.high in
+    none_exactly shown c.first_in_both-found.result c.args.self.now _ (returns-clause-next c)
+    (origin_ended c.self.inside.asn (es ++ fs) c.args.self.now (rising_cat es fs c.self.invariant c.see_order.ensures c.see_order-2.ensures) c.self.inside.place (option_map shown c.first_in_both-found.result) c.self.inside.at c.self.view_is c.first_in_both-found.ensures.first)

@@ -1,4 +1,4 @@
-use Rattle.std.proofs.Common.{◌∙◌, map, ap, sym, Some}
+use Rattle.std.proofs.Common.{◌∙◌, map, ap, sym}
 use Rattle.std.specs.Arc.{arc_value}
 use Rattle.std.specs.Option.{option_map}
 use Rattle.route_runs.specs.Override.{value_at}
@@ -11,5 +11,5 @@ use Rattle.route_runs.proofs.runs.Runs.last_before.Goals as goal
 pub returns : goal.returns
 returns g c =
     let cmp = g.K.Ord.cmp in
-    first_ext (turned cmp) (is_after (turned cmp) (Some c.args.place.now)) _ (λ q. value_at cmp q c.args.self.now) (option_map shown c.last_live.result)
+    first_ext (turned cmp) (is_after (turned cmp) c.args.place) _ (λ q. value_at cmp q c.args.self.now) (option_map shown c.last_live.result)
     (λ q. ap (value_at cmp q) (sym c.self.view_is) ∙ value-contents cmp g.met.K.Ord.total g.met.K.RunKey.exact q (map arc_value c.self.inside.runs.items) ∙ ap (λ l. seen (latest cmp q (map arc_value l))) (sym c.as_slice.ensures.value)) c.last_live.ensures
