@@ -10,13 +10,16 @@ use router_tables::RouterTables;
 use station_doors::SurePort;
 use std::alloc::Global;
 use std::marker::PhantomData;
+use std::rt::Clock;
 use std::sync::Wait;
 use std::thread;
 use std::thread::Threads;
+use std::time::Instant;
 use wire_io::ByteList;
 
 /// What lanes come to: how many entries they published and how many of these were messages, how many turns their
-/// clients had, the greatest revision that one of these saw last, and how many versions they kept.
+/// clients had, the greatest revision that one of these saw last, and how many versions they kept; and when the last of
+/// them had published its connection.
 #[derive(Clone, Copy)]
 pub struct Outcome {
     pub entries: u64,
@@ -24,6 +27,7 @@ pub struct Outcome {
     pub turns: u64,
     pub revision: u64,
     pub kept: u64,
+    pub published: Option<Instant>,
 }
 
 impl Outcome {
@@ -34,6 +38,7 @@ impl Outcome {
         turns: 0,
         revision: 0,
         kept: 0,
+        published: None,
     };
 
     // What these lanes and others come to.
@@ -44,28 +49,30 @@ impl Outcome {
             turns: self.turns.saturating_add(other.turns),
             revision: self.revision.max(other.revision),
             kept: self.kept.saturating_add(other.kept),
+            published: self.published.max(other.published),
         }
     }
 }
 
 /// A lane that has one connection to take, and its client. It is of the station `J`.
 #[derive(Drop)]
-pub struct Lane<J: Naming> {
+pub struct Lane<'a, J: Naming, R> {
     pass: FeedPass<RouterTables>,
-    port: LanePort<Watch>,
+    port: LanePort<Watch<'a, R>>,
     station: PhantomData<J>,
     ghost of: { pass.station ≡ J.site },
 }
 
 /// A lane for each pass, with this one connection, which it takes in reads of at most so many bytes.
-pub fn lanes_of<J: Naming>(
+pub fn lanes_of<'a, J: Naming, R: Clock>(
+    rt: &'a R,
     alloc: Global,
     feeds: &mut FeedList<RouterTables>,
     asks: &mut AskList<RouterTables>,
     connection: &[ByteList; 1],
     client: Client,
     piece: u32,
-) -> Option<Vec<Lane<J>>>
+) -> Option<Vec<Lane<'a, J, R>>>
     requires feeds { AreFeedsOf J.site feeds.old }
     requires piece { 0 < piece }
 {
@@ -76,7 +83,7 @@ pub fn lanes_of<J: Naming>(
         lanes
             .push(Lane {
                 pass,
-                port: LanePort::new(Watch::new(alloc, port, client, asker)),
+                port: LanePort::new(Watch::new(rt, alloc, port, client, asker)),
                 station: PhantomData,
             })
             .ok()?;
@@ -84,9 +91,9 @@ pub fn lanes_of<J: Naming>(
     Some(lanes)
 }
 
-impl<J: Naming> Lane<J> {
+impl<'a, J: Naming, R: Wait + Clock> Lane<'a, J, R> {
     // Takes the connection. None for want of memory.
-    fn serve<R: Wait>(
+    fn serve(
         self,
         rt: &R,
         alloc: Global,
@@ -100,11 +107,14 @@ impl<J: Naming> Lane<J> {
         if pass.count() > 0 {
             return None;
         }
-        let end = serve_feed::<Reading, Watch, J, R>(rt, alloc, publisher, &mut pass, &mut port, 1);
+        let end = serve_feed::<Reading, Watch<'a, R>, J, R>(
+            rt, alloc, publisher, &mut pass, &mut port, 1,
+        );
         if end == LaneEnd::NoMemory {
             return None;
         }
-        let (turns, revision, kept) = port.into_port().seen();
+        let watch = port.into_port();
+        let (turns, revision, kept) = watch.seen();
         Some(Outcome {
             entries: pass.count(),
             // without the opening and the closing
@@ -112,22 +122,24 @@ impl<J: Naming> Lane<J> {
             turns,
             revision,
             kept: kept as u64,
+            published: watch.closed(),
         })
     }
 }
 
 /// Takes the connections of all lanes at once. None for want of memory.
-pub fn serve_all<J: Naming + Send + Sync, R: Threads + Wait + Sync>(
+pub fn serve_all<J: Naming + Send + Sync, R: Threads + Wait + Clock + Sync>(
     rt: &R,
     alloc: Global,
     publisher: &Publisher<RouterTables, J>,
-    lanes: Vec<Lane<J>>,
+    lanes: Vec<Lane<J, R>>,
 ) -> Option<Outcome> {
     let outcomes = thread::map_vec(
         rt,
         lanes,
-        &|lane: Lane<J>| lane.serve(rt, alloc, publisher),
-    ).ok()?;
+        &|lane: Lane<J, R>| lane.serve(rt, alloc, publisher),
+    )
+    .ok()?;
     let mut all = Outcome::NONE;
     for outcome in outcomes.as_slice() {
         all = all.and((*outcome)?);

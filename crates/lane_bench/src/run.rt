@@ -50,8 +50,13 @@ fn no_memory() -> io::Error {
 /// the revision that it saw last, and how many versions it kept.
 ///
 /// Where the number of lanes is given, from 1 to 64, each of them takes the input so at once with the others, beside a
-/// client of its own. Then the numbers are those of all, and the greatest revision; and how long the lanes took is
-/// printed, in microseconds, and how many messages they published in a second.
+/// client of its own. Then the numbers are those of all, and the greatest revision; and it prints these times, in
+/// microseconds, and how many messages the lanes published in a second of the second.
+///
+/// | Time | From the start of the lanes until |
+/// |---|---|
+/// | `microseconds` | all are done: each has published that its connection closed, and let go of its tables |
+/// | `taken` | the last of them has published all that its connection gave |
 pub fn run<I: Read + Drop, R: Threads + Wait + Clock + Print + Sync>(
     rt: &R,
     alloc: Global,
@@ -63,23 +68,35 @@ pub fn run<I: Read + Drop, R: Threads + Wait + Clock + Print + Sync>(
     let connection = [read_all(alloc, input)?];
     let piece = piece.unwrap_or(READ as u32).max(1);
     let count = lanes.unwrap_or(1).clamp(1, MOST_LANES);
-    let (outcome, spent) = outcome_of(rt, alloc, connection, client, piece, count)?;
+    let (outcome, times) = outcome_of(rt, alloc, connection, client, piece, count)?;
     println!(rt; "entries {}", outcome.entries)?;
     println!(rt; "turns {}", outcome.turns)?;
     println!(rt; "revision {}", outcome.revision)?;
     println!(rt; "kept {}", outcome.kept)?;
     if lanes.is_some() {
-        print_pace(rt, outcome.messages, spent)?;
+        print_times(rt, outcome.messages, times)?;
     }
     Ok(())
 }
 
+// How long lanes took: until all were done, and until all that their connections gave was published.
+#[derive(Clone, Copy)]
+struct Times {
+    done: Duration,
+    taken: Duration,
+}
+
 // How long the lanes took, and how many messages they published in a second.
-fn print_pace<R: Print>(rt: &R, messages: u64, spent: Duration) -> io::Result<()> {
-    let micros = spent.as_micros().min(u128::from(u64::MAX)) as u64;
-    let pace = messages.saturating_mul(1_000_000) / micros.max(1);
-    println!(rt; "microseconds {micros}")?;
+fn print_times<R: Print>(rt: &R, messages: u64, times: Times) -> io::Result<()> {
+    let taken = micros(times.taken);
+    let pace = messages.saturating_mul(1_000_000) / taken.max(1);
+    println!(rt; "microseconds {}", micros(times.done))?;
+    println!(rt; "taken {taken}")?;
     println!(rt; "messages_per_second {pace}")
+}
+
+fn micros(time: Duration) -> u64 {
+    time.as_micros().min(u128::from(u64::MAX)) as u64
 }
 
 // What the lanes have until they publish.
@@ -98,7 +115,7 @@ fn outcome_of<R: Threads + Wait + Clock + Sync>(
     client: Client,
     piece: u32,
     lanes: u32,
-) -> io::Result<(Outcome, Duration)>
+) -> io::Result<(Outcome, Times)>
     requires piece { 0 < piece }
     requires lanes { (0 < lanes) × (lanes ≤ 64) }
 {
@@ -116,7 +133,7 @@ fn outcome_in<J: Naming + Send + Sync, R: Threads + Wait + Clock + Sync>(
     connection: [ByteList; 1],
     client: Client,
     piece: u32,
-) -> io::Result<(Outcome, Duration)>
+) -> io::Result<(Outcome, Times)>
     requires named { station.publisher.station ≡ J.site }
     requires opened { (lanes : ℕ) × IsOpened lanes lanes station.publisher station.feeds station.asks }
     requires piece { 0 < piece }
@@ -127,7 +144,7 @@ fn outcome_in<J: Naming + Send + Sync, R: Threads + Wait + Clock + Sync>(
         mut asks,
     } = station;
     let publisher = name::<RouterTables, J, R>(rt, publisher, &mut asks);
-    let lanes = lanes_of::<J>(alloc, &mut feeds, &mut asks, &connection, client, piece);
+    let lanes = lanes_of::<J, R>(rt, alloc, &mut feeds, &mut asks, &connection, client, piece);
     drop(connection);
     let start = Instant::now(rt);
     let outcome = match lanes {
@@ -135,9 +152,12 @@ fn outcome_in<J: Naming + Send + Sync, R: Threads + Wait + Clock + Sync>(
         None => None,
     };
     publisher.close(rt);
-    let spent = start?.elapsed(rt)?;
-    match outcome {
-        Some(outcome) => Ok((outcome, spent)),
-        None => Err(no_memory()),
-    }
+    let start = start?;
+    let done = start.elapsed(rt)?;
+    let outcome = outcome.ok_or(no_memory())?;
+    let published = outcome
+        .published
+        .ok_or(io::Error::from(io::ErrorKind::Other))?;
+    let taken = published.saturating_duration_since(start);
+    Ok((outcome, Times { done, taken }))
 }

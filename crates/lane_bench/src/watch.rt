@@ -7,6 +7,8 @@ use cut_publisher::{AskPass, snapshot};
 use router_tables::RouterTables;
 use station_doors::{Port, SurePort};
 use std::alloc::Global;
+use std::rt::Clock;
+use std::time::Instant;
 use wire_io::Failed;
 
 /// One of so many versions is kept.
@@ -24,36 +26,48 @@ pub enum Client {
     Keeps,
 }
 
-/// A port of a lane that is watched: before each read, thus after each publication, its client has its turn.
+/// A port of a lane that is watched: before each read, thus after each publication, its client has its turn. Where the
+/// connection is closed it looks at the clock.
 #[derive(Drop)]
-pub struct Watch {
+pub struct Watch<'a, R> {
+    rt: &'a R,
     port: SurePort,
     client: Client,
     asker: AskPass<RouterTables>,
     turns: u64,
     kept: Vec<RouterTables>,
+    closed: Option<Instant>,
 }
 
-impl Watch {
+impl<'a, R: Clock> Watch<'a, R> {
     /// Watches the port.
     pub fn new(
+        rt: &'a R,
         alloc: Global,
         port: SurePort,
         client: Client,
         asker: AskPass<RouterTables>,
-    ) -> Watch {
+    ) -> Watch<'a, R> {
         Watch {
+            rt,
             port,
             client,
             asker,
             turns: 0,
             kept: Vec::new(alloc),
+            closed: None,
         }
     }
 
     /// How many turns the client had, what revision it saw last, and how many versions it kept.
     pub fn seen(&self) -> (u64, u64, usize) {
         (self.turns, self.asker.cut().rev(), self.kept.len())
+    }
+
+    /// When the last connection was closed. A lane closes it once all of it is published, before it publishes that it
+    /// closed. None before, or where the clock failed.
+    pub fn closed(&self) -> Option<Instant> {
+        self.closed
     }
 
     // The client's turn. Where no memory is left it keeps nothing.
@@ -84,7 +98,7 @@ fn keep(asker: &AskPass<RouterTables>, kept: &mut Vec<RouterTables>) {
     }
 }
 
-impl Port for Watch {
+impl<'a, R: Clock> Port for Watch<'a, R> {
     ghost aside = { λ w. w.port.shows };
 
     ghost calls = { λ w. w.port.reads };
@@ -106,6 +120,7 @@ impl Port for Watch {
     }
 
     fn close(&mut self) {
+        self.closed = Instant::now(self.rt).ok();
         self.port.close();
     }
 }
