@@ -13,12 +13,25 @@
 #   asks       the same, with a client that takes a snapshot after each publication
 #   keeps      the same, with a client that also keeps every tenth of these for ever
 #
-# A ratio is that of least processor times to OTHER's: below 1 ours is the faster. Bytes are of peak memory, by the
-# `time` of GNU.
+# Each number of a line is the least of the rounds, in milliseconds, and a ratio is to OTHER's number: below 1 ours is the
+# faster.
+#
+#   published   the clock's time of ours from the start of the lane until it closes its connection, when all of the stream
+#               is published, with the client's turns. Neither the reading of the stream into memory, which comes before,
+#               nor the closing, with which the lane lets go of its whole table, is in it. It is that of a quiet machine:
+#               beside other work the clock counts the waiting too
+#   with reading and letting go
+#               the processor time of our whole run, which holds both
+#   other       the processor time of OTHER's whole run, with its reading, and with the letting go of its table if it does
+#               that: a program may end without
+#
+# Bytes are of peak memory, by the `time` of GNU.
 #
 # Then the stream of a lane of a drill with MESSAGES messages (100,000) is taken by one lane, and by LANES lanes (64) at
 # once, each with a copy of it and a client of its own. The pace of lanes is how many messages they publish in a second of
-# the clock, the greatest of the runs, without the time that reading the stream takes.
+# the clock, the greatest of the runs, from the start of the lanes until the last of them closes its connection; and with
+# the letting go, until all lanes have let go of their tables too. Reading the stream is in neither. They too are those of a
+# quiet machine.
 set -euo pipefail
 
 other=${1:?usage: bench/lanes.sh OTHER [PREFIXES]}
@@ -36,14 +49,19 @@ measure() {
     for _ in $(seq "$rounds"); do
         spend "$order.other" "$other" replay count
         for client in quiet asks keeps; do
-            run "$order.$client" "$client"
+            run "$order.$client" "$client" 65536 1
+            said "$order.$client" taken >>"$work/$order.$client.taken"
         done
     done
     echo "$order: $(said "$order.quiet" entries) entries, $(stat -c %s "$input") bytes, $(said "$order.quiet" turns) publications"
     for client in quiet asks keeps; do
-        awk -v c="$client" -v a="$(least "$order.$client")" -v b="$(least "$order.other")" -v m="$(peak "$order.$client")" \
-            -v n="$(peak "$order.other")" -v k="$(said "$order.$client" kept)" \
-            'BEGIN { printf "  %s %d ms, other %d, ratio %.2f; %d KiB, other %d; %d versions kept\n", c, a, b, a / b, m, n, k }'
+        awk -v c="$client" -v t="$(least "$order.$client.taken")" -v a="$(least "$order.$client")" \
+            -v b="$(least "$order.other")" -v m="$(peak "$order.$client")" -v n="$(peak "$order.other")" \
+            -v k="$(said "$order.$client" kept)" \
+            'BEGIN {
+                printf "  %s published %.0f ms, ratio %.2f; with reading and letting go %d ms, ratio %.2f; ", c, t / 1000, t / 1000 / b, a, a / b
+                printf "other %d ms; %d KiB, other %d; %d versions kept\n", b, m, n, k
+            }'
     done
 }
 
@@ -57,8 +75,15 @@ done
 "$streams" stream 7 0 1000000 >"$work/stream"
 measure drill
 
-# The greatest pace of the runs of a name.
-pace() { sort -n "$work/$1.pace" | tail -n 1; }
+# Appends the pace of what a run said to the file of its name, and its pace with the letting go.
+note_pace() {
+    awk '$1 == "microseconds" { all = $2 } $1 == "taken" { taken = $2 } $1 == "messages_per_second" { pace = $2 }
+        END { printf "%d %d\n", pace, pace * taken / all }' "$work/$1.said" >>"$work/$1.pace"
+}
+
+# The greatest pace of the runs of a name, and with the letting go.
+pace() { awk '$1 > most { most = $1 } END { print most }' "$work/$1.pace"; }
+pace_of_all() { awk '$2 > most { most = $2 } END { print most }' "$work/$1.pace"; }
 
 lanes=${LANES:-64}
 input=$work/stream
@@ -68,9 +93,13 @@ for client in quiet asks keeps; do
     for _ in $(seq "$rounds"); do
         for number in 1 "$lanes"; do
             run "$client.$number" "$client" 65536 "$number"
-            said "$client.$number" messages_per_second >>"$work/$client.$number.pace"
+            note_pace "$client.$number"
         done
     done
-    awk -v c="$client" -v a="$(pace "$client.1")" -v b="$(pace "$client.$lanes")" -v n="$lanes" -v m="$(peak "$client.$lanes")" \
-        'BEGIN { printf "  %s one lane %d messages a second, %d lanes %d, ratio %.2f; %d KiB\n", c, a, n, b, b / a, m }'
+    awk -v c="$client" -v n="$lanes" -v a="$(pace "$client.1")" -v b="$(pace "$client.$lanes")" \
+        -v d="$(pace_of_all "$client.1")" -v e="$(pace_of_all "$client.$lanes")" -v m="$(peak "$client.$lanes")" \
+        'BEGIN {
+            printf "  %s one lane %d messages a second, %d lanes %d, ratio %.2f; ", c, a, n, b, b / a
+            printf "with the letting go %d and %d, ratio %.2f; %d KiB\n", d, e, e / d, m
+        }'
 done

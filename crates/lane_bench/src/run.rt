@@ -50,13 +50,13 @@ fn no_memory() -> io::Error {
 /// the revision that it saw last, and how many versions it kept.
 ///
 /// Where the number of lanes is given, from 1 to 64, each of them takes the input so at once with the others, beside a
-/// client of its own. Then the numbers are those of all, and the greatest revision; and it prints these times, in
-/// microseconds, and how many messages the lanes published in a second of the second.
+/// client of its own. Then the numbers are those of all, and the greatest revision; and it prints two times, in
+/// microseconds, and by the second of them how many messages the lanes published in a second.
 ///
 /// | Time | From the start of the lanes until |
 /// |---|---|
 /// | `microseconds` | all are done: each has published that its connection closed, and let go of its tables |
-/// | `taken` | the last of them has published all that its connection gave |
+/// | `taken` | the last of them has published all messages of its connection |
 pub fn run<I: Read + Drop, R: Threads + Wait + Clock + Print + Sync>(
     rt: &R,
     alloc: Global,
