@@ -13,7 +13,7 @@
 #   asks       the same, with a client that takes a snapshot after each publication
 #   keeps      the same, with a client that also keeps every tenth of these for ever
 #
-# Each number of a line is the least of the rounds, in milliseconds, and a ratio is to OTHER's number: below 1 ours is the
+# Each time of a line is the least of the rounds, in milliseconds, and a ratio is to that of OTHER: below 1 ours is the
 # faster.
 #
 #   published   the clock's time of ours from the start of the lane until it closes its connection, when all of the stream
