@@ -72,6 +72,33 @@ fn is_answered(
     Some(count == 1 && link.taken() == reply)
 }
 
+// The same of a client whose first piece has so many bytes.
+fn is_answered_in_two(
+    alloc: Global,
+    asker: &mut Asker,
+    bytes: &ByteList,
+    first: u32,
+    reply: &[u8],
+) -> Option<bool>
+    requires { 0 < first }
+    ensures { asker.new.station ≡ asker.old.station }
+{
+    is_answered(alloc, asker, bytes, &[first], reply)
+}
+
+// The same of a client that sends byte by byte.
+fn is_answered_byte_by_byte(
+    alloc: Global,
+    asker: &mut Asker,
+    bytes: &ByteList,
+    reply: &[u8],
+) -> Option<bool>
+    ensures { asker.new.station ≡ asker.old.station }
+{
+    let ones = vec![in alloc; 1u32; 1040].ok()?;
+    is_answered(alloc, asker, bytes, ones.as_slice(), reply)
+}
+
 const ROWS: u32 = 16;
 
 // How many times `x`, and what follows; and the reply.
@@ -114,15 +141,14 @@ fn lines_are_answered(rt: HostRuntime) -> Result<(), Fail> {
     let tables = no_tables(alloc).ok_or("no tables")?;
     let station = open_station(alloc, tables, 1, 1)?;
     let mut asker = asker::<Brand, _>(&rt, station).ok_or("no asker")?;
-    let ones = vec![in alloc; 1u32; 1040]?;
     for row in 0..ROWS {
         let (count, text, reply) = worked(row);
         let bytes = sent(alloc, count, text).ok_or("no bytes")?;
         for first in 1..1030u32 {
-            let answered = is_answered(alloc, &mut asker, &bytes, &[first], reply);
+            let answered = is_answered_in_two(alloc, &mut asker, &bytes, first, reply);
             assert_eq!(rt; answered, Some(true), "row {row}, first piece {first}");
         }
-        let answered = is_answered(alloc, &mut asker, &bytes, ones.as_slice(), reply);
+        let answered = is_answered_byte_by_byte(alloc, &mut asker, &bytes, reply);
         assert_eq!(rt; answered, Some(true), "row {row}, byte by byte");
     }
     Ok(())
