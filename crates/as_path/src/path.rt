@@ -10,11 +10,11 @@ use crate::segment::Segment;
 use bmp_specs::SegmentKind;
 use std::alloc::Global;
 use std::marker::Model;
-use wire_io::{NoMemory, Unplaced};
+use wire_io::{List, NoMemory, Unplaced};
 
 // Appends copies of the segments.
-fn append(segments: &mut Vec<Segment>, more: &[Segment]) -> Result<(), NoMemory>
-    ensures { OnOk result (segments.new.items ≡ segments.old.items ++ more.now) }
+fn append(segments: &mut List<Segment>, more: &[Segment]) -> Result<(), NoMemory>
+    ensures { OnOk result (segments.new ≡ segments.old ++ more.now) }
 {
     for segment in more {
         segments.push(segment.copy()?)?;
@@ -29,19 +29,20 @@ fn is_confederation(kind: SegmentKind) -> bool
     matches!(kind, SegmentKind::ConfedSequence | SegmentKind::ConfedSet)
 }
 
-/// An AS path: a list of path segments (RFC 4271, section 4.3). It keeps its allocator.
+/// An AS path: a list of path segments (RFC 4271, section 4.3). It keeps its allocator. A path of one segment takes
+/// memory for the segment's numbers alone.
 #[derive(Debug, Drop)]
 pub struct AsPath {
-    segments: Vec<Segment>,
+    segments: List<Segment>,
 }
 
 impl Model for AsPath {
-    ghost use Rattle.std.specs.Prelude.{List};
+    ghost use Rattle.std.specs.Prelude.{List as Segments};
     ghost use Rattle.bmp_specs.specs.Values.{SegmentValue};
 
-    ghost Value = { List SegmentValue };
+    ghost Value = { Segments SegmentValue };
 
-    ghost view = { λ path. path.segments.items };
+    ghost view = { λ path. path.segments };
 }
 
 impl AsPath {
@@ -50,7 +51,7 @@ impl AsPath {
         ensures { result ≡ [] }
     {
         AsPath {
-            segments: Vec::new(alloc),
+            segments: List::new(alloc),
         }
     }
 
@@ -60,10 +61,7 @@ impl AsPath {
         ensures err { OnErr result (self.new ≡ self.old) }
         ensures handed_back { IfErr result (λ unplaced. unplaced ≡ Unplaced.NoMemory item) }
     {
-        match self.segments.push(item) {
-            Ok(()) => Ok(()),
-            Err(failed) => Err(Unplaced::NoMemory { item: failed.value }),
-        }
+        self.segments.push(item)
     }
 
     /// Takes out the last segment. `None` exactly where the path is empty.
@@ -85,7 +83,7 @@ impl AsPath {
     pub fn copy(&self) -> Result<AsPath, NoMemory>
         ensures { IfOk result (λ copy. copy ≡ self.now) }
     {
-        let mut segments = Vec::with_capacity(*self.segments.allocator(), self.segments.len())?;
+        let mut segments = self.segments.as_large()?;
         append(&mut segments, self.segments.as_slice())?;
         Ok(AsPath { segments })
     }
@@ -103,7 +101,7 @@ impl AsPath {
     pub fn origin(&self) -> Option<u32>
         ensures { result ≡ path_origin self.now }
     {
-        let last = self.segments.last()?;
+        let last = self.segments.as_slice().last()?;
         match last.kind {
             SegmentKind::Sequence => last.numbers.as_slice().last().copied(),
             _ => None,

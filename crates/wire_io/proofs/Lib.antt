@@ -1,3 +1,4 @@
 pub mod Joins
 pub mod Buffered
 pub mod Faults
+pub mod Called

@@ -2,6 +2,7 @@ ghost use Rattle.std.specs.Prelude.{◌≡◌, refl};
 ghost use Rattle.std.proofs.Common.{rules};
 
 use recent_ring::{Keep, Recent};
+use std::alloc::Global;
 use std::process::Abort;
 use std::test::Fail;
 use wire_io::NoMemory;
@@ -81,5 +82,50 @@ fn copies_go_on_apart(rt: HostRuntime) -> Result<(), Fail> {
         shows(&rt, &ring, total, kept, total.saturating_sub(kept));
         ring = copy;
     }
+    Ok(())
+}
+
+// The items with these numbers.
+fn items(alloc: Global, from: u64, to: u64) -> Result<Vec<Item>, NoMemory> {
+    let mut list = Vec::new(alloc);
+    for place in from..to {
+        list.push(Item(place))?;
+    }
+    Ok(list)
+}
+
+#[test]
+fn many_items_at_once(rt: HostRuntime) -> Result<(), Fail> {
+    let mut ring = Recent::new(rt.alloc())?;
+    ring.push(Item(0));
+    // pieces on end, with single items between, and pieces that fill the ring
+    for (passed, count) in [
+        (0u64, 64u64),
+        (0, 500),
+        (0, 0),
+        (0, 1023),
+        (0, 70),
+        (0, 1024),
+        (300, 1024),
+        (7, 1100),
+        (0, 66),
+    ] {
+        let total = ring.total();
+        let first = total.saturating_add(passed);
+        let more = first.saturating_add(count);
+        let longer = ring.with_last(passed, items(rt.alloc(), first, more)?)?;
+        let kept = more.min(1024);
+        shows(&rt, shared(&longer), more, kept, more.saturating_sub(kept));
+        let kept = total.min(1024);
+        shows(&rt, &ring, total, kept, total.saturating_sub(kept));
+        ring = longer;
+        ring.push(Item(more));
+    }
+    // fewer than 1,024 items have none passed over before them
+    let few = ring.with_last(
+        5,
+        items(rt.alloc(), ring.total(), ring.total().saturating_add(9))?,
+    )?;
+    assert_eq!(rt; few.total(), ring.total().saturating_add(9));
     Ok(())
 }

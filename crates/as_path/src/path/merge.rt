@@ -8,7 +8,7 @@ use crate::path::{AsPath, append};
 use crate::segment::Segment;
 use bmp_specs::SegmentKind;
 use std::alloc::Global;
-use wire_io::NoMemory;
+use wire_io::{List, NoMemory};
 
 // What the leading part of a path takes of one segment.
 enum Taken {
@@ -44,11 +44,11 @@ fn take_part(left: u128, segment: &Segment) -> Taken
 // Appends the leading part of the segments, of so many AS numbers.
 fn append_lead(
     alloc: Global,
-    path: &mut Vec<Segment>,
+    path: &mut List<Segment>,
     count: u128,
     segments: &[Segment],
 ) -> Result<(), NoMemory>
-    ensures { OnOk result (path.new.items ≡ path.old.items ++ lead count segments.now) }
+    ensures { OnOk result (path.new ≡ path.old ++ lead count segments.now) }
 {
     let mut left = count;
     for segment in segments {
@@ -84,8 +84,8 @@ impl AsPath {
         if ours < theirs {
             return short.copy();
         }
-        let room = short.segments.len().saturating_add(long.segments.len());
-        let mut segments = Vec::with_capacity(alloc, room)?;
+        let room = short.as_slice().len().saturating_add(long.as_slice().len());
+        let mut segments = List::with_capacity(alloc, room)?;
         append_lead(alloc, &mut segments, ours - theirs, short.as_slice())?;
         append(&mut segments, long.as_slice())?;
         Ok(AsPath { segments })

@@ -1,4 +1,4 @@
-ghost use Rattle.std.specs.Prelude.{◌≡◌, ◌≤◌, ◌*◌, ◌↔◌, ℕ, List, length, IsTrue, IfSome, IfNone, IfOk, IsErrOf};
+ghost use Rattle.std.specs.Prelude.{◌≡◌, ◌≤◌, ◌*◌, ◌↔◌, ℕ, List as Listed, length, IsTrue, IfSome, IfNone, IfOk, IsErrOf};
 ghost use Rattle.bmp_specs.specs.AsPath.{as_width, IsAsNumber, AreAsNumbers, ArePath};
 ghost use Rattle.bmp_specs.specs.Values.{SegmentValue};
 ghost use Rattle.as_path.specs.Reading.{HasHeader};
@@ -9,7 +9,7 @@ use crate::segment::Segment;
 use bmp_specs::{SegmentKind, Width};
 use byteorder::{BigEndian, ByteOrder};
 use std::alloc::Global;
-use wire_io::{BodyFault, NoMemory};
+use wire_io::{BodyFault, List, NoMemory};
 
 // "path segment type" (RFC 4271, section 4.3; RFC 5065, section 3).
 const AS_SET: u8 = 1;
@@ -70,9 +70,9 @@ pub(super) fn header(width: Width, bytes: &[u8]) -> Option<(SegmentKind, u8)>
 // How many segments the path has that the bytes are. `None` exactly where they are no list of segments. It looks at the
 // header of each segment once.
 fn segment_count(width: Width, bytes: &[u8]) -> Option<usize>
-    ensures some { IfSome result (λ count. (path : List SegmentValue) × ArePath width bytes.now path × (count ≡ length path)) }
+    ensures some { IfSome result (λ count. (path : Listed SegmentValue) × ArePath width bytes.now path × (count ≡ length path)) }
     ensures within { IfSome result (λ count. count ≤ length bytes.now) }
-    ensures none { IfNone result ((path : List SegmentValue) → ArePath width bytes.now path → ⊥) }
+    ensures none { IfNone result ((path : Listed SegmentValue) → ArePath width bytes.now path → ⊥) }
 {
     let mut found = 0;
     let mut rest = bytes;
@@ -110,12 +110,12 @@ impl AsPath {
     /// linear in the bytes, and all memory is taken with its final size.
     pub fn read(alloc: Global, value: &[u8], width: Width) -> Result<AsPath, BodyFault>
         ensures ok { IfOk result (λ path. ArePath width value.now path) }
-        ensures broken { IsErrOf result BodyFault.Broken → (path : List SegmentValue) → ArePath width value.now path → ⊥ }
+        ensures broken { IsErrOf result BodyFault.Broken → (path : Listed SegmentValue) → ArePath width value.now path → ⊥ }
     {
         let Some(found) = segment_count(width, value) else {
             return Err(BodyFault::Broken);
         };
-        let mut segments = Vec::with_capacity(alloc, found)?;
+        let mut segments = List::with_capacity(alloc, found)?;
         let mut rest = value;
         while let Some((kind, count)) = header(width, rest) {
             let count = count as usize;
@@ -132,7 +132,7 @@ impl AsPath {
     /// four bytes (RFC 6793, section 3): a list of segments. `read` gives their path exactly there, want of
     /// memory aside. Takes no memory, and looks at the header of each segment once.
     pub fn is_path(value: &[u8], width: Width) -> bool
-        ensures { IsTrue result ↔ ((path : List SegmentValue) × ArePath width value.now path) }
+        ensures { IsTrue result ↔ ((path : Listed SegmentValue) × ArePath width value.now path) }
     {
         segment_count(width, value).is_some()
     }
