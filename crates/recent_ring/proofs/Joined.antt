@@ -43,14 +43,14 @@ module _ {T : Type 0} where
       omega (arith, is, long)
 
   -- pieces that aren't needed can go
-  pub needed_alone : (ps : List (PieceOf T)) (ys : List T) (first : ℕ) → length ys ≤ 1024 → (first ≡ 0) ⊎ (1024 - length ys ≤ length (joined (drop first ps)))
+  pub needed_alone : (ps : List (PieceOf T)) (ys : List T) (first : ℕ) → (first ≡ 0) ⊎ (1024 - length ys ≤ length (joined (drop first ps)))
       → last_items (joined (drop first ps) ++ ys) ≡ last_items (joined ps ++ ys)
-  needed_alone ps ys first short (inl none) = ap (λ (k : ℕ). last_items (joined (drop k ps) ++ ys)) none
-  needed_alone ps ys first short (inr enough) =
+  needed_alone ps ys first (inl none) = ap (λ (k : ℕ). last_items (joined (drop k ps) ++ ys)) none
+  needed_alone ps ys first (inr enough) =
       let front = joined (take first ps) in
       let rest = joined (drop first ps) ++ ys in
       let whole : joined ps ++ ys ≡ front ++ rest = ap (λ (l : List (PieceOf T)). joined l ++ ys) (sym (take-append-drop first ps)) ∙ ap (λ (l : List T). l ++ ys) (joined-append (take first ps) (drop first ps)) ∙ append_assoc front (joined (drop first ps)) ys in
-      let long : length (front ++ rest) - 1024 ≡ length front + (length rest - 1024) = omega (arith, length-append front rest, length-append (joined (drop first ps)) ys, enough, short) in
+      let long : length (front ++ rest) - 1024 ≡ length front + (length rest - 1024) = omega (arith, length-append front rest, length-append (joined (drop first ps)) ys, enough) in
       sym (ap last_items whole ∙ ap (λ (k : ℕ). drop k (front ++ rest)) long ∙ drop-append-add front rest (length rest - 1024))
 
   -- an item counted from the last one stands in the last piece, or in those before it
@@ -79,7 +79,7 @@ module _ {T : Type 0} where
       (omega (arith, long, below, past), omega (arith, long, below, past))
 
   -- a copy with a piece of the newer items, and without the pieces that aren't needed
-  pub piece_copy : (R : T → T → Type 0) → ((x : T) → R x x) → (ps : List (PieceOf T)) (ys zs items older : List T) (first : ℕ) → length ys ≤ 1024 → (first ≡ 0) ⊎ (1024 - length ys ≤ length (joined (drop first ps)))
+  pub piece_copy : (R : T → T → Type 0) → ((x : T) → R x x) → (ps : List (PieceOf T)) (ys zs items older : List T) (first : ℕ) → (first ≡ 0) ⊎ (1024 - length ys ≤ length (joined (drop first ps)))
       → last_items (joined ps ++ ys) ≡ items → AllZip R ys zs → older ≡ joined (drop first ps) ++ zs → AllZip R items (last_items (older ++ []))
-  piece_copy R same ps ys zs items older first short enough seen alike is =
-      subst (λ (l : List T). AllZip R items (last_items l)) (sym (append-nil older ∙ is)) (shared_copy R same (joined (drop first ps)) ys zs items (needed_alone ps ys first short enough ∙ seen) alike)
+  piece_copy R same ps ys zs items older first enough seen alike is =
+      subst (λ (l : List T). AllZip R items (last_items l)) (sym (append-nil older ∙ is)) (shared_copy R same (joined (drop first ps)) ys zs items (needed_alone ps ys first enough ∙ seen) alike)

@@ -14,7 +14,7 @@ module _ {X : Type 0} where
       let whole : n + m ≡ length (all ++ x ∷ []) - 1024 = omega arith in
       ap (drop m) (sym (drop-append-le n all (x ∷ []) (omega arith))) ∙ drop-drop m n (all ++ x ∷ []) ∙ ap (λ (k : ℕ). drop k (all ++ x ∷ [])) whole
 
-  length-last_items : (all : List X) → length (last_items all) ≡ min (length all) 1024
+  pub length-last_items : (all : List X) → length (last_items all) ≡ min (length all) 1024
   length-last_items all = omega (arith, length-drop (length all - 1024) all)
 
 -- and where the items are shown as others

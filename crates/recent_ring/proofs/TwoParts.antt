@@ -35,10 +35,10 @@ module _ {X : Type 0} where
       ∙ push_parts xs b.items x
       ∙ ap (λ (l : List X). last_items (l ++ x ∷ [])) seen
 
-  abbrev ring_of : ℕ → List X → RecentValue X
+  abbrev pub ring_of : ℕ → List X → RecentValue X
   ring_of total items = record { total = total; items = items }
 
-  same_ring : (t u : ℕ) (xs ys : List X) → t ≡ u → xs ≡ ys → ring_of t xs ≡ ring_of u ys
+  pub same_ring : (t u : ℕ) (xs ys : List X) → t ≡ u → xs ≡ ys → ring_of t xs ≡ ring_of u ys
   same_ring t u xs ys e f = rw (e, f) refl
 
   -- and the ring of a list is that of the list with the item
@@ -65,11 +65,11 @@ module _ {X : Type 0} where
   behind (x ∷ xs) ys (suc i) h = let same : i - length xs ≡ suc i - length (x ∷ xs) = omega arith in behind xs ys i (omega arith) ∙ ap (slice_get ys) same
 
 module _ {X : Type 0} (R : X → X → Type 0) where
-  all_zip_same : ((x : X) → R x x) → (xs : List X) → AllZip R xs xs
+  pub all_zip_same : ((x : X) → R x x) → (xs : List X) → AllZip R xs xs
   all_zip_same same [] = tt
   all_zip_same same (x ∷ xs) = (same x, all_zip_same same xs)
 
-  all_zip_append : (xs us ys vs : List X) → AllZip R xs us → AllZip R ys vs → AllZip R (xs ++ ys) (us ++ vs)
+  pub all_zip_append : (xs us ys vs : List X) → AllZip R xs us → AllZip R ys vs → AllZip R (xs ++ ys) (us ++ vs)
   all_zip_append [] [] ys vs a b = b
   all_zip_append [] (u ∷ us) ys vs a b = absurd a
   all_zip_append (x ∷ xs) [] ys vs a b = absurd a

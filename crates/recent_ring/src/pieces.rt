@@ -26,11 +26,14 @@ pub(crate) fn not_needed<T>(pieces: &[Arc<Piece<T>>], items: usize) -> usize
     first
 }
 
-// A list of the same pieces, with memory for one more.
-fn again<T: Drop>(alloc: Global, pieces: &[Arc<Piece<T>>]) -> Result<Vec<Arc<Piece<T>>>, NoMemory>
+/// A list of the same pieces, with memory for two more.
+pub(crate) fn again<T: Drop>(
+    alloc: Global,
+    pieces: &[Arc<Piece<T>>],
+) -> Result<Vec<Arc<Piece<T>>>, NoMemory>
     ensures { IfOk result (λ list. joined list.items ≡ joined pieces.now) }
 {
-    let mut list = Vec::with_capacity(alloc, pieces.len().saturating_add(1))?;
+    let mut list = Vec::with_capacity(alloc, pieces.len().saturating_add(2))?;
     for piece in pieces {
         let piece = Arc::try_clone(piece)?;
         list.push(piece)?;

@@ -1,10 +1,10 @@
-ghost use Rattle.std.specs.Prelude.{◌≡◌, ◌+◌, ◌-◌, ◌^◌, ◌≤◌, List, [], ◌∷◌, ◌++◌, length, min, IfOk, slice_get};
+ghost use Rattle.std.specs.Prelude.{◌≡◌, ◌+◌, ◌-◌, ◌^◌, ◌<◌, ◌≤◌, ◌⊎◌, List, [], ◌∷◌, ◌++◌, length, min, IfOk, slice_get};
 ghost use Rattle.std.specs.List.{AllZip};
 ghost use Rattle.std.specs.Option.{option_copied};
-ghost use Rattle.recent_ring.specs.Recent.{last_items, recent, IsCopy};
+ghost use Rattle.recent_ring.specs.Recent.{joined, last_items, recent, IsCopy};
 
 use crate::keep::Keep;
-use crate::pieces::{Piece, and_one_more, from_the_last, not_needed, piece_of};
+use crate::pieces::{Piece, again, and_one_more, from_the_last, not_needed, piece_of};
 use circular_buffer::HeapCircularBuffer;
 use std::alloc::Global;
 use std::marker::Model;
@@ -137,6 +137,58 @@ impl<T: Keep + Drop> Recent<T> {
             total: self.total,
         })
     }
+
+    /// A ring with more items: `passed` that aren't kept, and then `last`, which is a piece of its own as it is, with
+    /// no item of it taken by `keep`. It shares the pieces of the older items that are still among the last 1,024. Where
+    /// `last` has fewer than 1,024 items none can have been passed over, and `passed` isn't counted. Where these are
+    /// few, `copy` and `push` make a ring that goes on in larger pieces.
+    pub fn with_last(&self, passed: u64, last: Vec<T>) -> Result<Recent<T>, NoMemory>
+        ensures items { IfOk result (λ ring. AllZip T.alike (last_items (self.now.items ++ last.items)) ring.items) }
+        ensures total { 1024 ≤ length last.items → IfOk result (λ ring. ring.total ≡ min (self.now.total + passed + length last.items) (2 ^ 64 - 1)) }
+        ensures short { length last.items < 1024 → IfOk result (λ ring. ring.total ≡ min (self.now.total + length last.items) (2 ^ 64 - 1)) }
+        ensures list { IfOk result (λ ring. (all more : List T) → self.now ≡ recent all → length more ≡ passed → (passed ≡ 0) ⊎ (1024 ≤ length last.items)
+            → IsCopy T.alike (recent (all ++ more ++ last.items)) ring) }
+    {
+        let alloc = *self.newer.allocator();
+        let count = last.len();
+        let total = more(self.total, passed, count);
+        let mut older = self.in_pieces(alloc, KEPT.saturating_sub(count))?;
+        older.push(Arc::new(alloc, last)?)?;
+        Ok(Recent {
+            older: Arc::new(alloc, older)?,
+            newer: HeapCircularBuffer::with_capacity(alloc, KEPT)?,
+            total,
+        })
+    }
+
+    // Pieces with items that are alike: at least so many of the last ones, or all.
+    fn in_pieces(&self, alloc: Global, items: usize) -> Result<Vec<Arc<Piece<T>>>, NoMemory>
+        ensures { IfOk result (λ list. (more : List T) → 1024 ≤ items + length more → AllZip T.alike (last_items (self.now.items ++ more)) (last_items (joined list.items ++ more))) }
+    {
+        if items == 0 {
+            return Ok(Vec::new(alloc));
+        }
+        let newer = self.newer.len();
+        let first = not_needed(&self.older, items.saturating_sub(newer));
+        if newer == 0 {
+            let shared = again(alloc, &self.older[first..])?;
+            return Ok(shared);
+        }
+        let piece = piece_of(alloc, &self.newer)?;
+        let list = and_one_more(alloc, &self.older[first..], piece)?;
+        Ok(list)
+    }
+}
+
+// How many items there are in all with these more.
+fn more(total: u64, passed: u64, count: usize) -> u64
+    ensures total { 1024 ≤ count → result ≡ min (total + passed + count) (2 ^ 64 - 1) }
+    ensures short { count < 1024 → result ≡ min (total + count) (2 ^ 64 - 1) }
+{
+    if count < KEPT {
+        return total.saturating_add(count as u64);
+    }
+    total.saturating_add(passed).saturating_add(count as u64)
 }
 
 // A ring of the same room, with items that are alike.

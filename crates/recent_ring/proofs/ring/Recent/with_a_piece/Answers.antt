@@ -15,7 +15,6 @@ alike_items g c =
     let newer = c.self.inside.newer.items in
     let items = c.args.self.now.items in
     let seen = ap (λ (r : RecentValue _). r.items) c.self.view_is in
-    let short : length newer ≤ 1024 = omega (arith, c.len.ensures.len, c.len.ensures.within, c.self.invariant.0) in
     let sum : c.saturating_sub.result ≡ 1024 - length newer = omega (arith, c.saturating_sub.ensures, c.len.ensures.len) in
     let pieces : c.deref-2.result.now ≡ older = c.deref-2.ensures.value ∙ ap (λ (v : Vec _ _). v.items) c.deref.ensures in
     let again : c.deref-4.result.now ≡ older = c.deref-4.ensures.value ∙ ap (λ (v : Vec _ _). v.items) c.deref-3.ensures in
@@ -24,7 +23,7 @@ alike_items g c =
     (subst (λ ps. (c.not_needed-first.result ≡ 0) ⊎ (c.saturating_sub.result ≤ length (joined (drop c.not_needed-first.result ps)))) pieces c.not_needed-first.ensures.enough) in
     let is : joined (arc_value c.in_ok-new.field-0).items ≡ joined (drop c.not_needed-first.result older) ++ c.in_ok-piece.piece.items = ap (λ (v : Vec _ _). joined v.items) c.in_ok-new.ensures.ok ∙ c.in_ok-older.ensures ∙ ap (λ ps. joined ps ++ c.in_ok-piece.piece.items) (rest_of c.deref-4.result.now c.not_needed-first.result) ∙ ap (λ ps. joined (drop c.not_needed-first.result ps) ++ c.in_ok-piece.piece.items) again in
     subst (λ (b : Buffer _). AllZip alike items (last_items (joined (arc_value c.in_ok-new.field-0).items ++ b.items))) (sym c.in_ok-with_capacity.ensures)
-    (piece_copy alike g.met.T.Keep.same older newer c.in_ok-piece.piece.items items (joined (arc_value c.in_ok-new.field-0).items) c.not_needed-first.result short enough seen c.in_ok-piece.ensures is)
+    (piece_copy alike g.met.T.Keep.same older newer c.in_ok-piece.piece.items items (joined (arc_value c.in_ok-new.field-0).items) c.not_needed-first.result enough seen c.in_ok-piece.ensures is)
 
 pub invariant_of-result : goal.invariant_of-result
 invariant_of-result g c =
