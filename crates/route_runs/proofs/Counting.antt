@@ -1,33 +1,12 @@
 -- How many pairs one run has.
-use Rattle.std.proofs.Common.{◌≡◌, ℕ, suc, Bool, true, false, cond, not, nat_eq, List, [], ◌∷◌, length, get_or, Option, None, Some, refl, ap, sym, ◌∙◌, subst, arith}
+use Rattle.std.proofs.Common.{◌≡◌, ℕ, suc, Bool, true, false, cond, not, nat_eq, List, [], ◌∷◌, length, get_or, Option, None, Some, refl, ap, sym, ◌∙◌, arith}
 use Rattle.std.specs.declared.cmp.Ordering.{Ordering}
-use Rattle.std.specs.Ordering.{match_ordering}
-use Rattle.std.specs.BTreeMap.{insert_entry}
 use Rattle.std.specs.List.{AllByRecursion, filter}
 use Rattle.std.proofs.lemmas.Bool.Decides.{nat_tests}
 use Rattle.route_runs.specs.Rows.{gone, is_live, set_at, rows, IsHandle}
-use Rattle.route_runs.specs.Runs.{in_order, add_live, live, contents}
+use Rattle.route_runs.specs.Runs.{add_live, live, contents}
 use Rattle.route_runs.proofs.Handles.{set_gone}
-use Rattle.route_runs.proofs.Merging.{Rising, rising_head, rising_tail}
 use Rattle.route_runs.proofs.Overriding.{set_there}
-
-module _ {K X : Type 0} (cmp : K → K → Ordering) where
-  put_first : (e : K × X) (es : List (K × X)) → Rising cmp (e ∷ es) → insert_entry cmp es e.0 e.1 ≡ e ∷ es
-  put_first e [] s = refl
-  put_first e (f ∷ fs) s = ap (λ o. match_ordering o (e ∷ f ∷ fs) ((f.0, e.1) ∷ fs) (f ∷ insert_entry cmp fs e.0 e.1)) (rising_head cmp e (f ∷ fs) s).0
-
-  pub in_order_rising : (es : List (K × X)) → Rising cmp es → in_order cmp es ≡ es
-  in_order_rising [] s = refl
-  in_order_rising (e ∷ es) s = ap (λ l. insert_entry cmp l e.0 e.1) (in_order_rising es (rising_tail cmp e es s)) ∙ put_first e es s
-
-pub one_run : {K A : Type 0} (cmp : K → K → Ordering) (run : List (K × Option A)) → Rising cmp run → contents cmp (run ∷ []) ≡ live run
-one_run cmp run s = ap live (in_order_rising cmp run s)
-
--- a table of one run
-pub only_run : {K A : Type 0} (cmp : K → K → Ordering) (runs : List (List (K × Option A))) (run : List (K × Option A)) → length runs ≡ 1 → run ≡ get_or runs 0 run → Rising cmp run → contents cmp runs ≡ live run
-only_run cmp [] run e is s = absurd (omega (arith, e))
-only_run cmp (first ∷ []) run e is s = one_run cmp first (subst (Rising cmp) is s) ∙ ap live (sym is)
-only_run cmp (first ∷ next ∷ runs) run e is s = absurd (omega (arith, e))
 
 -- a table without rows
 pub no_run : {K A : Type 0} (cmp : K → K → Ordering) (runs : List (List (K × Option A))) → length runs ≡ 0 → contents cmp runs ≡ []

@@ -8,7 +8,7 @@ use Rattle.std.proofs.lemmas.Bool.{cases_lt}
 use Rattle.std.proofs.lemmas.List.{get_or_default, take_all}
 use Rattle.std.proofs.lemmas.Map.Lookups.{CmpEqualImpliesEq}
 use Rattle.route_runs.specs.Keys.{pair_cmp}
-use Rattle.route_runs.specs.Message.{IsAllSet}
+use Rattle.route_runs.specs.Message.{HasSame, IsAllSet}
 use Rattle.route_runs.specs.Origins.{is_number, of_origin, AreAdded, AreAll, AreNamed, Covers, HasPairs, IsIndexed}
 use Rattle.route_runs.specs.Override.{value_at, or_else}
 use Rattle.route_runs.specs.Rows.{set_at, paired, rows, IsRun}
@@ -72,6 +72,11 @@ module _ {K U : Type 0} (cmp : K → K → Ordering) (pairs : List (ℕ × K)) (
     there = λ p h. ap is_some (all.set_there p h);
     none_gone = λ p h. ap (λ o. is_some (seen o)) (all.set_there p (all.listed p h));
   }
+
+-- it has the pairs of a list with the same members too
+module _ {K U : Type 0} (cmp : K → K → Ordering) (pairs list : List (ℕ × K)) (added : List ((ℕ × K) × Option U)) where
+  pub has_same_pairs : HasSame pairs list → HasPairs cmp list added → HasPairs cmp pairs added
+  has_same_pairs same has = record { there = λ p h. has.there p (same.to p h); none_gone = has.none_gone }
 
 module _ {K A U : Type 0} (cmp : K → K → Ordering) (origin : A → Option ℕ) (pairs : List (ℕ × K)) (added : List ((ℕ × K) × Option U)) (has : HasPairs cmp pairs added) where
   pub covered_by : (run : List (K × Option A)) → AreAdded cmp origin run pairs → Covers cmp origin run added

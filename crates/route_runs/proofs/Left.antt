@@ -1,5 +1,5 @@
 -- The first pair that passes a test and those behind it, in a list of pairs in the order of their keys.
-use Rattle.std.proofs.Common.{◌≡◌, ◌++◌, IsNone, option_to_list, rules, inl, inr, Bool, true, false, cond, not, ◌+◌, length, List, [], ◌∷◌, Option, None, Some, refl, ap, sym, ◌∙◌, subst, arith}
+use Rattle.std.proofs.Common.{◌≡◌, ◌++◌, IsNone, option_to_list, rules, inl, inr, Bool, true, false, cond, not, List, [], ◌∷◌, Option, None, Some, refl, ap, sym, ◌∙◌, subst}
 use Rattle.std.specs.declared.cmp.Ordering.{Ordering}
 use Rattle.std.specs.declared.cmp.Ordering.TheVariants.{Less}
 use Rattle.std.specs.Ordering.{is_lt, is_eq}
@@ -136,32 +136,7 @@ module _ {K A : Type 0} (cmp : K → K → Ordering) (total : IsTotalOrder cmp) 
   pub ended_from : (from : Option K) (k : K) (w : Walking K A) (l : List (K × A)) (r : Option (K × A)) → left cmp from w ≡ l → from ≡ Some k → IsFirst cmp (is_from cmp k) (λ q. value_at cmp q w.pairs) r → r ≡ None → l ≡ []
   ended_from from k w l r view some f end = sym view ∙ ap (λ o. left cmp o w) some ∙ none_left cmp total exact (is_from cmp k) (from_up cmp total k) w.pairs (subst (IsFirst cmp (is_from cmp k) (λ q. value_at cmp q w.pairs)) end f)
 
-  -- a walk that begins at the first pair
-  pub all_left : (w : Walking K A) (l : List (K × A)) → w ≡ record { pairs = l; place = None } → filter (λ (e : K × A). is_after cmp w.place e.0) w.pairs ≡ l
-  all_left w l e = ap (λ v. filter (λ (e : K × A). is_after cmp v.place e.0) v.pairs) e ∙ all_pass l
-
 -- none is left exactly where nothing was given
 pub none_exactly : {X Y : Type 0} (f : X → Y) (r : Option X) (l rest : List Y) → l ≡ option_to_list (option_map f r) ++ rest → (option_map f r ≡ None → l ≡ []) → (IsNone r → l ≡ []) × (l ≡ [] → IsNone r)
 none_exactly f None l rest e ended = (λ none. ended refl, λ empty. search rules)
 none_exactly f (Some x) l rest e ended = (λ none. absurd (search (rules, none)), λ empty. absurd (let clash : f x ∷ rest ≡ [] = sym e ∙ empty in cc))
-
-pub none_by_test : {X : Type 0} (r : Option X) → is_some r ≡ false → IsNone r
-none_by_test None e = search rules
-none_by_test (Some x) e = absurd cc
-
--- one pair fewer is left after one was given, and none where none was
-module _ {K A : Type 0} (cmp : K → K → Ordering) (total : IsTotalOrder cmp) (exact : CmpEqualImpliesEq cmp) {Y : Type 0} (g : Y → K × A) where
-  one_fewer : (x : Option Y) (l rest : List (K × A)) → is_some x ≡ true → l ≡ option_to_list (option_map g x) ++ rest → length l ≡ length rest + 1
-  one_fewer None l rest h e = absurd cc
-  one_fewer (Some y) l rest h e = ap length e ∙ omega arith
-
-  is_none : (x : Option Y) → is_some x ≡ false → option_map g x ≡ None
-  is_none None h = refl
-  is_none (Some y) h = absurd cc
-
-  module _ (w w' : Walking K A) (x : Option Y) (s : Rising cmp w.pairs) (f : IsFirst cmp (is_after cmp w.place) (λ q. value_at cmp q w.pairs) (option_map g x)) where
-    pub left_fewer : w'.place ≡ moved w.place (option_map g x) → w'.pairs ≡ w.pairs → is_some x ≡ true → length (left cmp None w) ≡ length (left cmp None w') + 1
-    left_fewer at same some = one_fewer x (left cmp None w) (left cmp None w') some (walked_on cmp total exact None w w' (left cmp None w) (option_map g x) refl refl s f at same)
-
-    pub left_none : is_some x ≡ false → left cmp None w ≡ []
-    left_none none = ended_on cmp total exact None w (left cmp None w) (option_map g x) refl refl f (is_none x none)

@@ -14,6 +14,7 @@ pub mod Origins
 pub mod Indexing
 pub mod WithOrigin
 pub mod Counting
+pub mod CountingRuns
 pub mod Rising
 pub mod Listing
 pub mod Halves

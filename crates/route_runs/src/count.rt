@@ -1,4 +1,4 @@
-ghost use Rattle.std.specs.Prelude.{◌≡◌, [], length, IfSome, IsTrue};
+ghost use Rattle.std.specs.Prelude.{◌≡◌, [], length, IsTrue};
 ghost use Rattle.std.specs.List.{filter};
 ghost use Rattle.std.specs.List.Sorted.{IsStrictlySortedBy};
 ghost use Rattle.std.specs.Map.{keys_of};
@@ -22,8 +22,8 @@ fn live_handles(handles: &[u32]) -> u64
     count
 }
 
-// How many rows of a run aren't gone.
-fn live_rows<K: RunKey, A>(run: &Run<K, A>) -> u64
+/// How many rows of a run aren't gone.
+pub(crate) fn live_rows<K: RunKey, A>(run: &Run<K, A>) -> u64
     ensures count { result ≡ length (live run.now) }
     ensures ordered { IsStrictlySortedBy K.cmp (keys_of run.now) }
 {
@@ -31,16 +31,6 @@ fn live_rows<K: RunKey, A>(run: &Run<K, A>) -> u64
 }
 
 impl<K: RunKey, A: Drop> Runs<K, A> {
-    /// How many pairs there are, where one run has them all; it counts the rows of that run that have a set.
-    pub(crate) fn count_of_one(&self) -> Option<u64>
-        ensures { IfSome result (λ n. n ≡ length self.now) }
-    {
-        if self.runs.len() == 1 {
-            return Some(live_rows(&self.runs[0]));
-        }
-        None
-    }
-
     /// Whether there is no run, or one without rows: then there is no pair.
     pub(crate) fn is_bare(&self) -> bool
         ensures { IsTrue result → self.now ≡ [] }

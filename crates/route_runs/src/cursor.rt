@@ -47,8 +47,8 @@ fn is_less<K: RunKey>(a: &K, b: &K) -> bool
     }
 }
 
-// Whether two keys are the same.
-fn is_same<K: RunKey>(a: &K, b: &K) -> bool
+/// Whether two keys are the same.
+pub(crate) fn is_same<K: RunKey>(a: &K, b: &K) -> bool
     ensures { result ≡ is_eq (K.cmp a.now b.now) }
 {
     match a.cmp(b) {
@@ -95,8 +95,8 @@ fn is_point<K: RunKey>(keys: &[K], place: &K, at: usize) -> bool
     are_behind(keys, place, at)
 }
 
-// Where the keys after a key begin: at the hint, or one further, or found by a search.
-fn near_key<K: RunKey>(keys: &[K], place: &K, hint: usize) -> usize
+/// Where the keys after a key begin: at the hint, or one further, or found by a search.
+pub(crate) fn near_key<K: RunKey>(keys: &[K], place: &K, hint: usize) -> usize
     requires { IsStrictlySortedBy K.cmp keys.now }
     ensures { IsAfterPoint K.cmp (Some place.now) keys.now result }
 {
@@ -149,13 +149,13 @@ impl<K: RunKey, A> Run<K, A> {
     }
 }
 
-// The hint of a run.
-fn hint_of(hints: &[usize; 40], at: usize) -> usize {
+/// The hint of a run.
+pub(crate) fn hint_of(hints: &[usize; 40], at: usize) -> usize {
     if at < KEPT { hints[at] } else { 0 }
 }
 
-// Keeps the hint of a run.
-fn keep_hint(hints: &mut [usize; 40], at: usize, hint: usize) {
+/// Keeps the hint of a run.
+pub(crate) fn keep_hint(hints: &mut [usize; 40], at: usize, hint: usize) {
     if at < KEPT {
         hints[at] = hint;
     }

@@ -1,11 +1,10 @@
-ghost use Rattle.std.specs.Prelude.{◌≡◌, ◌+◌, ◌≤◌, [], length, min, IfOk, IfSome, IsTrue};
+ghost use Rattle.std.specs.Prelude.{◌≡◌, [], length, min, IfOk, IfSome, IsTrue};
 ghost use Rattle.std.specs.List.Sorted.{IsStrictlySortedBy};
 ghost use Rattle.std.specs.Map.{keys_of};
 ghost use Rattle.std.specs.Option.{option_map};
 ghost use Rattle.route_runs.specs.Override.{value_at};
 ghost use Rattle.route_runs.specs.Runs.{shared, IsChanged};
 
-use crate::cursor::Cursor;
 use crate::index::with_changes;
 use crate::key::RunKey;
 use crate::listed::Listed;
@@ -100,27 +99,11 @@ impl<K: RunKey> FamilyTable<K> {
         self.runs.see_order();
     }
 
-    /// How many routes there are, or 2^64 - 1 where there are more. Where the table is one run, as after a merge with
-    /// the oldest, the rows of that run are counted; else it walks over all routes.
+    /// How many routes there are, or 2^64 - 1 where there are more.
     pub(crate) fn count(&self) -> u64
         ensures { result ≡ min (length self.now) 18446744073709551615 }
     {
-        match self.runs.count_of_one() {
-            Some(count) => count,
-            None => self.count_by_walk(),
-        }
-    }
-
-    // How many routes a walk over all of them gives.
-    fn count_by_walk(&self) -> u64
-        ensures { result ≡ min (length self.now) 18446744073709551615 }
-    {
-        let mut cursor = self.runs.cursor(None);
-        let mut count = 0u64;
-        while cursor.next().is_some() {
-            count = count.saturating_add(1);
-        }
-        count
+        self.runs.count()
     }
 
     /// Whether it is known at once that there is no route.

@@ -1,6 +1,7 @@
 ghost use Rattle.std.specs.Prelude.{◌≡◌, ℕ, true, length, map, IfOk, OnOk};
 ghost use Rattle.std.specs.Arc.{arc_value};
 ghost use Rattle.std.specs.List.{AllByRecursion, Contains};
+ghost use Rattle.route_runs.specs.Message.{HasSame};
 ghost use Rattle.route_runs.specs.Origins.{attrs_origin, is_number, AreAdded, AreAll, AreNamed, Covers, HasPairs, IsIndexed};
 ghost use Rattle.route_runs.specs.Rows.{sets_of, IsHandle};
 ghost use Rattle.route_runs.specs.Runs.{IsChanged};
@@ -71,6 +72,16 @@ fn run_of<K: RunKey>(alloc: Global, pairs: Vec<(u32, K)>) -> Result<Run<(u32, K)
     }
 }
 
+// The pairs by their origins. Those of one origin stay as they stood, which is by their keys where they are of one run;
+// so `Run::many` has no more to sort, and numbers alone are compared.
+fn by_origin<K: RunKey>(pairs: Vec<(u32, K)>) -> Result<Vec<(u32, K)>, NoMemory>
+    ensures { IfOk result (λ list. HasSame pairs.items list.items) }
+{
+    let mut pairs = pairs;
+    pairs.sort_by_key(|pair| pair.0)?;
+    Ok(pairs)
+}
+
 // The pairs of a run.
 fn pairs_of<K: RunKey>(alloc: Global, run: &Run<K, Attrs>) -> Result<Run<(u32, K), ()>, NoMemory>
     ensures { IfOk result (Covers K.cmp attrs_origin run.now) }
@@ -79,7 +90,8 @@ fn pairs_of<K: RunKey>(alloc: Global, run: &Run<K, Attrs>) -> Result<Run<(u32, K
         return Err(NoMemory);
     };
     add_pairs(&mut pairs, run)?;
-    run_of(alloc, pairs)
+    let sorted = by_origin(pairs)?;
+    run_of(alloc, sorted)
 }
 
 // The index of a table, of the rows of its runs alone.

@@ -3,14 +3,30 @@ ghost use Rattle.route_runs.specs.Override.{IsOverride};
 
 use crate::key::RunKey;
 use crate::packs::joined_packs;
-use crate::run::Run;
+use crate::run::{Pack, Run};
 use crate::weave::woven;
 use std::alloc::Global;
+use std::sync::Arc;
 use wire_io::NoMemory;
 
-// Whether there are many more packs than the rows need: room for more than two sets a row, and 64 packs.
+// How many sets the packs hold.
+fn sets_in<A>(packs: &[Arc<Pack<A>>]) -> usize {
+    let mut sets = 0usize;
+    for pack in packs {
+        sets = sets.saturating_add(pack.len());
+    }
+    sets
+}
+
+// Whether a run is made anew, in few packs. That costs a look at each row, and puts its set behind that of the row
+// before, away from those it came with. So it is done only where it gives much back: where there are more sets than
+// two a row and 4,096, so that no row names the greater part of them; or where packs are many and tiny, as those of
+// single messages are, so that there are more than one for 64 rows and 64. What has been made anew has at most one set
+// a row, in full packs. It is not loose again before merges have brought as many sets as it has rows, and 4,096 more,
+// or a pack for each 65 of its rows, and 62 more.
 fn is_loose<K: RunKey, A>(run: &Run<K, A>) -> bool {
-    run.packs.len() > 64 + run.keys.len() / 2048
+    let rows = run.keys.len();
+    run.packs.len() > 64 + rows / 64 || sets_in(&run.packs) / 2 > 2_048 + rows
 }
 
 // The same run, in few packs.

@@ -46,6 +46,7 @@ mod see;
 mod table;
 mod table_cursor;
 mod tidy;
+mod totals;
 mod walk;
 mod weave;
 
