@@ -16,6 +16,7 @@ pub mod RowLines
 pub mod RowLists
 pub mod RowMembers
 pub mod RowRunLaws
+pub mod RowOrder
 pub mod RowTellings
 pub mod RowAnswers
 pub mod RowChangeLaws

@@ -18,7 +18,6 @@ use Rattle.route_runs.specs.Nlri.{AreNlri}
 use Rattle.route_runs.specs.Origins.{attrs_origin, is_number, with_origin}
 use Rattle.route_runs.specs.Runs.{in_order}
 use Rattle.route_runs.specs.Walk.{pairs_from}
-use Rattle.route_runs.proofs.Counting.{in_order_rising}
 use Rattle.route_runs.proofs.Merging.{Rising}
 use Rattle.route_runs.proofs.Nearer.{listed_has}
 use Rattle.route_runs.proofs.Searching.{bools}
@@ -32,6 +31,7 @@ use Rattle.query_eval.specs.Selecting.{is_named}
 use Rattle.query_eval.proofs.Keeping.{from_filter}
 use Rattle.query_eval.proofs.RowDeciding.{same_decides, holds_decides}
 use Rattle.query_eval.proofs.RowLists.{all_members, kept_twice, same_kept}
+use Rattle.query_eval.proofs.RowOrder.{in_order_rising}
 use Rattle.query_eval.proofs.RowRunLaws.{walked_run}
 
 -- the prefix of a listed pair is one

@@ -11,3 +11,4 @@ pub mod ChangesMade
 pub mod RowEffects
 pub mod SessionRows
 pub mod EntrySteps
+pub mod GatheredSteps

@@ -19,6 +19,7 @@ mod books;
 mod changed;
 mod counting;
 mod effects;
+mod last_steps;
 mod owned;
 mod pending;
 mod rows;

@@ -5,6 +5,7 @@ ghost use Rattle.rib_model.specs.Entries.{entry_value, entry_values};
 ghost use Rattle.router_tables.specs.State.{state_value};
 ghost use Rattle.router_tables.specs.Tables.{StandsFor, table_at, route_at, steps_told};
 
+use crate::last_steps::steps_with;
 use crate::rows::Rows;
 use crate::session::Session;
 use crate::state::LaneState;
@@ -54,15 +55,16 @@ impl RouterTables {
     }
 
     /// The tables with these entries taken, in order. Each table whose routes change takes one run for all of
-    /// them. They cost what `share` costs, and these tables stay as they are. Where the lane has no connection, a
+    /// them. They cost what `share` costs, and these tables stay as they are; of many steps only the last 1,024 are
+    /// made. Where the lane has no connection, a
     /// message only adds to the last steps; routes of a peer that isn't up (RFC 7854, section 4.10) aren't taken.
     pub fn with(&self, entries: &[Entry]) -> Result<RouterTables, NoMemory>
         ensures { IfOk result (λ tables. (so_far : List EntryValue) → StandsFor self.now so_far → StandsFor tables (so_far ++ entry_values entries.now)) }
     {
         let mut session = self.session.share()?;
         let mut rows = Rows::new(self.alloc, self.tables.clone()?);
-        let mut steps = self.steps.copy()?;
-        take_entries(self.alloc, &mut session, &mut rows, &mut steps, entries)?;
+        let steps = steps_with(self.alloc, &self.steps, entries)?;
+        take_entries(self.alloc, &mut session, &mut rows, entries)?;
         let tables = rows.into_tables()?;
         Ok(RouterTables {
             alloc: self.alloc,

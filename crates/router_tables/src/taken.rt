@@ -1,30 +1,25 @@
 ghost use Rattle.std.specs.Prelude.{◌++◌, List, OnOk};
 ghost use Rattle.bmp_specs.specs.Values.{EntryValue};
 ghost use Rattle.rib_model.specs.Entries.{entry_values};
-ghost use Rattle.router_tables.specs.Tables.{steps_told};
 ghost use Rattle.router_tables.specs.Taken.{AreTaken};
 
 use crate::rows::Rows;
 use crate::session::Session;
-use crate::steps::keep_steps;
-use recent_ring::Recent;
-use rib_model::{Entry, Step};
+use rib_model::Entry;
 use std::alloc::Global;
 use wire_io::NoMemory;
 
-// Takes entries, in order. After want of memory the session, its rows and the steps may only be dropped.
+// Takes entries, in order. After want of memory the session and its rows may only be dropped.
 pub(crate) fn take_entries(
     alloc: Global,
     session: &mut Session,
     rows: &mut Rows,
-    steps: &mut Recent<Step>,
     entries: &[Entry],
 ) -> Result<(), NoMemory>
-    ensures { OnOk result ((so_far : List EntryValue) → AreTaken session.old rows.old (steps_told steps.old) so_far
-        → AreTaken session.new rows.new (steps_told steps.new) (so_far ++ entry_values entries.now)) }
+    ensures { OnOk result ((so_far : List EntryValue) → AreTaken session.old rows.old so_far
+        → AreTaken session.new rows.new (so_far ++ entry_values entries.now)) }
 {
     for entry in entries {
-        keep_steps(steps, entry)?;
         session.take(alloc, rows, entry)?;
     }
     Ok(())

@@ -1,8 +1,8 @@
 use Rattle.std.proofs.Common.{length, ap, sym, ◌∙◌}
 use Rattle.bmp_specs.specs.Orders.{nlri_cmp}
 use Rattle.bmp_specs.specs.Reply.{told_count}
-use Rattle.route_runs.proofs.Counting.{in_order_rising}
 use Rattle.router_tables.specs.Views.{Table}
+use Rattle.query_eval.proofs.RowOrder.{in_order_rising}
 use Rattle.query_eval.proofs.count.count_all.Goals as goal
 
 pub returns : goal.returns
