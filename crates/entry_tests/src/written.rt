@@ -110,14 +110,36 @@ fn read<R: Abort>(rt: &R, alloc: Global, stream: &[u8]) -> Result<Vec<u8>, Fail>
     Ok(said)
 }
 
-#[test]
-fn written_messages_are_read(rt: HostRuntime) -> Result<(), Fail> {
-    let alloc = rt.alloc();
+// Writes the End-of-RIB marker of IPv4 in the Adj-RIB-Out after policy of the peer 192.0.2.1.
+fn put_mark_of_v4(out: &mut ByteList) -> Result<(), Fail> {
     let peer = PeerKey {
         kind: 0,
         distinguisher: 0,
         address: Addr::v4([192, 0, 2, 1]),
     };
+    put_mark(out, &peer, View::OutPost, Family::V4)
+        .ok()
+        .ok_or("no memory")?;
+    Ok(())
+}
+
+// Writes that of IPv6 in its Adj-RIB-In after policy, and that the peer went down.
+fn put_mark_of_v6_and_down(out: &mut ByteList) -> Result<(), Fail> {
+    let peer = PeerKey {
+        kind: 0,
+        distinguisher: 0,
+        address: Addr::v4([192, 0, 2, 1]),
+    };
+    put_mark(out, &peer, View::InPost, Family::V6)
+        .ok()
+        .ok_or("no memory")?;
+    put_peer_down(out, &peer, 2).ok().ok_or("no memory")?;
+    Ok(())
+}
+
+#[test]
+fn written_messages_are_read(rt: HostRuntime) -> Result<(), Fail> {
+    let alloc = rt.alloc();
     let other = PeerKey {
         kind: 1,
         distinguisher: 7,
@@ -132,13 +154,8 @@ fn written_messages_are_read(rt: HostRuntime) -> Result<(), Fail> {
     put_initiation(&mut out, b"r1", b"test")
         .ok()
         .ok_or("no memory")?;
-    put_mark(&mut out, &peer, View::OutPost, Family::V4)
-        .ok()
-        .ok_or("no memory")?;
-    put_mark(&mut out, &peer, View::InPost, Family::V6)
-        .ok()
-        .ok_or("no memory")?;
-    put_peer_down(&mut out, &peer, 2).ok().ok_or("no memory")?;
+    put_mark_of_v4(&mut out)?;
+    put_mark_of_v6_and_down(&mut out)?;
     put_peer_down(&mut out, &other, 6).ok().ok_or("no memory")?;
     put_peer_down(&mut out, &local, 4).ok().ok_or("no memory")?;
     let wanted = hex::decode(alloc, WRITTEN)?;

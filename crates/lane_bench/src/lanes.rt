@@ -91,6 +91,42 @@ pub fn lanes_of<'a, J: Naming, R: Clock>(
     Some(lanes)
 }
 
+// Takes the connection of a lane. None for want of memory.
+fn take<'a, J: Naming, R: Wait + Clock>(
+    rt: &R,
+    alloc: Global,
+    publisher: &Publisher<RouterTables, J>,
+    mut pass: FeedPass<RouterTables>,
+    mut port: LanePort<Watch<'a, R>>,
+) -> Option<Outcome>
+    requires { pass.station ≡ J.site }
+{
+    if pass.count() > 0 {
+        drop(port);
+        return None;
+    }
+    let end = serve_feed::<Reading, Watch<'a, R>, J, R>(
+        rt, alloc, publisher, &mut pass, &mut port, 1,
+    );
+    if end == LaneEnd::NoMemory {
+        drop(port);
+        return None;
+    }
+    let watch = port.into_port();
+    let (turns, revision, kept) = watch.seen();
+    let published = watch.closed();
+    drop(watch);
+    Some(Outcome {
+        entries: pass.count(),
+        // without the opening and the closing
+        messages: pass.count().saturating_sub(2),
+        turns,
+        revision,
+        kept: kept as u64,
+        published,
+    })
+}
+
 impl<'a, J: Naming, R: Wait + Clock> Lane<'a, J, R> {
     // Takes the connection. None for want of memory.
     fn serve(
@@ -100,30 +136,11 @@ impl<'a, J: Naming, R: Wait + Clock> Lane<'a, J, R> {
         publisher: &Publisher<RouterTables, J>,
     ) -> Option<Outcome> {
         let Lane {
-            mut pass,
-            mut port,
+            pass,
+            port,
             station: _,
         } = self;
-        if pass.count() > 0 {
-            return None;
-        }
-        let end = serve_feed::<Reading, Watch<'a, R>, J, R>(
-            rt, alloc, publisher, &mut pass, &mut port, 1,
-        );
-        if end == LaneEnd::NoMemory {
-            return None;
-        }
-        let watch = port.into_port();
-        let (turns, revision, kept) = watch.seen();
-        Some(Outcome {
-            entries: pass.count(),
-            // without the opening and the closing
-            messages: pass.count().saturating_sub(2),
-            turns,
-            revision,
-            kept: kept as u64,
-            published: watch.closed(),
-        })
+        take::<J, R>(rt, alloc, publisher, pass, port)
     }
 }
 

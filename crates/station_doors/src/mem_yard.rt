@@ -77,8 +77,8 @@ impl<E> MemYard<E> {
         requires links { All IsIdle links }
         ensures { IfOk result (λ y. y ≡ record { tells = record { ports = map plan_of ports; links = map link_plan_of links; fails = fails.now; out = []; links_out = []; back = []; links_back = [] }; listened = None; calls = 0; faults = 0; ending = None; endings = 0 }) }
     {
-        let ports = ports.into_vec();
-        let links = links.into_vec();
+        let ports = ports.into_vec()?;
+        let links = links.into_vec()?;
         let fails = Vec::from_slice(alloc, fails)?;
         let out = Vec::with_capacity(alloc, ports.len())?;
         let links_out = Vec::with_capacity(alloc, links.len())?;

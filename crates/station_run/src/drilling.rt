@@ -128,9 +128,10 @@ fn take_apart(
             DrillTask::Lane(lane) => {
                 let DrillLane {
                     pass,
-                    stream: _,
+                    stream,
                     is_whole,
                 } = lane;
+                drop(stream);
                 let kept = keep_feed(feeds, pass, is_whole);
                 if !kept {
                     return Err(NoMemory);

@@ -15,9 +15,9 @@ use std::alloc::Global;
 use std::sync::Arc;
 use wire_io::{Failed, List, NoMemory, Sink, Unplaced};
 
-/// So many bytes of messages are gathered before the tables take them. Nobody looks at the tables meanwhile, and each
-/// time that they take some their rows are merged with those that were there.
-const BATCH: u64 = 8_388_608;
+/// So many bytes of messages are gathered before the tables take them, as many as one read of a router's connection
+/// has at most: the tables take them while they are still in the processor's caches.
+const BATCH: u64 = 65_536;
 
 /// The tables of the one router, and the entries that were gathered since they took some.
 #[derive(Drop)]

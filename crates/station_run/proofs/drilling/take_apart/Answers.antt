@@ -8,13 +8,13 @@ use Rattle.station_run.proofs.drilling.take_apart.Goals as goal
 pub loop-task-init : goal.loop-task-init
 loop-task-init c = λ seed messages b lanes works. apart_none seed messages b lanes _ _ _ c.requires.0 c.requires.1 works
 
-pub loop-task-smaller-in-Lane : goal.loop-task-smaller-in-Lane
-loop-task-smaller-in-Lane c =
+pub loop-task-smaller-else-not-kept : goal.loop-task-smaller-else-not-kept
+loop-task-smaller-else-not-kept c =
     let less : length c.pop.new.self.items < length c.loop-task.tasks.items = omega (arith, ap (λ (l : List DrillTask). length l) c.in-Some.ensures.items, length_push c.pop.new.self.items c.in-Some.task) in
     less
 
-pub loop-task-preserved-in-Lane : goal.loop-task-preserved-in-Lane
-loop-task-preserved-in-Lane c = λ seed messages b lanes works.
+pub loop-task-preserved-else-not-kept : goal.loop-task-preserved-else-not-kept
+loop-task-preserved-else-not-kept c = λ seed messages b lanes works.
     let kept = c.keep_feed-kept.ensures c.if-not-kept.false in
     apart_lane seed messages b lanes c.loop-task.tasks.items c.pop.new.self.items c.loop-task.feeds _ c.loop-task.asks c.in-Lane.lane (c.in-Some.ensures.items ∙ ap (λ (t : DrillTask). c.pop.new.self.items ++ t ∷ []) c.in-Lane.is) kept.1 kept.0
     (c.loop-task.invariant seed messages b lanes works)
