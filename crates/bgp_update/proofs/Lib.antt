@@ -6,3 +6,4 @@ pub mod Counting
 pub mod Judging
 pub mod Framing
 pub mod Withdrawing
+pub mod Own

@@ -7,7 +7,8 @@
 //!
 //! Proved: `judge_update` tells exactly whether the body has a value in the grammar, and makes none.
 //! `read_update` judges by the same body of code and then makes the value, with the End-of-RIB marker (RFC
-//! 4724, section 2) and how many multiprotocol attributes are of families that aren't read. The grammar is
+//! 4724, section 2) and how many multiprotocol attributes are of families that aren't read. `UpdateReader`
+//! reads one after another to the same values, and shares attributes that stand in one after another. The grammar is
 //! `IsUpdate` in `specs/Update.antt` of `bmp_specs`; begin there, then with `src/judge.rt`. `src/sizes.rt`
 //! counts the prefixes of a list, `src/items.rt` makes them, `src/multi.rt` those of multiprotocol
 //! attributes too.
@@ -21,6 +22,7 @@ mod judge;
 mod list;
 mod multi;
 mod read;
+mod reader;
 mod shared;
 mod sizes;
 mod update;
@@ -32,6 +34,7 @@ pub use frame::{FramedUpdate, contained_routes, fits_family, frame_update};
 pub use judge::judge_update;
 pub use list::NlriList;
 pub use read::read_update;
+pub use reader::UpdateReader;
 pub use update::Update;
 pub use wire_io::Unplaced;
 pub use withdraw::treat_as_withdraw;

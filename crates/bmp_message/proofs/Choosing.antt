@@ -1,13 +1,11 @@
 -- Which form of an UPDATE message is taken.
-use Rattle.std.proofs.Common.{◌≡◌, ◌⊎◌, ℕ, Bool, true, false, cond, not, ◌&&◌, inl, inr, List, refl, sym, ap, subst, ◌∙◌}
-use Rattle.std.specs.Prelude.{MatchBool, ⊤}
+use Rattle.std.proofs.Common.{◌≡◌, ℕ, Bool, true, false, cond, not, ◌&&◌, inl, inr, List, refl, sym, ap, subst, ◌∙◌}
 use Rattle.bmp_specs.specs.declared.wire.Width.{Width}
 use Rattle.bmp_specs.specs.declared.wire.Width.TheVariants.{Two}
-use Rattle.bmp_specs.specs.Attributes.{AreAttributes}
 use Rattle.bmp_specs.specs.MessageBody.{width_of}
 use Rattle.bmp_specs.specs.PeerHeader.{HeaderValue}
-use Rattle.bmp_specs.specs.UpdateForms.{FitsWidth, HasNoAsZero, Takes, departs, may_have_two_octets, width_in}
-use Rattle.bmp_specs.specs.Values.{AttrsReadValue, OpensValue}
+use Rattle.bmp_specs.specs.UpdateForms.{FitsWidth, Takes, departs, may_have_two_octets, width_in}
+use Rattle.bmp_specs.specs.Values.{OpensValue}
 use Rattle.path_attrs.specs.Framed.{HasValueIn}
 
 -- the last form fits

@@ -1,5 +1,5 @@
 -- UPDATE messages in the forms that are taken.
-use Rattle.std.proofs.Common.{◌≡◌, ◌⊎◌, ℕ, ◌+◌, Bool, true, false, cond, not, ◌&&◌, inl, inr, List, [], ◌∷◌, ◌++◌, map, option_map, option_to_list, Option, Some, None, refl, sym, ap, subst, ◌∙◌}
+use Rattle.std.proofs.Common.{◌≡◌, ◌⊎◌, ℕ, ◌+◌, Bool, false, cond, not, ◌&&◌, inl, inr, List, [], ◌∷◌, ◌++◌, map, option_map, option_to_list, Option, Some, None, refl, sym, ap, subst, ◌∙◌}
 use Rattle.std.specs.Prelude.{MatchOption, ◌==◌}
 use Rattle.std.specs.List.{AllByRecursion}
 use Rattle.bmp_specs.specs.declared.wire.Family.{Family}

@@ -1,5 +1,5 @@
 -- The state that the known peers are, and how a message changes it.
-use Rattle.std.proofs.Common.{◌≡◌, eqb, Bool, true, false, true≢false, cond, ◌&&◌, List, Option, Some, None, refl, sym, ap, ◌∙◌}
+use Rattle.std.proofs.Common.{◌≡◌, eqb, Bool, true, false, cond, ◌&&◌, Option, Some, None, refl, sym, ap, ◌∙◌}
 use Rattle.std.specs.BTreeMap.{is_at}
 use Rattle.std.specs.Ordering.{eq_by_cmp}
 use Rattle.bmp_specs.specs.declared.peers.View.{View}

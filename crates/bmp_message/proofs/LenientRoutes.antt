@@ -1,10 +1,10 @@
 -- What Route Monitoring and Statistics Reports mean after what is known of their peer.
-use Rattle.std.proofs.Common.{◌≡◌, eqb, ℕ, Bool, true, false, cond, not, ◌&&◌, List, [], ◌∷◌, ◌++◌, Option, Some, None, refl, sym, ap, subst, ◌∙◌}
+use Rattle.std.proofs.Common.{◌≡◌, eqb, ℕ, Bool, true, false, cond, not, ◌&&◌, List, [], ◌∷◌, ◌++◌, Some, None, sym, ap, subst, ◌∙◌}
 use Rattle.std.specs.BTreeMap.{is_at}
 use Rattle.bmp_specs.specs.declared.peers.View.{View}
 use Rattle.bmp_specs.specs.ImpliedPeerUp.{implied_info, implied_opens}
 use Rattle.bmp_specs.specs.LenientBody.{IsLenientUpdate, OfPeerLeniently}
-use Rattle.bmp_specs.specs.LenientState.{LenientState, is_untold, with_shown}
+use Rattle.bmp_specs.specs.LenientState.{is_untold, with_shown}
 use Rattle.bmp_specs.specs.MessageBody.{route_monitoring, statistics_report}
 use Rattle.bmp_specs.specs.MessageEffects.{effects_of}
 use Rattle.bmp_specs.specs.Orders.{key_cmp}

@@ -5,13 +5,13 @@ use Rattle.std.specs.Option.{option_or}
 use Rattle.bmp_specs.specs.ImpliedPeerUp.{implied_info, implied_opens}
 use Rattle.bmp_specs.specs.LenientBody.{HasPeerLeniently, IsAsStrict, IsLenientUpdate, IsNoReport, IsOrphan, IsUnreadable, OfPeerLeniently, OfTypeLeniently, TellsRoutes, TellsStatistics, implied_up}
 use Rattle.bmp_specs.specs.LenientState.{LenientState, is_untold, opens_for, with_shown}
-use Rattle.bmp_specs.specs.MessageBody.{MessageType, OfType, initiation_message, route_mirroring, route_monitoring, statistics_report, termination_message, unassigned}
+use Rattle.bmp_specs.specs.MessageBody.{MessageType, OfType, route_mirroring, route_monitoring, statistics_report}
 use Rattle.bmp_specs.specs.MessageEffects.{effects_of}
 use Rattle.bmp_specs.specs.Mirroring.{IsMirroring}
 use Rattle.bmp_specs.specs.PeerHeader.{HeaderValue, IsHeader, header_size, key_of, view_of}
 use Rattle.bmp_specs.specs.Statistics.{IsStatistics}
 use Rattle.bmp_specs.specs.UpdateForms.{FormsValue}
-use Rattle.bmp_specs.specs.Values.{EffectValue, KeyValue, OpensValue, StatisticsValue, UpdateValue, mirrored_routes, of_unknown_type, orphan, passed, routes, statistics, up}
+use Rattle.bmp_specs.specs.Values.{EffectValue, KeyValue, OpensValue, StatisticsValue, UpdateValue, mirrored_routes, orphan, passed, routes, statistics, up}
 use Rattle.bmp_specs.proofs.PeerHeaderCode.{header_code}
 use Rattle.bmp_message.specs.Effects.{HasEffects, MeansNothing}
 use Rattle.bmp_message.specs.Lenient.{ReadsNothing}

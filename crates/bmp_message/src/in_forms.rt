@@ -14,7 +14,7 @@ use crate::effects::{add, one_if};
 use crate::forms::{Forms, choose_family, choose_width, departs, width_in};
 use crate::routes::{add_routes, count, id_use, update_body, width_of};
 use bgp_open::PeerInfo;
-use bgp_update::{Update, frame_update, judge_update, read_update, treat_as_withdraw};
+use bgp_update::{Update, UpdateReader, frame_update, judge_update, treat_as_withdraw};
 use bmp_frames::{PeerHeader, PeerKey};
 use bmp_specs::Family;
 use rib_model::{Effect, EffectList};
@@ -32,7 +32,7 @@ pub(crate) struct InForms {
 // Reads the body of an UPDATE message in the forms of the last one, where it has a value in them. With AS numbers in
 // two octets it isn't tried, since the AS_PATH is then looked at further.
 fn read_as_last(
-    alloc: Global,
+    reader: &mut UpdateReader,
     peer: &PeerInfo,
     head: &PeerHeader,
     body: &[u8],
@@ -44,7 +44,7 @@ fn read_as_last(
         return Ok(None);
     }
     let ids = last.ids(id_use(peer, head));
-    match read_update(alloc, body, width_of(head), ids) {
+    match reader.read(body, width_of(head), ids) {
         Ok(update) => Ok(Some(update)),
         Err(BodyFault::Broken) => Ok(None),
         Err(BodyFault::NoMemory) => Err(NoMemory),
@@ -55,6 +55,7 @@ fn read_as_last(
 // path attributes have a value in no width, its routes are withdrawn (RFC 7606, section 2).
 fn read_fitting(
     alloc: Global,
+    reader: &mut UpdateReader,
     peer: &PeerInfo,
     head: &PeerHeader,
     body: &[u8],
@@ -81,7 +82,7 @@ fn read_fitting(
                 two_octets,
             };
             let width = width_in(peer, head, two_octets);
-            let update = read_update(alloc, body, width, taken.ids(agreed))?;
+            let update = reader.read(body, width, taken.ids(agreed))?;
             Ok(InForms { update, taken })
         }
         None => {
@@ -101,6 +102,7 @@ fn read_fitting(
 // the last forms is read once.
 pub(crate) fn read_in_forms(
     alloc: Global,
+    reader: &mut UpdateReader,
     peer: &PeerInfo,
     head: &PeerHeader,
     rest: &[u8],
@@ -112,12 +114,12 @@ pub(crate) fn read_in_forms(
     let Some(body) = update_body(rest) else {
         return Err(BodyFault::Broken);
     };
-    match read_as_last(alloc, peer, head, body, last)? {
+    match read_as_last(reader, peer, head, body, last)? {
         Some(update) => Ok(InForms {
             update,
             taken: *last,
         }),
-        None => read_fitting(alloc, peer, head, body, last),
+        None => read_fitting(alloc, reader, peer, head, body, last),
     }
 }
 
@@ -141,6 +143,7 @@ fn add_up(
 // taken. The Up of the peer stands first, where it is implied.
 pub(crate) fn effects_in_forms(
     alloc: Global,
+    reader: &mut UpdateReader,
     peer: &Arc<PeerInfo>,
     implied: bool,
     head: &PeerHeader,
@@ -151,7 +154,7 @@ pub(crate) fn effects_in_forms(
     ensures ok { IfOk result (λ r. (u : UpdateValue) × IsLenientUpdate (opens_of (arc_value peer.now)) head.now rest.now last.now r.1 u × (up_if implied key.now (arc_value peer.now) ++ effects_of (routes key.now (view_of head.now) u) ≡ effect_values r.0)) }
     ensures broken { IsErrOf result BodyFault.Broken → (taken : FormsValue) (u : UpdateValue) → IsLenientUpdate (opens_of (arc_value peer.now)) head.now rest.now last.now taken u → ⊥ }
 {
-    let InForms { update, taken } = read_in_forms(alloc, peer, head, rest, last)?;
+    let InForms { update, taken } = read_in_forms(alloc, reader, peer, head, rest, last)?;
     let mut effects = EffectList::with_capacity(alloc, one_if(implied) + count(&update))?;
     add_up(&mut effects, key, peer, implied)?;
     add_routes(&mut effects, key, head.view(), update)?;

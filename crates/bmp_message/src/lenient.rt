@@ -24,6 +24,7 @@ use crate::events;
 use crate::forms::Forms;
 use crate::reading::makes::{Makes, WithEffects, made_of};
 use crate::types::{MessageType, PeerMessage};
+use bgp_update::UpdateReader;
 use bmp_frames::{COMMON_HEADER, LOC_RIB, PeerHeader, PeerKey, View};
 use implied::implied_info;
 use known::{UpPeer, show_in};
@@ -46,6 +47,7 @@ use wire_io::BodyFault;
 #[derive(Drop)]
 pub struct LenientReading {
     peers: BTreeMap<PeerKey, Option<UpPeer>>,
+    reader: UpdateReader,
     alloc: Global,
 }
 
@@ -78,6 +80,7 @@ impl LenientReading {
     {
         LenientReading {
             peers: BTreeMap::new(alloc),
+            reader: UpdateReader::new(alloc),
             alloc,
         }
     }
@@ -121,7 +124,16 @@ impl LenientReading {
         }
         let info = Arc::new(self.alloc, implied_info(self.alloc, head))?;
         let last = Forms::as_agreed();
-        match M::in_forms(self.alloc, &info, true, head, key, rest, &last) {
+        match M::in_forms(
+            self.alloc,
+            &mut self.reader,
+            &info,
+            true,
+            head,
+            key,
+            rest,
+            &last,
+        ) {
             Ok((made, taken)) => {
                 let mut peer = UpPeer::new(info, false);
                 peer.show(head.view(), &taken);
@@ -152,7 +164,16 @@ impl LenientReading {
         };
         let view = head.view();
         let last = peer.shown(view);
-        match M::in_forms(self.alloc, peer.info(), false, head, key, rest, &last) {
+        match M::in_forms(
+            self.alloc,
+            &mut self.reader,
+            peer.info(),
+            false,
+            head,
+            key,
+            rest,
+            &last,
+        ) {
             Ok((made, taken)) => {
                 self.show(key, view, &taken);
                 Ok(made)

@@ -18,6 +18,7 @@ use crate::effects::only;
 use crate::types::{MessageType, PeerMessage};
 use crate::{BodyReading, events};
 use bgp_open::PeerInfo;
+use bgp_update::UpdateReader;
 use bmp_frames::{COMMON_HEADER, PeerHeader, PeerKey};
 use makes::{Makes, WithEffects, made_of};
 use peer_events::read_peer_up;
@@ -35,6 +36,7 @@ use wire_io::BodyFault;
 #[derive(Drop)]
 pub struct Reading {
     peers: BTreeMap<PeerKey, Arc<PeerInfo>>,
+    reader: UpdateReader,
     alloc: Global,
 }
 
@@ -53,6 +55,7 @@ impl Reading {
     {
         Reading {
             peers: BTreeMap::new(alloc),
+            reader: UpdateReader::new(alloc),
             alloc,
         }
     }
@@ -66,18 +69,19 @@ impl Reading {
 
     // Route Monitoring (RFC 7854, section 4.6). Where the peer isn't up nothing of it is read.
     fn routes<M: Makes>(
-        &self,
+        &mut self,
         head: &PeerHeader,
         key: &PeerKey,
         rest: &[u8],
     ) -> Result<M::Made, BodyFault>
         requires { length rest.now ≤ most_body }
-        ensures ok { IfOk result (λ made. IsMade M.is_of (OfPeer route_monitoring (reading_state self.now) head.now key.now rest.now) made (reading_state self.now)) }
-        ensures broken { IsErrOf result BodyFault.Broken → MeansNothing (OfPeer route_monitoring (reading_state self.now) head.now key.now rest.now) }
+        ensures ok { IfOk result (λ made. IsMade M.is_of (OfPeer route_monitoring (reading_state self.old) head.now key.now rest.now) made (reading_state self.new)) }
+        ensures broken { IsErrOf result BodyFault.Broken → MeansNothing (OfPeer route_monitoring (reading_state self.old) head.now key.now rest.now) }
+        ensures unchanged { self.new ≡ self.old }
         ensures wants { IsErrOf result BodyFault.NoMemory → M.wants }
     {
         match self.peers.get(key) {
-            Some(peer) => M::routes(self.alloc, peer, head, key, rest),
+            Some(peer) => M::routes(self.alloc, &mut self.reader, peer, head, key, rest),
             None => Ok(M::orphan(self.alloc)?),
         }
     }

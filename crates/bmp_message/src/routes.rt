@@ -9,7 +9,7 @@ ghost use Rattle.rib_model.specs.Effects.{effect_values};
 
 use crate::effects::{add_announcements, add_mark, add_unread, add_withdrawals, one_if};
 use bgp_open::{BGP_HEADER, PeerInfo, Side, UPDATE_MESSAGE, bgp_frame, path_ids};
-use bgp_update::{IdUse, Update, judge_update, read_update};
+use bgp_update::{IdUse, Update, UpdateReader, judge_update};
 use bmp_frames::{O_FLAG, PeerHeader, PeerKey};
 use bmp_specs::{Family, View, Width};
 use rib_model::EffectList;
@@ -68,7 +68,7 @@ pub(crate) fn update_body(bytes: &[u8]) -> Option<&[u8]>
 
 // Reads the UPDATE of a Route Monitoring message (RFC 7854, section 4.6) of a peer that is up.
 fn read_routes(
-    alloc: Global,
+    reader: &mut UpdateReader,
     peer: &PeerInfo,
     head: &PeerHeader,
     rest: &[u8],
@@ -79,7 +79,7 @@ fn read_routes(
     let Some(body) = update_body(rest) else {
         return Err(BodyFault::Broken);
     };
-    let update = read_update(alloc, body, width_of(head), id_use(peer, head))?;
+    let update = reader.read(body, width_of(head), id_use(peer, head))?;
     Ok(update)
 }
 
@@ -143,6 +143,7 @@ fn effects_of_update(
 // however many routes it has.
 pub(crate) fn route_monitoring(
     alloc: Global,
+    reader: &mut UpdateReader,
     peer: &PeerInfo,
     head: &PeerHeader,
     key: &PeerKey,
@@ -152,7 +153,7 @@ pub(crate) fn route_monitoring(
     ensures items { IfOk result (λ effects. length effects ≤ 5) }
     ensures broken { IsErrOf result BodyFault.Broken → (u : UpdateValue) → IsRouteMonitoring (opens_of peer.now) head.now rest.now u → ⊥ }
 {
-    let update = read_routes(alloc, peer, head, rest)?;
+    let update = read_routes(reader, peer, head, rest)?;
     let effects = effects_of_update(alloc, key, head.view(), update)?;
     Ok(effects)
 }

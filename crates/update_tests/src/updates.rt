@@ -2,7 +2,8 @@
 //! stand in the NLRI and those with `*` in MP_REACH_NLRI; `#` comes before a path identifier.
 
 use bgp_update::{
-    IdUse, NlriList, contained_routes, fits_family, frame_update, judge_update, read_update,
+    IdUse, NlriList, Update, UpdateReader, contained_routes, fits_family, frame_update,
+    judge_update, read_update,
 };
 use bmp_specs::Width;
 use ip_prefix::{Family, Nlri, parse_prefix};
@@ -30,6 +31,22 @@ fn put_list(text: &mut Vec<u8>, sign: u8, list: &NlriList) -> Result<(), Fail> {
     Ok(())
 }
 
+// Puts what an UPDATE says.
+fn put_update(text: &mut Vec<u8>, update: &Update) -> Result<(), Fail> {
+    put_list(text, b'-', &update.withdrawn)?;
+    put_list(text, b'+', &update.plain)?;
+    put_list(text, b'*', &update.multi)?;
+    match update.mark {
+        Some(Family::V4) => text.extend_from_slice(b"end of IPv4")?,
+        Some(Family::V6) => text.extend_from_slice(b"end of IPv6")?,
+        None => (),
+    }
+    for _ in 0..update.unread {
+        text.extend_from_slice(b" unread")?;
+    }
+    Ok(())
+}
+
 // What is read of the body. A judgement that differs stands first.
 fn read(alloc: Global, body: &[u8], width: Width, ids: IdUse) -> Result<Vec<u8>, Fail> {
     let is_update = judge_update(body, width, ids);
@@ -43,17 +60,7 @@ fn read(alloc: Global, body: &[u8], width: Width, ids: IdUse) -> Result<Vec<u8>,
     if !is_update {
         text.extend_from_slice(b"refused ")?;
     }
-    put_list(&mut text, b'-', &update.withdrawn)?;
-    put_list(&mut text, b'+', &update.plain)?;
-    put_list(&mut text, b'*', &update.multi)?;
-    match update.mark {
-        Some(Family::V4) => text.extend_from_slice(b"end of IPv4")?,
-        Some(Family::V6) => text.extend_from_slice(b"end of IPv6")?,
-        None => (),
-    }
-    for _ in 0..update.unread {
-        text.extend_from_slice(b" unread")?;
-    }
+    put_update(&mut text, &update)?;
     Ok(text)
 }
 
@@ -238,6 +245,119 @@ fn each_prefix_has_its_hop(rt: HostRuntime) -> Result<(), Fail> {
         (Some(4), Some(1))
     );
     assert_eq!(rt; Arc::strong_count(&two.plain_attrs), 1);
+    Ok(())
+}
+
+// What a reader reads of the body, after what it has read, with the sizes of the next hops.
+fn read_next(
+    alloc: Global,
+    reader: &mut UpdateReader,
+    body: &[u8],
+    width: Width,
+    ids: IdUse,
+) -> Result<Vec<u8>, Fail> {
+    let update = match reader.read(body, width, ids) {
+        Ok(update) => update,
+        Err(BodyFault::Broken) => return Ok(Vec::from_slice(alloc, b"broken")?),
+        Err(BodyFault::NoMemory) => return Ok(Vec::from_slice(alloc, b"no memory")?),
+    };
+    let mut text = Vec::new(alloc);
+    put_update(&mut text, &update)?;
+    if hop_size(&update.plain_attrs) == Some(4) {
+        text.extend_from_slice(b" of 4")?;
+    }
+    if hop_size(&update.multi_attrs) == Some(1) {
+        text.extend_from_slice(b" of 1")?;
+    }
+    Ok(text)
+}
+
+// One body after another, of which most have the attributes of one before.
+#[test]
+fn what_was_read_changes_nothing(rt: HostRuntime) -> Result<(), Fail> {
+    let alloc = rt.alloc();
+    let rows: [(&[u8], Width, IdUse, &[u8]); 12] = [
+        (
+            b"\0\0\0\x07\x40\x03\x04\xc0\0\x02\x01\x08\x0a",
+            Width::Four,
+            NONE,
+            b"+10.0.0.0/8 of 4",
+        ),
+        (
+            b"\0\x02\x08\x0b\0\x07\x40\x03\x04\xc0\0\x02\x01\x08\x0c",
+            Width::Four,
+            NONE,
+            b"-11.0.0.0/8+12.0.0.0/8 of 4",
+        ),
+        (
+            b"\0\0\0\x07\x40\x03\x04\xc0\0\x02\x01\0\0\0\x05\x08\x0a",
+            Width::Four,
+            BOTH,
+            b"+10.0.0.0/8#5 of 4",
+        ),
+        (
+            b"\0\0\0\x07\x40\x03\x04\xc0\0\x02\x01\x21\x0a",
+            Width::Four,
+            NONE,
+            b"broken",
+        ),
+        (
+            b"\0\0\0\x10\x40\x03\x04\xc0\0\x02\x01\x80\x0e\x06\0\x02\x01\x01\x0a\0\x08\x0a",
+            Width::Four,
+            NONE,
+            b"+10.0.0.0/8*::/0 of 4 of 1",
+        ),
+        (
+            b"\0\0\0\x10\x40\x03\x04\xc0\0\x02\x01\x80\x0e\x06\0\x02\x01\x01\x0a\0\x08\x0b",
+            Width::Four,
+            NONE,
+            b"+11.0.0.0/8*::/0 of 4 of 1",
+        ),
+        (
+            b"\0\0\0\x09\x40\x02\x06\x02\x02\x5b\xa0\xfb\xf4\x08\x0a",
+            Width::Two,
+            NONE,
+            b"+10.0.0.0/8",
+        ),
+        (
+            b"\0\0\0\x09\x40\x02\x06\x02\x02\x5b\xa0\xfb\xf4\x08\x0a",
+            Width::Four,
+            NONE,
+            b"broken",
+        ),
+        (
+            b"\0\0\0\x09\x40\x02\x06\x02\x02\x5b\xa0\xfb\xf4\x08\x0b",
+            Width::Two,
+            NONE,
+            b"+11.0.0.0/8",
+        ),
+        (
+            b"\0\0\0\x09\x40\x02\x06\x02\x02\x5b\xa0\xfb\xf4",
+            Width::Two,
+            NONE,
+            b"",
+        ),
+        (b"\0\0\0\0\x08\x0a", Width::Two, NONE, b"+10.0.0.0/8"),
+        (b"\0\0\0\0", Width::Two, NONE, b"end of IPv4"),
+    ];
+    let mut reader = UpdateReader::new(alloc);
+    for (body, width, ids, wanted) in rows {
+        let text = read_next(alloc, &mut reader, body, width, ids)?;
+        assert_eq!(rt; text.as_slice(), wanted);
+    }
+    Ok(())
+}
+
+// The attributes of two messages are one, of which the reader keeps one share.
+#[test]
+fn the_same_attributes_are_shared(rt: HostRuntime) -> Result<(), Fail> {
+    let alloc = rt.alloc();
+    let mut reader = UpdateReader::new(alloc);
+    let body = b"\0\0\0\x07\x40\x03\x04\xc0\0\x02\x01\x08\x0a";
+    let one = reader.read(body, Width::Four, NONE)?;
+    assert_eq!(rt; Arc::strong_count(&one.plain_attrs), 3);
+    let two = reader.read(body, Width::Four, NONE)?;
+    assert_eq!(rt; Arc::strong_count(&two.multi_attrs), 5);
     Ok(())
 }
 

@@ -14,6 +14,7 @@ use crate::effects::only;
 use crate::forms::Forms;
 use crate::{in_forms, routes};
 use bgp_open::PeerInfo;
+use bgp_update::UpdateReader;
 use bmp_frames::{PeerHeader, PeerKey};
 use rib_model::{Effect, EffectList};
 use std::alloc::Global;
@@ -48,6 +49,7 @@ pub(crate) trait Makes {
     // Makes it of a Route Monitoring message (RFC 7854, section 4.6) of a peer that is up.
     fn routes(
         alloc: Global,
+        reader: &mut UpdateReader,
         peer: &PeerInfo,
         head: &PeerHeader,
         key: &PeerKey,
@@ -61,6 +63,7 @@ pub(crate) trait Makes {
     // peer and view in the last forms, with the Up of the peer before it where that is implied; and tells the forms.
     fn in_forms(
         alloc: Global,
+        reader: &mut UpdateReader,
         peer: &Arc<PeerInfo>,
         implied: bool,
         head: &PeerHeader,
@@ -108,16 +111,18 @@ impl Makes for WithEffects {
 
     fn routes(
         alloc: Global,
+        reader: &mut UpdateReader,
         peer: &PeerInfo,
         head: &PeerHeader,
         key: &PeerKey,
         rest: &[u8],
     ) -> Result<EffectList, BodyFault> {
-        routes::route_monitoring(alloc, peer, head, key, rest)
+        routes::route_monitoring(alloc, reader, peer, head, key, rest)
     }
 
     fn in_forms(
         alloc: Global,
+        reader: &mut UpdateReader,
         peer: &Arc<PeerInfo>,
         implied: bool,
         head: &PeerHeader,
@@ -125,7 +130,7 @@ impl Makes for WithEffects {
         rest: &[u8],
         last: &Forms,
     ) -> Result<(EffectList, Forms), BodyFault> {
-        in_forms::effects_in_forms(alloc, peer, implied, head, key, rest, last)
+        in_forms::effects_in_forms(alloc, reader, peer, implied, head, key, rest, last)
     }
 }
 
@@ -151,6 +156,7 @@ impl Makes for WithoutEffects {
 
     fn routes(
         _alloc: Global,
+        _reader: &mut UpdateReader,
         peer: &PeerInfo,
         head: &PeerHeader,
         _key: &PeerKey,
@@ -165,6 +171,7 @@ impl Makes for WithoutEffects {
 
     fn in_forms(
         _alloc: Global,
+        _reader: &mut UpdateReader,
         peer: &Arc<PeerInfo>,
         _implied: bool,
         head: &PeerHeader,

@@ -1,5 +1,4 @@
-use Rattle.std.proofs.Common.{ap, ◌∙◌}
-use Rattle.std.specs.Arc.{arc_value}
+use Rattle.std.proofs.Common.{◌∙◌}
 use Rattle.bgp_update.specs.Framed.{framed_value}
 use Rattle.bgp_update.proofs.Withdrawing.{withdraws}
 use Rattle.bgp_update.proofs.withdraw.treat_as_withdraw.Goals as goal

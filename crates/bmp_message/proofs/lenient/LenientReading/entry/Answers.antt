@@ -1,10 +1,9 @@
-use Rattle.std.proofs.Common.{List, ◌∷◌, subst, All}
-use Rattle.bmp_specs.specs.LenientBody.{IsLenientEntry}
+use Rattle.std.proofs.Common.{List, subst, All}
 use Rattle.bmp_specs.specs.MessageEffects.{HasViewOfKey}
 use Rattle.bmp_specs.specs.Values.{EffectValue}
 use Rattle.bmp_specs.proofs.LenientViews.{lenient_views}
 use Rattle.bmp_message.specs.Lenient.{lenient_state}
-use Rattle.bmp_message.proofs.LenientEntries.{has_entry_so, no_entry_so}
+use Rattle.bmp_message.proofs.LenientEntries.{has_entry_so}
 use Rattle.bmp_message.proofs.lenient.LenientReading.entry.Goals as goal
 
 pub returns-clause-views : goal.returns-clause-views

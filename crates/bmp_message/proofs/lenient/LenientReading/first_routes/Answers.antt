@@ -1,4 +1,4 @@
-use Rattle.std.proofs.Common.{true, List, ◌∷◌, [], ◌++◌, Err, sym, ap, subst, ◌∙◌}
+use Rattle.std.proofs.Common.{true, ◌∷◌, [], ◌++◌, Err, sym, ap, subst, ◌∙◌}
 use Rattle.std.specs.Arc.{arc_value}
 use Rattle.bmp_specs.specs.LenientBody.{OfPeerLeniently}
 use Rattle.bmp_specs.specs.MessageBody.{route_monitoring}
@@ -26,6 +26,7 @@ pub returns-in-Err-Broken-clause-ok : goal.returns-in-Err-Broken-clause-ok
 returns-in-Err-Broken-clause-ok g c = (
   orphan ∷ [],
   c.in_ok-orphan-in-Err-Broken.ensures.ok,
-  first_unreadable c.args.self.now c.args.head.now c.args.key.now c.args.rest.now c.requires (sym c.is_loc_rib.ensures ∙ c.if-not-is_loc_rib.false) (arc_value c.in_ok-info.info) (c.in_ok-info.ensures.ok ∙ c.implied_info.ensures)
-      c.as_agreed-last.result c.as_agreed-last.ensures (c.in-Err-Broken.ensures.broken (ap Err c.in-Err-Broken.field-0-is)),
+  subst (λ (v : KnownPeers). OfPeerLeniently route_monitoring (lenient_state c.args.self.now) c.args.head.now c.args.key.now c.args.rest.now (orphan ∷ []) (lenient_state v)) (sym c.self.view_is)
+      (first_unreadable c.args.self.now c.args.head.now c.args.key.now c.args.rest.now c.requires (sym c.is_loc_rib.ensures ∙ c.if-not-is_loc_rib.false) (arc_value c.in_ok-info.info) (c.in_ok-info.ensures.ok ∙ c.implied_info.ensures)
+      c.as_agreed-last.result c.as_agreed-last.ensures (c.in-Err-Broken.ensures.broken (ap Err c.in-Err-Broken.field-0-is))),
 )
