@@ -305,13 +305,13 @@ fn what_was_read_changes_nothing(rt: HostRuntime) -> Result<(), Fail> {
             b"\0\0\0\x10\x40\x03\x04\xc0\0\x02\x01\x80\x0e\x06\0\x02\x01\x01\x0a\0\x08\x0a",
             Width::Four,
             NONE,
-            b"+10.0.0.0/8*::/0 of 4 of 1",
+            b"+10.0.0.0/8 of 4 of 1",
         ),
         (
             b"\0\0\0\x10\x40\x03\x04\xc0\0\x02\x01\x80\x0e\x06\0\x02\x01\x01\x0a\0\x08\x0b",
             Width::Four,
             NONE,
-            b"+11.0.0.0/8*::/0 of 4 of 1",
+            b"+11.0.0.0/8 of 4 of 1",
         ),
         (
             b"\0\0\0\x09\x40\x02\x06\x02\x02\x5b\xa0\xfb\xf4\x08\x0a",
