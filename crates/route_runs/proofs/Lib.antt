@@ -4,6 +4,7 @@ pub mod Handles
 pub mod Overriding
 pub mod Contents
 pub mod Searching
+pub mod UpTo
 pub mod Renaming
 pub mod OneSet
 pub mod Hints

@@ -1,5 +1,5 @@
 -- Searches in the keys of a run, and over runs.
-use Rattle.std.proofs.Common.{◌≡◌, ℕ, zero, suc, ◌+◌, ◌-◌, ◌<◌, ◌≤◌, ◌⊎◌, inl, inr, Bool, true, false, not, cond, if◌then◌else◌, List, [], ◌∷◌, ◌++◌, length, get_or, take, ◌||◌, Option, None, Some, refl, ap, sym, ◌∙◌, subst, arith}
+use Rattle.std.proofs.Common.{◌≡◌, ℕ, zero, suc, ◌+◌, ◌-◌, ◌<◌, ◌≤◌, ◌⊎◌, inl, inr, Bool, true, false, cond, if◌then◌else◌, List, [], ◌∷◌, ◌++◌, length, get_or, take, ◌||◌, Option, None, Some, refl, ap, sym, ◌∙◌, subst, arith}
 use Rattle.std.specs.declared.cmp.Ordering.{Ordering}
 use Rattle.std.specs.declared.cmp.Ordering.TheVariants.{Less, Equal, Greater}
 use Rattle.std.specs.Ordering.{is_lt, is_eq, ordering_index, ordering_reverse}
@@ -15,7 +15,7 @@ use Rattle.std.proofs.lemmas.Map.Views.{tells_apart}
 use Rattle.route_runs.specs.Override.{value_at, or_else}
 use Rattle.route_runs.specs.Rows.{set_at, paired, rows, IsRun}
 use Rattle.route_runs.specs.Runs.{joined, latest, seen}
-use Rattle.route_runs.specs.Places.{is_after, IsAfterPoint, IsNextKey, IsNext, has_key, has_latest, lesser_of, IsPassed, IsFirst, IsFirstPair, IsBeforePoint, turned, is_from}
+use Rattle.route_runs.specs.Places.{is_after, IsAfterPoint, IsNextKey, IsNext, has_key, has_latest, lesser_of, IsPassed, IsFirst, IsFirstPair, IsBeforePoint, turned}
 use Rattle.route_runs.proofs.Overriding.{value-named}
 use Rattle.route_runs.proofs.Contents.{value-joined, latest-more}
 
@@ -380,40 +380,6 @@ turned_total cmp total exact = record {
 
 pub turned_exact : {K : Type 0} (cmp : K → K → Ordering) → CmpEqualImpliesEq cmp → CmpEqualImpliesEq (turned cmp)
 turned_exact cmp exact x y e = sym (exact y x e)
-
--- ---- a place itself, or what is after it
-module _ {K A : Type 0} (cmp : K → K → Ordering) (total : IsTotalOrder cmp) (exact : CmpEqualImpliesEq cmp) (value : K → Option A) (place : K) where
-  from_true : (b : Bool) → not b ≡ true → b ≡ false
-  from_true true e = absurd cc
-  from_true false e = refl
-
-  pub from_here : (x : A) → value place ≡ Some x → IsFirstPair cmp (is_from cmp place) value (place, x)
-  from_here x there = record {
-    there = there;
-    beyond = ap (λ o. not (is_lt o)) (itself cmp total exact place);
-    first = λ q test has. from_true (is_lt (cmp q place)) test;
-  }
-
-  nothing_here : value place ≡ None → (q : K) → is_from cmp place q ≡ true → is_some (value q) ≡ true → is_after cmp (Some place) q ≡ true
-  nothing_here none q test has = elim (bools (is_lt (cmp place q))) [
-    | inl after ↦ after
-    | inr more ↦ absurd (none_has (value q) (ap value (tie cmp total exact q place (from_true (is_lt (cmp q place)) test) more) ∙ none) has)
-  ]
-
-  after_from : (q : K) → is_lt (cmp place q) ≡ true → is_from cmp place q ≡ true
-  after_from q after = ap (λ o. not (is_lt o)) (turned_is cmp total exact place q Less (less_is _ after))
-
-  none_of : (o : Option A) → (is_some o ≡ true → o ≡ None) → o ≡ None
-  none_of None h = refl
-  none_of (Some x) h = h refl
-
-  pub from_after : (r : Option (K × A)) → value place ≡ None → IsFirst cmp (is_after cmp (Some place)) value r → IsFirst cmp (is_from cmp place) value r
-  from_after None none f = λ q test. none_of (value q) (λ has. f q (nothing_here none q test has))
-  from_after (Some e) none f = record {
-    there = f.there;
-    beyond = after_from e.0 f.beyond;
-    first = λ q test has. f.first q (nothing_here none q test has) has;
-  }
 
 -- ---- where the keys before a place end
 module _ {K : Type 0} (cmp : K → K → Ordering) (total : IsTotalOrder cmp) (exact : CmpEqualImpliesEq cmp) where

@@ -5,8 +5,8 @@ use Rattle.std.specs.declared.alloc.Global.{Global}
 use Rattle.std.specs.declared.cmp.Ordering.{Ordering}
 use Rattle.std.specs.declared.sync.Arc.{Arc}
 use Rattle.std.specs.Ordering.{is_lt}
-use Rattle.std.specs.Option.{is_some}
-use Rattle.route_runs.specs.Override.{value_at}
+use Rattle.std.specs.Option.{is_some, option_map}
+use Rattle.route_runs.specs.Override.{value_at, or_else}
 use Rattle.route_runs.specs.Runs.{latest, seen, shared}
 
 -- whether a key is after a place, or there is no place
@@ -75,3 +75,16 @@ pub record IsBeforePoint {K : Type 0} (cmp : K → K → Ordering) (place : Opti
   pub within : n ≤ length ks
   pub before : (k : ℕ) (d : K) → k < n → is_after (turned cmp) place (slice_index_or ks k d) ≡ true
   pub behind : (k : ℕ) (d : K) → n ≤ k → k < length ks → is_after (turned cmp) place (slice_index_or ks k d) ≡ false
+
+-- a key and what is said of it: the set that a reference points to, or that it is gone
+abbrev pub told : {K A : Type 0} → K × Option (Bor (Arc A Global)) → K × Option A
+told p = (p.0, option_map shared p.1)
+
+-- whether a key is that of a pair or after it, or there is no pair
+abbrev pub is_no_less : {K X : Type 0} → (K → K → Ordering) → Option (K × X) → K → Bool
+is_no_less cmp None q = true
+is_no_less cmp (Some e) q = is_from cmp e.0 q
+
+-- where the old pair is the first of earlier values, the new one is the first of them under later values
+abbrev pub IsFirstOver : {K X : Type 0} → (K → K → Ordering) → (K → Bool) → (K → Option X) → Option (K × X) → Option (K × X) → Type 0
+IsFirstOver {K} {X} cmp test later old new = (earlier : K → Option X) → IsFirst cmp test earlier old → IsFirst cmp test (λ q. or_else (later q) (earlier q)) new
