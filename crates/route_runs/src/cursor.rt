@@ -95,6 +95,33 @@ fn is_point<K: RunKey>(keys: &[K], place: &K, at: usize) -> bool
     are_behind(keys, place, at)
 }
 
+// Where the keys after a place may begin: by steps from the hint on that double, and then by halving. It is a guess, which
+// costs less than a search of all keys where the place isn't far.
+fn guess<K: RunKey>(keys: &[K], place: &K, hint: usize) -> usize {
+    let mut low = hint;
+    let mut step = 1usize;
+    for _ in 0..8 {
+        if low >= keys.len() || step > keys.len() - low {
+            return low;
+        }
+        if step == 0 || is_less(place, &keys[low + step - 1]) {
+            break;
+        }
+        low += step;
+        step = step.saturating_mul(2);
+    }
+    for _ in 0..8 {
+        step /= 2;
+        if step == 0 || low >= keys.len() || step > keys.len() - low {
+            return low;
+        }
+        if !is_less(place, &keys[low + step - 1]) {
+            low += step;
+        }
+    }
+    low
+}
+
 /// Where the keys after a key begin: at the hint, or one further, or found by a search.
 pub(crate) fn near_key<K: RunKey>(keys: &[K], place: &K, hint: usize) -> usize
     requires { IsStrictlySortedBy K.cmp keys.now }
@@ -103,9 +130,9 @@ pub(crate) fn near_key<K: RunKey>(keys: &[K], place: &K, hint: usize) -> usize
     if is_point(keys, place, hint) {
         return hint;
     }
-    let next = hint.saturating_add(1);
-    if is_point(keys, place, next) {
-        return next;
+    let near = guess(keys, place, hint);
+    if is_point(keys, place, near) {
+        return near;
     }
     after_place(keys, Some(*place))
 }
