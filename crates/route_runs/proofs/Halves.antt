@@ -1,23 +1,17 @@
 -- A list of IPv4 pairs and behind it one of IPv6 pairs.
 use Rattle.std.proofs.Common.{◌≡◌, ◌++◌, inl, inr, ◌⊎◌, Bool, true, false, not, cond, List, [], ◌∷◌, Option, None, Some, refl, ap, sym, ◌∙◌, subst}
-use Rattle.std.specs.declared.cmp.Ordering.{Ordering}
-use Rattle.std.specs.declared.cmp.Ordering.TheVariants.{Less, Equal, Greater}
+use Rattle.std.specs.declared.cmp.Ordering.TheVariants.{Less, Greater}
 use Rattle.std.specs.BTreeMap.{is_at}
-use Rattle.std.specs.List.{AllByRecursion, Contains, filter}
-use Rattle.std.specs.List.Sorted.{IsStrictlySortedBy}
-use Rattle.std.specs.Map.{keys_of}
+use Rattle.std.specs.List.{AllByRecursion}
 use Rattle.std.specs.Option.{is_some, option_map}
-use Rattle.std.specs.Ordering.{is_lt, is_eq}
+use Rattle.std.specs.Ordering.{is_lt}
 use Rattle.bmp_specs.specs.declared.wire.Family.{Family}
 use Rattle.bmp_specs.specs.declared.wire.Family.TheVariants.{V4, V6}
 use Rattle.bmp_specs.specs.Orders.{nlri_cmp}
 use Rattle.bmp_specs.specs.Values.{NlriValue}
-use Rattle.bmp_specs.proofs.OrderLaws.{nlri_total, nlri_exact}
-use Rattle.route_runs.specs.Layers.{AreChangedTo}
-use Rattle.route_runs.specs.Nlri.{IsNlri, IsNlriOf, AreNlri, AreKeys, AreHalves}
+use Rattle.route_runs.specs.Nlri.{IsNlriOf, AreNlri, AreKeys, AreHalves}
 use Rattle.route_runs.specs.Override.{value_at, or_else}
-use Rattle.route_runs.specs.Places.{turned, is_after, is_from, IsFirst, IsFirstPair}
-use Rattle.route_runs.specs.Runs.{changed, IsChanged}
+use Rattle.route_runs.specs.Places.{is_after, is_from, IsFirst, IsFirstPair}
 use Rattle.route_runs.proofs.Merging.{Rising, rising_cons, rising_head, rising_tail}
 use Rattle.route_runs.proofs.Nearer.{listed_has}
 use Rattle.route_runs.proofs.WithOrigin.{all_listed}

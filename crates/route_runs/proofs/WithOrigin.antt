@@ -16,13 +16,12 @@ use Rattle.route_runs.specs.Cursor.{Walking, moved}
 use Rattle.route_runs.specs.Nlri.{IsNlri, IsNlriOf, AreNlri}
 use Rattle.route_runs.specs.Origins.{attrs_origin, is_number, of_origin, with_origin, passes, least_nlri, least_high, when}
 use Rattle.route_runs.specs.Override.{value_at}
-use Rattle.route_runs.specs.Places.{is_after, is_from, IsFirst}
+use Rattle.route_runs.specs.Places.{is_from, IsFirst}
 use Rattle.route_runs.specs.Walk.{left}
 use Rattle.route_runs.proofs.Left.{all_from, walked_on, walked_from, ended_on, ended_from}
 use Rattle.route_runs.proofs.Merging.{Rising, all-filter, none_below, rising_head, rising_tail, rising-filter}
 use Rattle.route_runs.proofs.Nearer.{listed_has}
 use Rattle.route_runs.proofs.Origins.{with_cases}
-use Rattle.route_runs.proofs.Searching.{first_ext}
 
 module _ (asn : ℕ) where
   of_cons : (at : Bool) (x : AttrsValue) (o : Option AttrsValue) → of_origin attrs_origin asn (cond at (Some x) o) ≡ cond at (if is_number asn (attrs_origin x) then Some x else None) (of_origin attrs_origin asn o)

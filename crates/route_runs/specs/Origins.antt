@@ -5,7 +5,6 @@ use Rattle.std.specs.List.{Contains, filter}
 use Rattle.std.specs.Option.{is_some}
 use Rattle.bmp_specs.specs.declared.wire.Family.TheVariants.{V4, V6}
 use Rattle.bmp_specs.specs.MergedPath.{path_origin}
-use Rattle.bmp_specs.specs.Orders.{nlri_cmp}
 use Rattle.bmp_specs.specs.Values.{AttrsValue, NlriValue}
 use Rattle.route_runs.specs.Keys.{pair_cmp}
 use Rattle.route_runs.specs.Override.{value_at}

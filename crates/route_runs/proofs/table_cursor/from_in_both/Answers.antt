@@ -1,4 +1,4 @@
-use Rattle.std.proofs.Common.{None, Some, ◌++◌, sym, subst, refl, ◌∙◌, ap}
+use Rattle.std.proofs.Common.{◌++◌, sym, subst, ◌∙◌, ap}
 use Rattle.std.specs.Option.{option_map}
 use Rattle.bmp_specs.specs.Orders.{nlri_cmp}
 use Rattle.route_runs.specs.Override.{value_at}

@@ -1,4 +1,4 @@
-use Rattle.std.proofs.Common.{◌++◌, ◌∙◌, sym, subst}
+use Rattle.std.proofs.Common.{◌++◌, subst}
 use Rattle.bmp_specs.specs.Orders.{nlri_cmp}
 use Rattle.route_runs.specs.Runs.{IsChanged}
 use Rattle.route_runs.proofs.ChangesOfHalves.{changed_cat, halves_changed}
