@@ -18,52 +18,52 @@ use Rattle.route_runs.proofs.Origins.{number_of}
 use Rattle.route_runs.proofs.Overriding.{value-named}
 use Rattle.route_runs.proofs.Searching.{has_row, has_rows, value_found, latest_step}
 
-module _ {K A : Type 0} (origin : A → Option ℕ) (packs : List (List A)) (ks : List K) (vs : List ℕ) where
-  pub named_none : (pairs : List (ℕ × K)) → AreNamed origin packs ks vs 0 pairs
+module _ {K S A : Type 0} (spot : K → S) (origin : A → Option ℕ) (packs : List (List A)) (ks : List K) (vs : List ℕ) where
+  pub named_none : (pairs : List (ℕ × S)) → AreNamed spot origin packs ks vs 0 pairs
   named_none pairs k d asn lt h = absurd (omega (arith, lt))
 
-  pub named_more : (n : ℕ) (pairs pairs' : List (ℕ × K)) (key : K) (o : Option ℕ) → n < length ks → key ≡ get_or ks n key → o ≡ option_and_then origin (set_at packs (get_or vs n 0))
-      → ((p : ℕ × K) → Contains pairs p → Contains pairs' p) → ((asn : ℕ) → is_number asn o ≡ true → Contains pairs' (asn, key)) → AreNamed origin packs ks vs n pairs → AreNamed origin packs ks vs (n + 1) pairs'
-  named_more n pairs pairs' key o within is names kept added so_far k d asn lt h = elim (cases_lt k n) [
+  pub named_more : (n : ℕ) (pairs pairs' : List (ℕ × S)) (key : K) (s : S) (o : Option ℕ) → n < length ks → key ≡ get_or ks n key → s ≡ spot key → o ≡ option_and_then origin (set_at packs (get_or vs n 0))
+      → ((p : ℕ × S) → Contains pairs p → Contains pairs' p) → ((asn : ℕ) → is_number asn o ≡ true → Contains pairs' (asn, s)) → AreNamed spot origin packs ks vs n pairs → AreNamed spot origin packs ks vs (n + 1) pairs'
+  named_more n pairs pairs' key s o within is stands names kept added so_far k d asn lt h = elim (cases_lt k n) [
     | inl less ↦ kept _ (so_far k d asn less h)
     | inr more ↦
         let same : k ≡ n = omega (arith, lt, more) in
         let at : key ≡ get_or ks k d = is ∙ get_or_default ks n key d within ∙ ap (λ k. get_or ks k d) (sym same) in
-        subst (λ q. Contains pairs' (asn, q)) at (added asn (ap (is_number asn) (names ∙ ap (λ k. option_and_then origin (set_at packs (get_or vs k 0))) (sym same)) ∙ h))
+        subst (λ q. Contains pairs' (asn, q)) (stands ∙ ap spot at) (added asn (ap (is_number asn) (names ∙ ap (λ k. option_and_then origin (set_at packs (get_or vs k 0))) (sym same)) ∙ h))
   ]
 
-  pub named_all : (n : ℕ) (pairs : List (ℕ × K)) → length ks ≤ n → AreNamed origin packs ks vs n pairs → AreNamed origin packs ks vs (length ks) pairs
+  pub named_all : (n : ℕ) (pairs : List (ℕ × S)) → length ks ≤ n → AreNamed spot origin packs ks vs n pairs → AreNamed spot origin packs ks vs (length ks) pairs
   named_all n pairs le so_far k d asn lt h = so_far k d asn (omega (arith, lt, le)) h
 
-module _ {K A : Type 0} (cmp : K → K → Ordering) (total : IsTotalOrder cmp) (exact : CmpEqualImpliesEq cmp) (origin : A → Option ℕ) (packs : List (List A)) (ks : List K) (vs : List ℕ) (run : IsRun cmp packs ks vs) where
+module _ {K S A : Type 0} (cmp : K → K → Ordering) (total : IsTotalOrder cmp) (exact : CmpEqualImpliesEq cmp) (spot : K → S) (origin : A → Option ℕ) (packs : List (List A)) (ks : List K) (vs : List ℕ) (run : IsRun cmp packs ks vs) where
   seen_has : (o : Option (Option A)) (asn : ℕ) → is_some (of_origin origin asn (seen o)) ≡ true → is_some o ≡ true
   seen_has None asn h = absurd cc
   seen_has (Some x) asn h = refl
 
-  pub named_rows : (pairs : List (ℕ × K)) → AreNamed origin packs ks vs (length ks) pairs → AreAdded cmp origin (rows packs ks vs) pairs
+  pub named_rows : (pairs : List (ℕ × S)) → AreNamed spot origin packs ks vs (length ks) pairs → AreAdded cmp spot origin (rows packs ks vs) pairs
   named_rows pairs named q asn h =
       let r = has_row cmp total exact ks vs q (sym (has_rows cmp total exact packs ks vs run q) ∙ seen_has (value_at cmp q (rows packs ks vs)) asn h) in
       let value : value_at cmp q (rows packs ks vs) ≡ Some (set_at packs (get_or vs r.0 0)) =
       value-named cmp q packs (paired ks vs) ∙ ap (option_map (set_at packs)) (value_found cmp total exact ks vs run.even run.ordered r.0 q r.1 r.2) in
       let number = number_of origin asn (set_at packs (get_or vs r.0 0)) (sym (ap (λ o. is_some (of_origin origin asn (seen o))) value) ∙ h) in
-      subst (λ k. Contains pairs (asn, k)) r.2 (named r.0 q asn r.1 number)
+      subst (λ (k : K). Contains pairs (asn, spot k)) r.2 (named r.0 q asn r.1 number)
 
-module _ {K A : Type 0} (cmp : K → K → Ordering) (origin : A → Option ℕ) (runs : List (List (K × Option A))) where
-  pub all_none : (pairs : List (ℕ × K)) → AreAll cmp origin (take 0 runs) pairs
+module _ {K S A : Type 0} (cmp : K → K → Ordering) (spot : K → S) (origin : A → Option ℕ) (runs : List (List (K × Option A))) where
+  pub all_none : (pairs : List (ℕ × S)) → AreAll cmp spot origin (take 0 runs) pairs
   all_none pairs q asn h = absurd cc
 
   of_both : (asn : ℕ) (a b : Option (Option A)) (R : Type 0) → (is_some (of_origin origin asn (seen a)) ≡ true → R) → (is_some (of_origin origin asn (seen b)) ≡ true → R) → is_some (of_origin origin asn (seen (or_else a b))) ≡ true → R
   of_both asn None b R f g h = g h
   of_both asn (Some x) b R f g h = f h
 
-  pub all_more : (run : List (K × Option A)) (n : ℕ) (pairs pairs' : List (ℕ × K)) → n < length runs → run ≡ get_or runs n run → ((p : ℕ × K) → Contains pairs p → Contains pairs' p) → AreAdded cmp origin run pairs'
-      → AreAll cmp origin (take n runs) pairs → AreAll cmp origin (take (n + 1) runs) pairs'
+  pub all_more : (run : List (K × Option A)) (n : ℕ) (pairs pairs' : List (ℕ × S)) → n < length runs → run ≡ get_or runs n run → ((p : ℕ × S) → Contains pairs p → Contains pairs' p) → AreAdded cmp spot origin run pairs'
+      → AreAll cmp spot origin (take n runs) pairs → AreAll cmp spot origin (take (n + 1) runs) pairs'
   all_more run n pairs pairs' lt at kept added so_far q asn h =
-      of_both asn (value_at cmp q run) (latest cmp q (take n runs)) (Contains pairs' (asn, q)) (added q asn) (λ e. kept _ (so_far q asn e))
+      of_both asn (value_at cmp q run) (latest cmp q (take n runs)) (Contains pairs' (asn, spot q)) (added q asn) (λ e. kept _ (so_far q asn e))
       (sym (ap (λ o. is_some (of_origin origin asn (seen o))) (latest_step cmp q runs run n lt at)) ∙ h)
 
-  pub all_runs : (n : ℕ) (pairs : List (ℕ × K)) → length runs ≤ n → AreAll cmp origin (take n runs) pairs → AreAll cmp origin runs pairs
-  all_runs n pairs le all = subst (λ l. AreAll cmp origin l pairs) (take_all n runs le) all
+  pub all_runs : (n : ℕ) (pairs : List (ℕ × S)) → length runs ≤ n → AreAll cmp spot origin (take n runs) pairs → AreAll cmp spot origin runs pairs
+  all_runs n pairs le all = subst (λ l. AreAll cmp spot origin l pairs) (take_all n runs le) all
 
 -- ---- the run of these pairs
 module _ {K U : Type 0} (cmp : K → K → Ordering) (pairs : List (ℕ × K)) (unit : U) (added : List ((ℕ × K) × Option U)) where
@@ -78,21 +78,21 @@ module _ {K U : Type 0} (cmp : K → K → Ordering) (pairs list : List (ℕ × 
   pub has_same_pairs : HasSame pairs list → HasPairs cmp list added → HasPairs cmp pairs added
   has_same_pairs same has = record { there = λ p h. has.there p (same.to p h); none_gone = has.none_gone }
 
-module _ {K A U : Type 0} (cmp : K → K → Ordering) (origin : A → Option ℕ) (pairs : List (ℕ × K)) (added : List ((ℕ × K) × Option U)) (has : HasPairs cmp pairs added) where
-  pub covered_by : (run : List (K × Option A)) → AreAdded cmp origin run pairs → Covers cmp origin run added
-  covered_by run all = record { there = λ q asn h. has.there (asn, q) (all q asn h); none_gone = has.none_gone }
+module _ {K S A U : Type 0} (cmp : K → K → Ordering) (by : S → S → Ordering) (spot : K → S) (origin : A → Option ℕ) (pairs : List (ℕ × S)) (added : List ((ℕ × S) × Option U)) (has : HasPairs by pairs added) where
+  pub covered_by : (run : List (K × Option A)) → AreAdded cmp spot origin run pairs → Covers cmp by spot origin run added
+  covered_by run all = record { there = λ q asn h. has.there (asn, spot q) (all q asn h); none_gone = has.none_gone }
 
   set_there : (a : Option (Option U)) (b : Option U) → is_some (seen a) ≡ true → is_some (changed a b) ≡ true
   set_there None b h = absurd cc
   set_there (Some x) b h = h
 
-  pub made_anew : IsTotalOrder cmp → CmpEqualImpliesEq cmp → (runs : List (List (K × Option A))) → AreAll cmp origin runs pairs → (old index : List ((ℕ × K) × U)) → IsChanged (pair_cmp cmp) old added index → IsIndexed cmp origin (contents cmp runs) index
+  pub made_anew : IsTotalOrder cmp → CmpEqualImpliesEq cmp → (runs : List (List (K × Option A))) → AreAll cmp spot origin runs pairs → (old index : List ((ℕ × S) × U)) → IsChanged (pair_cmp by) old added index → IsIndexed cmp by spot origin (contents cmp runs) index
   made_anew total exact runs all old index set q asn h =
       let listed = all q asn (sym (ap (λ o. is_some (of_origin origin asn o)) (value-contents cmp total exact q runs)) ∙ h) in
-      ap is_some (set.values (asn, q)) ∙ set_there (value_at (pair_cmp cmp) (asn, q) added) (value_at (pair_cmp cmp) (asn, q) old) (has.none_gone (asn, q) (has.there (asn, q) listed))
+      ap is_some (set.values (asn, spot q)) ∙ set_there (value_at (pair_cmp by) (asn, spot q) added) (value_at (pair_cmp by) (asn, spot q) old) (has.none_gone (asn, spot q) (has.there (asn, spot q) listed))
 
 -- a table and an index that are shared
-pub same_indexed : {K A U T E : Type 0} (cmp : K → K → Ordering) (origin : A → Option ℕ) (pairs : List (K × A)) (index : List ((ℕ × K) × U)) (r : Result T E) (first : T → List (K × A)) (second : T → List ((ℕ × K) × U))
-    → IfOk r (λ t. first t ≡ pairs) → IfOk r (λ t. second t ≡ index) → IsIndexed cmp origin pairs index → IfOk r (λ t. IsIndexed cmp origin (first t) (second t))
-same_indexed cmp origin pairs index (Ok t) first second a b has = subst (λ l. IsIndexed cmp origin l (second t)) (sym a) (subst (IsIndexed cmp origin pairs) (sym b) has)
-same_indexed cmp origin pairs index (Err e) first second a b has = tt
+pub same_indexed : {K S A U T E : Type 0} (cmp : K → K → Ordering) (by : S → S → Ordering) (spot : K → S) (origin : A → Option ℕ) (pairs : List (K × A)) (index : List ((ℕ × S) × U)) (r : Result T E) (first : T → List (K × A)) (second : T → List ((ℕ × S) × U))
+    → IfOk r (λ t. first t ≡ pairs) → IfOk r (λ t. second t ≡ index) → IsIndexed cmp by spot origin pairs index → IfOk r (λ t. IsIndexed cmp by spot origin (first t) (second t))
+same_indexed cmp by spot origin pairs index (Ok t) first second a b has = subst (λ l. IsIndexed cmp by spot origin l (second t)) (sym a) (subst (IsIndexed cmp by spot origin pairs) (sym b) has)
+same_indexed cmp by spot origin pairs index (Err e) first second a b has = tt

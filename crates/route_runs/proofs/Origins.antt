@@ -1,100 +1,139 @@
 -- The index of origins.
-use Rattle.std.proofs.Common.{◌≡◌, ℕ, ◌<◌, inl, inr, Bool, true, false, cond, if◌then◌else◌, option_and_then, List, length, Option, None, Some, refl, ap, sym, ◌∙◌}
+use Rattle.std.proofs.Common.{◌≡◌, ℕ, ◌<◌, inl, inr, Bool, true, false, not, cond, if◌then◌else◌, option_and_then, List, length, Option, None, Some, refl, ap, sym, subst, ◌∙◌}
 use Rattle.std.specs.declared.cmp.Ordering.{Ordering}
 use Rattle.std.specs.declared.cmp.Ordering.TheVariants.{Less, Equal, Greater}
-use Rattle.std.specs.Ordering.{is_lt, nat_cmp, ordering_then}
+use Rattle.std.specs.Ordering.{is_lt, nat_cmp, ordering_then, ordering_reverse}
 use Rattle.std.specs.Cmp.{IsTotalOrder}
-use Rattle.std.proofs.lemmas.Cmp.{nat_cmp_total, on_total, then_total}
 use Rattle.std.specs.List.{filter}
 use Rattle.std.specs.Option.{is_some}
 use Rattle.std.proofs.lemmas.Map.Lookups.{CmpEqualImpliesEq, exact_unsigned}
-use Rattle.route_runs.specs.Keys.{pair_cmp, pairs_exact}
+use Rattle.route_runs.specs.Keys.{pair_cmp}
 use Rattle.route_runs.specs.Override.{value_at}
-use Rattle.route_runs.specs.Origins.{is_number, of_origin, IsIndexed, Covers, when, indexed}
-use Rattle.route_runs.specs.Places.{is_after, IsFirst, IsFirstPair, IsNext, IsNextKey, IsPassed}
+use Rattle.route_runs.specs.Origins.{has_spot, is_number, of_origin, AreKeysBy, Covers, IsFirstSpot, IsIndexed, IsLeastSpot, IsReached, IsSkip}
+use Rattle.route_runs.specs.Places.{is_after, is_from, IsFirst, IsFirstPair, IsPassed}
 use Rattle.route_runs.specs.Runs.{seen, changed, IsChanged}
-use Rattle.route_runs.proofs.Searching.{bools, not_both, itself, next_ext, none_first, first_at, passed_more, first_ext, fewer, after_trans}
+use Rattle.route_runs.proofs.Searching.{bools, not_both, itself, less_is, tie, turned_is, fewer, after_trans}
+use Rattle.std.proofs.lemmas.Cmp.{nat_cmp_total}
 
 still_less : (o a b : Ordering) → (o ≡ Equal → ⊥) → is_lt (ordering_then o a) ≡ true → is_lt (ordering_then o b) ≡ true
 still_less Less a b h e = refl
 still_less Equal a b h e = absurd (h refl)
 still_less Greater a b h e = absurd cc
 
-when_some : {X : Type 0} (b : Bool) (x : X) → is_some (when b x) ≡ b
-when_some true x = refl
-when_some false x = refl
+some_of : {A : Type 0} (origin : A → Option ℕ) (asn : ℕ) (o : Option A) → is_some (of_origin origin asn o) ≡ true → is_some o ≡ true
+some_of origin asn None h = h
+some_of origin asn (Some x) h = refl
 
-seen_when : {A : Type 0} (b : Bool) (o : Option A) → b ≡ true → seen (when b o) ≡ o
-seen_when true o e = refl
-seen_when false o e = absurd cc
+is_none : {A : Type 0} (o : Option A) → is_some o ≡ false → o ≡ None
+is_none None h = refl
+is_none (Some x) h = absurd cc
 
-same_seen : {A : Type 0} (b : Bool) (o : Option A) → (is_some o ≡ true → b ≡ true) → o ≡ seen (when b o)
-same_seen true o h = refl
-same_seen false None h = refl
-same_seen false (Some x) h = let f : false ≡ true = h refl in absurd cc
+module _ {S : Type 0} (by : S → S → Ordering) where
+  pub pair_same : (n : ℕ) (x y : S) → pair_cmp by (n, x) (n, y) ≡ by x y
+  pair_same n x y = ap (λ o. ordering_then o (by x y)) (itself nat_cmp nat_cmp_total (λ x y e. exact_unsigned x y e) n)
 
-module _ {K : Type 0} (cmp : K → K → Ordering) (total : IsTotalOrder cmp) (exact : CmpEqualImpliesEq cmp) where
-  pub pairs_total : IsTotalOrder (pair_cmp cmp)
-  pairs_total = then_total (on_total (λ (p : ℕ × K). p.0) nat_cmp_total) (on_total (λ (p : ℕ × K). p.1) total)
+  module _ {U : Type 0} (index : List ((ℕ × S) × U)) (asn : ℕ) (spot : S) where
+    from_pair : (s : S) → is_from by spot s ≡ true → is_from (pair_cmp by) (asn, spot) (asn, s) ≡ true
+    from_pair s from = ap (λ o. not (is_lt o)) (pair_same asn s spot) ∙ from
 
-  pub pair_same : (n : ℕ) (x y : K) → pair_cmp cmp (n, x) (n, y) ≡ cmp x y
-  pair_same n x y = ap (λ o. ordering_then o (cmp x y)) (itself nat_cmp nat_cmp_total (λ x y e. exact_unsigned x y e) n)
-
-  module _ {U : Type 0} (index : List ((ℕ × K) × U)) (asn : ℕ) (place : K) where
-    after_pair : (q : K) → is_after cmp (Some place) q ≡ true → is_after (pair_cmp cmp) (Some (asn, place)) (asn, q) ≡ true
-    after_pair q after = ap is_lt (pair_same asn place q) ∙ after
-
-    pub next_none_of : ((p : ℕ × K) → is_after (pair_cmp cmp) (Some (asn, place)) p ≡ true → value_at (pair_cmp cmp) p index ≡ None)
-        → (q : K) → is_some (value_at (pair_cmp cmp) (asn, q) index) ≡ true → is_after cmp (Some place) q ≡ false
-    next_none_of f q has = elim (bools (is_after cmp (Some place) q)) [
-      | inl after ↦ absurd (not_both (is_some (value_at (pair_cmp cmp) (asn, q) index)) has (ap is_some (f (asn, q) (after_pair q after))))
-      | inr more ↦ more
+    pub spot_none : ((p : ℕ × S) → is_from (pair_cmp by) (asn, spot) p ≡ true → value_at (pair_cmp by) p index ≡ None) → IsFirstSpot by spot (has_spot by asn index) None
+    spot_none f s has = elim (bools (is_from by spot s)) [
+      | inl from ↦ absurd (not_both (has_spot by asn index s) has (ap is_some (f (asn, s) (from_pair s from))))
+      | inr before ↦ before
     ]
 
-    module _ (e : (ℕ × K) × U) (f : IsFirstPair (pair_cmp cmp) (is_after (pair_cmp cmp) (Some (asn, place))) (λ p. value_at (pair_cmp cmp) p index) e) where
-      pub next_is_of : e.0.0 ≡ asn → IsNextKey cmp (Some place) (λ q. is_some (value_at (pair_cmp cmp) (asn, q) index)) e.0.1
-      next_is_of s =
+    module _ (e : (ℕ × S) × U) (f : IsFirstPair (pair_cmp by) (is_from (pair_cmp by) (asn, spot)) (λ p. value_at (pair_cmp by) p index) e) where
+      pub spot_found : e.0.0 ≡ asn → IsFirstSpot by spot (has_spot by asn index) (Some e.0.1)
+      spot_found s =
           let is : e.0 ≡ (asn, e.0.1) = (λ i. (s i, e.0.1)) in
           record {
-            listed = ap (λ p. is_some (value_at (pair_cmp cmp) p index)) (sym is) ∙ ap is_some f.there;
-            beyond = sym (ap is_lt (pair_same asn place e.0.1)) ∙ ap (λ p. is_lt (pair_cmp cmp (asn, place) p)) (sym is) ∙ f.beyond;
-            least = λ q has after. sym (ap is_lt (pair_same asn q e.0.1)) ∙ ap (λ p. is_lt (pair_cmp cmp (asn, q) p)) (sym is) ∙ f.first (asn, q) (after_pair q after) has;
+            listed = ap (λ p. is_some (value_at (pair_cmp by) p index)) (sym is) ∙ ap is_some f.there;
+            beyond = sym (ap (λ o. not (is_lt o)) (pair_same asn e.0.1 spot)) ∙ ap (λ p. not (is_lt (pair_cmp by p (asn, spot)))) (sym is) ∙ f.beyond;
+            least = λ t has from. sym (ap is_lt (pair_same asn t e.0.1)) ∙ ap (λ p. is_lt (pair_cmp by (asn, t) p)) (sym is) ∙ f.first (asn, t) (from_pair t from) has;
           }
 
-      pub next_not_of : (e.0.0 ≡ asn → ⊥) → (q : K) → is_some (value_at (pair_cmp cmp) (asn, q) index) ≡ true → is_after cmp (Some place) q ≡ false
-      next_not_of other q has = elim (bools (is_after cmp (Some place) q)) [
-        | inl after ↦ absurd (not_both (is_lt (pair_cmp cmp (asn, q) e.0))
-            (still_less (nat_cmp asn e.0.0) (cmp place e.0.1) (cmp q e.0.1) (λ t. other (sym (exact_unsigned asn e.0.0 t))) f.beyond)
-            (f.first (asn, q) (after_pair q after) has))
-        | inr more ↦ more
+      pub spot_other : (e.0.0 ≡ asn → ⊥) → IsFirstSpot by spot (has_spot by asn index) None
+      spot_other other t has = elim (bools (is_from by spot t)) [
+        | inl from ↦ absurd (not_both (is_lt (pair_cmp by (asn, t) e.0)) (below other t) (f.first (asn, t) (from_pair t from) has))
+        | inr before ↦ before
+      ]
+        where
+          -- a pair of another AS that isn't before this one has a greater AS
+          greater : (o a : Ordering) → (o ≡ Equal → ⊥) → not (is_lt (ordering_then (ordering_reverse o) a)) ≡ true → o ≡ Less
+          greater Less a apart h = refl
+          greater Equal a apart h = absurd (apart refl)
+          greater Greater a apart h = absurd cc
+
+          below : (e.0.0 ≡ asn → ⊥) → (t : S) → is_lt (pair_cmp by (asn, t) e.0) ≡ true
+          below other t =
+              let first : nat_cmp asn e.0.0 ≡ Less = greater (nat_cmp asn e.0.0) (by e.0.1 spot) (λ h. other (sym (exact_unsigned asn e.0.0 h)))
+              (ap (λ o. not (is_lt (ordering_then o (by e.0.1 spot)))) (sym (nat_cmp_total.antisymm e.0.0 asn)) ∙ f.beyond) in
+              ap (λ o. is_lt (ordering_then o (by t e.0.1))) first
+
+-- ---- from one key to another
+module _ {K S : Type 0} (cmp : K → K → Ordering) (total : IsTotalOrder cmp) (exact : CmpEqualImpliesEq cmp) (by : S → S → Ordering) (spot : K → S) (P : K → Type 0) (rise : (x y : K) → P x → P y → by (spot x) (spot y) ≡ Less → cmp x y ≡ Less) where
+  no_less : (x y : K) → P x → P y → is_lt (cmp y x) ≡ false → is_lt (by (spot y) (spot x)) ≡ false
+  no_less x y p q e = elim (bools (is_lt (by (spot y) (spot x)))) [
+    | inl less ↦ absurd (not_both (is_lt (cmp y x)) (ap is_lt (rise y x q p (less_is _ less))) e)
+    | inr more ↦ more
+  ]
+
+  later : (x y : K) → is_after cmp (Some x) y ≡ true → is_lt (cmp y x) ≡ false
+  later x y less = ap is_lt (turned_is cmp total exact x y Less (less_is _ less))
+
+  module _ (has : S → Bool) (key : K) (is : P key) where
+    pub skip_to : (s : S) (to : K) → IsLeastSpot by (spot key) has s → IsReached cmp by spot P key s to → IsSkip cmp spot P key has (Some to)
+    skip_to s to f r = record {
+      further = r.further;
+      skipped = λ q p after before. elim (bools (has (spot q))) [
+        | inl listed ↦ absurd (not_both (is_lt (by (spot q) s)) (ap is_lt (r.between q p after before)) (f.least (spot q) listed (ap not (no_less key q is p (later key q after)))))
+        | inr lacks ↦ lacks
+      ];
+    }
+
+  -- ---- the search
+  module _ {A U : Type 0} (origin : A → Option ℕ) (asn : ℕ) (pairs : List (K × A)) (index : List ((ℕ × S) × U)) (indexed : IsIndexed cmp by spot origin pairs index) (keys : AreKeysBy cmp P pairs) (place at : K) where
+    module _ (s : IsPassed cmp (λ q. Some (of_origin origin asn (value_at cmp q pairs))) (Some place) (Some at)) (e : K × A) (f : IsFirstPair cmp (is_after cmp (Some at)) (λ q. value_at cmp q pairs) e) (other : is_number asn (origin e.1) ≡ false) where
+      none_here : of_origin origin asn (value_at cmp e.0 pairs) ≡ None
+      none_here = ap (of_origin origin asn) f.there ∙ ap (λ (b : Bool). if b then Some e.1 else None) other
+
+      -- what has the origin after the place is after the row that was read, and the index has its spot
+      past : (q : K) → is_after cmp (Some at) q ≡ true → (is_after cmp (Some e.0) q ≡ true → P q → has_spot by asn index (spot q) ≡ false) → of_origin origin asn (value_at cmp q pairs) ≡ None
+      past q after lacks = elim (bools (is_some (of_origin origin asn (value_at cmp q pairs)))) [
+        | inl has ↦ elim (bools (is_after cmp (Some e.0) q)) [
+          | inl more ↦ absurd (not_both (has_spot by asn index (spot q)) (indexed q asn has) (lacks more (keys q (some_of origin asn (value_at cmp q pairs) has))))
+          | inr same ↦ ap (λ (k : K). of_origin origin asn (value_at cmp k pairs)) (tie cmp total exact q e.0 (f.first q after (some_of origin asn (value_at cmp q pairs) has)) same) ∙ none_here
+        ]
+        | inr none ↦ is_none (of_origin origin asn (value_at cmp q pairs)) none
       ]
 
-    pub fewer_pairs : (k : K) → IsNextKey cmp (Some place) (λ q. is_some (value_at (pair_cmp cmp) (asn, q) index)) k
-        → length (filter (λ (e : (ℕ × K) × U). is_after (pair_cmp cmp) (Some (asn, k)) e.0) index) < length (filter (λ (e : (ℕ × K) × U). is_after (pair_cmp cmp) (Some (asn, place)) e.0) index)
-    fewer_pairs k n = fewer (pair_cmp cmp) (pairs_exact cmp exact) (is_after (pair_cmp cmp) (Some (asn, place))) (is_after (pair_cmp cmp) (Some (asn, k))) (asn, k)
-        (λ p after. after_trans (pair_cmp cmp) pairs_total (Some (asn, place)) (asn, k) p (after_pair k n.beyond) after)
-        (after_pair k n.beyond) (ap is_lt (itself (pair_cmp cmp) pairs_total (pairs_exact cmp exact) (asn, k))) index n.listed
+      pub search_ended : IsSkip cmp spot P e.0 (has_spot by asn index) None → IsFirst cmp (is_after cmp (Some place)) (λ q. of_origin origin asn (value_at cmp q pairs)) None
+      search_ended skip q beyond = elim (bools (is_after cmp (Some at) q)) [
+        | inl after ↦ past q after (λ more p. skip q p more)
+        | inr before ↦ s.passed q beyond before
+      ]
 
-  module _ {A U : Type 0} (origin : A → Option ℕ) (asn : ℕ) (pairs : List (K × A)) (index : List ((ℕ × K) × U)) (place at : K) (s : IsPassed cmp (indexed cmp origin asn pairs index) (Some place) (Some at)) where
-    next_indexed : (r : Option K) → IsNext cmp (Some at) (λ q. is_some (value_at (pair_cmp cmp) (asn, q) index)) r → IsNext cmp (Some at) (λ q. is_some (indexed cmp origin asn pairs index q)) r
-    next_indexed r n = next_ext cmp (Some at) _ _ r (λ q. when_some (is_some (value_at (pair_cmp cmp) (asn, q) index)) (of_origin origin asn (value_at cmp q pairs))) n
+      module _ (to : K) (skip : IsSkip cmp spot P e.0 (has_spot by asn index) (Some to)) where
+        onward : (q : K) → is_after cmp (Some to) q ≡ true → is_after cmp (Some e.0) q ≡ true
+        onward q after = elim (bools (is_lt (cmp to e.0))) [
+          | inl less ↦ absurd (not_both (is_lt (cmp to e.0)) less skip.further)
+          | inr more ↦ elim (bools (is_lt (cmp e.0 to))) [
+            | inl past ↦ after_trans cmp total (Some e.0) to q past after
+            | inr same ↦ subst (λ (k : K). is_after cmp (Some k) q ≡ true) (tie cmp total exact to e.0 more same) after
+          ]
+        ]
 
-    pub passed_on : (k : K) → IsNextKey cmp (Some at) (λ q. is_some (value_at (pair_cmp cmp) (asn, q) index)) k → of_origin origin asn (value_at cmp k pairs) ≡ None → IsPassed cmp (indexed cmp origin asn pairs index) (Some place) (Some k)
-    passed_on k n gone = passed_more cmp total exact (indexed cmp origin asn pairs index) (Some place) (Some at) s k (next_indexed (Some k) n)
-        (seen_when (is_some (value_at (pair_cmp cmp) (asn, k) index)) (of_origin origin asn (value_at cmp k pairs)) n.listed ∙ gone)
+        pub search_on : IsPassed cmp (λ q. Some (of_origin origin asn (value_at cmp q pairs))) (Some place) (Some to)
+        search_on = record {
+          passed = λ q beyond before. elim (bools (is_after cmp (Some at) q)) [
+            | inl after ↦ past q after (λ more p. skip.skipped q p more before)
+            | inr early ↦ s.passed q beyond early
+          ];
+          further = λ q after. s.further q (after_trans cmp total (Some at) e.0 q f.beyond (onward q after));
+        }
 
-    module _ (has : IsIndexed cmp origin pairs index) where
-      same_value : (q : K) → of_origin origin asn (value_at cmp q pairs) ≡ seen (indexed cmp origin asn pairs index q)
-      same_value q = same_seen (is_some (value_at (pair_cmp cmp) (asn, q) index)) (of_origin origin asn (value_at cmp q pairs)) (has q asn)
-
-      pub origin_none : IsNext cmp (Some at) (λ q. is_some (value_at (pair_cmp cmp) (asn, q) index)) None → IsFirst cmp (is_after cmp (Some place)) (λ q. of_origin origin asn (value_at cmp q pairs)) None
-      origin_none n = first_ext cmp (is_after cmp (Some place)) (λ q. seen (indexed cmp origin asn pairs index q)) (λ q. of_origin origin asn (value_at cmp q pairs)) None same_value
-          (none_first cmp total exact (indexed cmp origin asn pairs index) (Some place) (Some at) s (next_indexed None n))
-
-      pub origin_some : (k : K) (x : A) → IsNextKey cmp (Some at) (λ q. is_some (value_at (pair_cmp cmp) (asn, q) index)) k → of_origin origin asn (value_at cmp k pairs) ≡ Some x → IsFirst cmp (is_after cmp (Some place)) (λ q. of_origin origin asn (value_at cmp q pairs)) (Some (k, x))
-      origin_some k x n there = first_ext cmp (is_after cmp (Some place)) (λ q. seen (indexed cmp origin asn pairs index q)) (λ q. of_origin origin asn (value_at cmp q pairs)) (Some (k, x)) same_value
-          (first_at cmp total exact (indexed cmp origin asn pairs index) (Some place) (Some at) s k x (next_indexed (Some k) n)
-          (seen_when (is_some (value_at (pair_cmp cmp) (asn, k) index)) (of_origin origin asn (value_at cmp k pairs)) n.listed ∙ there))
+        pub search_fewer : length (filter (λ (e : K × A). is_after cmp (Some to) e.0) pairs) < length (filter (λ (e : K × A). is_after cmp (Some at) e.0) pairs)
+        search_fewer = fewer cmp exact (is_after cmp (Some at)) (is_after cmp (Some to)) e.0 (λ q after. after_trans cmp total (Some at) e.0 q f.beyond (onward q after)) f.beyond skip.further pairs (ap is_some f.there)
 
 -- ---- a list of the pairs of an origin
 pub number_of : {A : Type 0} (origin : A → Option ℕ) (asn : ℕ) (o : Option A) → is_some (of_origin origin asn o) ≡ true → is_number asn (option_and_then origin o) ≡ true
@@ -123,13 +162,13 @@ by_row : {A : Type 0} (origin : A → Option ℕ) (asn : ℕ) (a : Option (Optio
 by_row origin asn None b R f h e = h e
 by_row origin asn (Some x) b R f h e = f e
 
-module _ {K A U : Type 0} (cmp : K → K → Ordering) (origin : A → Option ℕ) (old : List (K × A)) (run : List (K × Option A)) (index index' : List ((ℕ × K) × U)) (added : List ((ℕ × K) × Option U))
-    (has : IsIndexed cmp origin old index) (covers : Covers cmp origin run added) (more : IsChanged (pair_cmp cmp) index added index') where
-  pub index_grown : IsIndexed cmp origin old index'
-  index_grown q asn e = ap is_some (more.values (asn, q)) ∙ grows (value_at (pair_cmp cmp) (asn, q) added) (value_at (pair_cmp cmp) (asn, q) index) (covers.none_gone (asn, q)) (has q asn e)
+module _ {K S A U : Type 0} (cmp : K → K → Ordering) (by : S → S → Ordering) (spot : K → S) (origin : A → Option ℕ) (old : List (K × A)) (run : List (K × Option A)) (index index' : List ((ℕ × S) × U)) (added : List ((ℕ × S) × Option U))
+    (has : IsIndexed cmp by spot origin old index) (covers : Covers cmp by spot origin run added) (more : IsChanged (pair_cmp by) index added index') where
+  pub index_grown : IsIndexed cmp by spot origin old index'
+  index_grown q asn e = ap is_some (more.values (asn, spot q)) ∙ grows (value_at (pair_cmp by) (asn, spot q) added) (value_at (pair_cmp by) (asn, spot q) index) (covers.none_gone (asn, spot q)) (has q asn e)
 
-  pub both_grown : (new : List (K × A)) → IsChanged cmp old run new → IsIndexed cmp origin new index'
-  both_grown new set q asn e = by_row origin asn (value_at cmp q run) (value_at cmp q old) (is_some (value_at (pair_cmp cmp) (asn, q) index') ≡ true)
-      (λ f. ap is_some (more.values (asn, q)) ∙ covered (value_at (pair_cmp cmp) (asn, q) added) (value_at (pair_cmp cmp) (asn, q) index) (covers.none_gone (asn, q)) (covers.there q asn f))
+  pub both_grown : (new : List (K × A)) → IsChanged cmp old run new → IsIndexed cmp by spot origin new index'
+  both_grown new set q asn e = by_row origin asn (value_at cmp q run) (value_at cmp q old) (has_spot by asn index' (spot q) ≡ true)
+      (λ f. ap is_some (more.values (asn, spot q)) ∙ covered (value_at (pair_cmp by) (asn, spot q) added) (value_at (pair_cmp by) (asn, spot q) index) (covers.none_gone (asn, spot q)) (covers.there q asn f))
       (index_grown q asn)
       (sym (ap (λ o. is_some (of_origin origin asn o)) (set.values q)) ∙ e)

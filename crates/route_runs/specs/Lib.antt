@@ -13,3 +13,4 @@ pub mod Longest
 pub mod Keys
 pub mod NumberKeys
 pub mod Origins
+pub mod Spots

@@ -37,8 +37,8 @@ impl<'a, K: RunKey, A> Model for Cursor<'a, K, A> {
     ghost view = { λ w. record { pairs = w.runs.now; place = w.place } };
 }
 
-// Whether a key is before another one.
-fn is_less<K: RunKey>(a: &K, b: &K) -> bool
+/// Whether a key is before another one.
+pub(crate) fn is_less<K: RunKey>(a: &K, b: &K) -> bool
     ensures { result ≡ is_lt (K.cmp a.now b.now) }
 {
     match a.cmp(b) {
@@ -303,6 +303,13 @@ impl<'a, K: RunKey, A: Drop> Cursor<'a, K, A> {
     {
         self.place = place;
         self.next()
+    }
+
+    /// The set of a key.
+    pub(crate) fn get(&self, key: &K) -> Option<&'a Arc<A>>
+        ensures { option_map shared result ≡ value_at K.cmp key.now self.now.pairs }
+    {
+        self.runs.get(key)
     }
 
     /// The keys stand in order.

@@ -6,7 +6,7 @@ ghost use Rattle.route_runs.specs.Override.{value_at};
 ghost use Rattle.route_runs.specs.Runs.{shared, IsChanged};
 
 use crate::index::with_changes;
-use crate::key::RunKey;
+use crate::key::TableKey;
 use crate::listed::Listed;
 use crate::origin_cursor::OriginCursor;
 use crate::runs::Runs;
@@ -19,12 +19,12 @@ use wire_io::NoMemory;
 /// The routes of one family of addresses, and their index by origin AS. Contracts see the keys that have a route, each
 /// with its attributes, in order.
 #[derive(Drop)]
-pub(crate) struct FamilyTable<K: RunKey> {
+pub(crate) struct FamilyTable<K: TableKey> {
     runs: Runs<K, Attrs>,
-    index: Runs<(u32, K), ()>,
+    index: Runs<(u32, K::Spot), ()>,
 }
 
-impl<K: RunKey> Model for FamilyTable<K> {
+impl<K: TableKey> Model for FamilyTable<K> {
     ghost use Rattle.std.specs.Prelude.{List};
     ghost use Rattle.bmp_specs.specs.Values.{AttrsValue};
     ghost use Rattle.route_runs.specs.Origins.{attrs_origin, IsIndexed};
@@ -33,10 +33,10 @@ impl<K: RunKey> Model for FamilyTable<K> {
 
     ghost view = { λ t. t.runs };
 
-    ghost invariant = { λ t. IsIndexed K.cmp attrs_origin t.runs t.index };
+    ghost invariant = { λ t. IsIndexed K.cmp K.Spot.cmp K.spot_of attrs_origin t.runs t.index };
 }
 
-impl<K: RunKey> FamilyTable<K> {
+impl<K: TableKey> FamilyTable<K> {
     /// The table with no route.
     pub(crate) fn new(alloc: Global) -> FamilyTable<K>
         ensures { result ≡ [] }
@@ -87,7 +87,7 @@ impl<K: RunKey> FamilyTable<K> {
         ensures { result ≡ self.now }
     {
         OriginCursor {
-            runs: &self.runs,
+            rows: self.runs.cursor(None),
             index: self.index.cursor(None),
         }
     }

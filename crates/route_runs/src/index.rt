@@ -7,8 +7,9 @@ ghost use Rattle.route_runs.specs.Rows.{sets_of, IsHandle};
 ghost use Rattle.route_runs.specs.Runs.{IsChanged};
 
 use crate::find::set_of;
-use crate::key::RunKey;
+use crate::key::{RunKey, TableKey};
 use crate::listed::Listed;
+use crate::many::each_once;
 use crate::origin::origin_of;
 use crate::run::{Pack, Run};
 use crate::runs::Runs;
@@ -18,53 +19,56 @@ use std::sync::Arc;
 use wire_io::NoMemory;
 
 // Adds a pair, where there is an origin.
-fn add_pair<K: RunKey>(
-    pairs: &mut Vec<(u32, K)>,
+fn add_pair<S: RunKey>(
+    pairs: &mut Vec<(u32, S)>,
     origin: Option<u32>,
-    key: K,
+    spot: S,
 ) -> Result<(), NoMemory>
-    ensures kept { OnOk result ((p : ℕ × K) → Contains pairs.old.items p → Contains pairs.new.items p) }
-    ensures added { OnOk result ((asn : ℕ) → is_number asn origin ≡ true → Contains pairs.new.items (asn, key)) }
+    ensures kept { OnOk result ((p : ℕ × S) → Contains pairs.old.items p → Contains pairs.new.items p) }
+    ensures added { OnOk result ((asn : ℕ) → is_number asn origin ≡ true → Contains pairs.new.items (asn, spot)) }
 {
     let Some(asn) = origin else {
         return Ok(());
     };
-    match pairs.push((asn, key)) {
+    match pairs.push((asn, spot)) {
         Ok(_) => Ok(()),
         Err(_) => Err(NoMemory),
     }
 }
 
 // Adds the pairs of rows that have an origin.
-fn add_rows<K: RunKey>(
-    pairs: &mut Vec<(u32, K)>,
+fn add_rows<K: TableKey>(
+    pairs: &mut Vec<(u32, K::Spot)>,
     keys: &[K],
     handles: &[u32],
     packs: &[Arc<Pack<Attrs>>],
 ) -> Result<(), NoMemory>
     requires even { length handles.now ≡ length keys.now }
     requires handles { AllByRecursion (IsHandle (sets_of packs.now)) handles.now }
-    ensures kept { OnOk result ((p : ℕ × K) → Contains pairs.old.items p → Contains pairs.new.items p) }
-    ensures added { OnOk result (AreNamed attrs_origin (sets_of packs.now) keys.now handles.now (length keys.now) pairs.new.items) }
+    ensures kept { OnOk result ((p : ℕ × K.Spot) → Contains pairs.old.items p → Contains pairs.new.items p) }
+    ensures added { OnOk result (AreNamed K.spot_of attrs_origin (sets_of packs.now) keys.now handles.now (length keys.now) pairs.new.items) }
 {
     for at in 0..keys.len() {
         let origin = origin_of(set_of(packs, handles[at]));
-        add_pair(pairs, origin, keys[at])?;
+        add_pair(pairs, origin, keys[at].spot())?;
     }
     Ok(())
 }
 
 // Adds the pairs of the rows of a run that have an origin.
-fn add_pairs<K: RunKey>(pairs: &mut Vec<(u32, K)>, run: &Run<K, Attrs>) -> Result<(), NoMemory>
-    ensures kept { OnOk result ((p : ℕ × K) → Contains pairs.old.items p → Contains pairs.new.items p) }
-    ensures added { OnOk result (AreAdded K.cmp attrs_origin run.now pairs.new.items) }
+fn add_pairs<K: TableKey>(
+    pairs: &mut Vec<(u32, K::Spot)>,
+    run: &Run<K, Attrs>,
+) -> Result<(), NoMemory>
+    ensures kept { OnOk result ((p : ℕ × K.Spot) → Contains pairs.old.items p → Contains pairs.new.items p) }
+    ensures added { OnOk result (AreAdded K.cmp K.spot_of attrs_origin run.now pairs.new.items) }
 {
     add_rows(pairs, &run.keys, &run.handles, &run.packs)
 }
 
 // The run of these pairs.
-fn run_of<K: RunKey>(alloc: Global, pairs: Vec<(u32, K)>) -> Result<Run<(u32, K), ()>, NoMemory>
-    ensures { IfOk result (HasPairs K.cmp pairs.items) }
+fn run_of<S: RunKey>(alloc: Global, pairs: Vec<(u32, S)>) -> Result<Run<(u32, S), ()>, NoMemory>
+    ensures { IfOk result (HasPairs S.cmp pairs.items) }
 {
     match Arc::new(alloc, ()) {
         Ok(unit) => Run::many(alloc, pairs, Some(unit)),
@@ -72,19 +76,22 @@ fn run_of<K: RunKey>(alloc: Global, pairs: Vec<(u32, K)>) -> Result<Run<(u32, K)
     }
 }
 
-// The pairs by their origins. Those of one origin stay as they stood, which is by their keys where they are of one run;
-// so `Run::many` has no more to sort, and numbers alone are compared.
-fn by_origin<K: RunKey>(pairs: Vec<(u32, K)>) -> Result<Vec<(u32, K)>, NoMemory>
+// The pairs by their origins, each once. Those of one origin stay as they stood, which is by their spots where they are of
+// one run; so `Run::many` has no more to sort, and numbers alone are compared.
+fn by_origin<S: RunKey>(pairs: Vec<(u32, S)>) -> Result<Vec<(u32, S)>, NoMemory>
     ensures { IfOk result (λ list. HasSame pairs.items list.items) }
 {
     let mut pairs = pairs;
     pairs.sort_by_key(|pair| pair.0)?;
-    Ok(pairs)
+    Ok(each_once(pairs))
 }
 
 // The pairs of a run.
-fn pairs_of<K: RunKey>(alloc: Global, run: &Run<K, Attrs>) -> Result<Run<(u32, K), ()>, NoMemory>
-    ensures { IfOk result (Covers K.cmp attrs_origin run.now) }
+fn pairs_of<K: TableKey>(
+    alloc: Global,
+    run: &Run<K, Attrs>,
+) -> Result<Run<(u32, K::Spot), ()>, NoMemory>
+    ensures { IfOk result (Covers K.cmp K.Spot.cmp K.spot_of attrs_origin run.now) }
 {
     let Ok(mut pairs) = Vec::with_capacity(alloc, run.len()) else {
         return Err(NoMemory);
@@ -95,8 +102,11 @@ fn pairs_of<K: RunKey>(alloc: Global, run: &Run<K, Attrs>) -> Result<Run<(u32, K
 }
 
 // The index of a table, of the rows of its runs alone.
-fn anew<K: RunKey>(alloc: Global, runs: &Runs<K, Attrs>) -> Result<Runs<(u32, K), ()>, NoMemory>
-    ensures { IfOk result (IsIndexed K.cmp attrs_origin runs.now) }
+fn anew<K: TableKey>(
+    alloc: Global,
+    runs: &Runs<K, Attrs>,
+) -> Result<Runs<(u32, K::Spot), ()>, NoMemory>
+    ensures { IfOk result (IsIndexed K.cmp K.Spot.cmp K.spot_of attrs_origin runs.now) }
 {
     let mut pairs = Vec::new(alloc);
     add_all(&mut pairs, runs.runs.as_slice())?;
@@ -107,11 +117,11 @@ fn anew<K: RunKey>(alloc: Global, runs: &Runs<K, Attrs>) -> Result<Runs<(u32, K)
 }
 
 // Adds the pairs of all runs.
-fn add_all<K: RunKey>(
-    pairs: &mut Vec<(u32, K)>,
+fn add_all<K: TableKey>(
+    pairs: &mut Vec<(u32, K::Spot)>,
     runs: &[Arc<Run<K, Attrs>>],
 ) -> Result<(), NoMemory>
-    ensures { OnOk result (AreAll K.cmp attrs_origin (map arc_value runs.now) pairs.new.items) }
+    ensures { OnOk result (AreAll K.cmp K.spot_of attrs_origin (map arc_value runs.now) pairs.new.items) }
 {
     for run in runs {
         add_pairs(pairs, run)?;
@@ -129,13 +139,13 @@ fn rows_of<K: RunKey, A: Drop>(runs: &Runs<K, A>) -> usize {
 }
 
 // The index of a table, made anew where it is twice as long as the table.
-fn kept_short<K: RunKey>(
+fn kept_short<K: TableKey>(
     alloc: Global,
     runs: &Runs<K, Attrs>,
-    index: Runs<(u32, K), ()>,
-) -> Result<Runs<(u32, K), ()>, NoMemory>
-    requires { IsIndexed K.cmp attrs_origin runs.now index }
-    ensures { IfOk result (IsIndexed K.cmp attrs_origin runs.now) }
+    index: Runs<(u32, K::Spot), ()>,
+) -> Result<Runs<(u32, K::Spot), ()>, NoMemory>
+    requires { IsIndexed K.cmp K.Spot.cmp K.spot_of attrs_origin runs.now index }
+    ensures { IfOk result (IsIndexed K.cmp K.Spot.cmp K.spot_of attrs_origin runs.now) }
 {
     if rows_of(&index) / 2 > rows_of(runs) {
         return anew(alloc, runs);
@@ -144,15 +154,15 @@ fn kept_short<K: RunKey>(
 }
 
 // A table with the rows of a run set, and its index.
-fn with_run<K: RunKey>(
+fn with_run<K: TableKey>(
     alloc: Global,
     runs: &Runs<K, Attrs>,
-    index: &Runs<(u32, K), ()>,
+    index: &Runs<(u32, K::Spot), ()>,
     run: Run<K, Attrs>,
-) -> Result<(Runs<K, Attrs>, Runs<(u32, K), ()>), NoMemory>
-    requires { IsIndexed K.cmp attrs_origin runs.now index.now }
+) -> Result<(Runs<K, Attrs>, Runs<(u32, K::Spot), ()>), NoMemory>
+    requires { IsIndexed K.cmp K.Spot.cmp K.spot_of attrs_origin runs.now index.now }
     ensures changed { IfOk result (λ r. IsChanged K.cmp runs.now run r.0) }
-    ensures indexed { IfOk result (λ r. IsIndexed K.cmp attrs_origin r.0 r.1) }
+    ensures indexed { IfOk result (λ r. IsIndexed K.cmp K.Spot.cmp K.spot_of attrs_origin r.0 r.1) }
 {
     let pairs = pairs_of(alloc, &run)?;
     let mut new_index = index.share(alloc)?;
@@ -164,11 +174,11 @@ fn with_run<K: RunKey>(
 }
 
 // The same table, and its index.
-fn share_both<K: RunKey>(
+fn share_both<K: TableKey>(
     alloc: Global,
     runs: &Runs<K, Attrs>,
-    index: &Runs<(u32, K), ()>,
-) -> Result<(Runs<K, Attrs>, Runs<(u32, K), ()>), NoMemory>
+    index: &Runs<(u32, K::Spot), ()>,
+) -> Result<(Runs<K, Attrs>, Runs<(u32, K::Spot), ()>), NoMemory>
     ensures runs { IfOk result (λ r. r.0 ≡ runs.now) }
     ensures index { IfOk result (λ r. r.1 ≡ index.now) }
 {
@@ -178,15 +188,15 @@ fn share_both<K: RunKey>(
 }
 
 /// A table with changes made, and its index.
-pub(crate) fn with_changes<K: RunKey>(
+pub(crate) fn with_changes<K: TableKey>(
     alloc: Global,
     runs: &Runs<K, Attrs>,
-    index: &Runs<(u32, K), ()>,
+    index: &Runs<(u32, K::Spot), ()>,
     changes: Listed<K, Attrs>,
-) -> Result<(Runs<K, Attrs>, Runs<(u32, K), ()>), NoMemory>
-    requires { IsIndexed K.cmp attrs_origin runs.now index.now }
+) -> Result<(Runs<K, Attrs>, Runs<(u32, K::Spot), ()>), NoMemory>
+    requires { IsIndexed K.cmp K.Spot.cmp K.spot_of attrs_origin runs.now index.now }
     ensures changed { IfOk result (λ r. IsChanged K.cmp runs.now changes r.0) }
-    ensures indexed { IfOk result (λ r. IsIndexed K.cmp attrs_origin r.0 r.1) }
+    ensures indexed { IfOk result (λ r. IsIndexed K.cmp K.Spot.cmp K.spot_of attrs_origin r.0 r.1) }
 {
     runs.see_order();
     let rows = changes.into_run(alloc)?;

@@ -1,11 +1,32 @@
-ghost use Rattle.std.specs.Prelude.{◌≡◌};
-ghost use Rattle.std.specs.declared.cmp.Ordering.TheVariants.{Equal};
+ghost use Rattle.std.specs.Prelude.{◌≡◌, IfSome};
+ghost use Rattle.std.specs.declared.cmp.Ordering.TheVariants.{Less, Equal};
 
 use ip_prefix::Nlri;
 
 /// Keys that are equal in their order only where they are the same.
 pub(crate) trait RunKey: Copy + Ord {
     ghost exact: { (x y : Self) → Self.cmp x y ≡ Equal → x ≡ y };
+}
+
+/// Keys of routes. Each has a spot, a part of its address that the index by origin knows it by, so that a pair of the index
+/// is short and may stand for several keys. Keys stand in the order of their spots.
+pub(crate) trait TableKey: RunKey {
+    /// All of an IPv4 address, and the upper half of an IPv6 one.
+    type Spot: RunKey;
+
+    ghost spot_of: { Self → Self.Spot };
+
+    ghost is_key: { Self → Type 0 };
+
+    /// The spot of this key.
+    fn spot(&self) -> Self::Spot
+        ensures { result ≡ spot_of self.now };
+
+    /// A key whose spot is before this one.
+    fn before(spot: Self::Spot) -> Option<Self>
+        ensures { IfSome result (λ k. is_key k × (Self.Spot.cmp (spot_of k) spot ≡ Less)) };
+
+    ghost spots_rise: { (x y : Self) → is_key x → is_key y → Self.Spot.cmp (spot_of x) (spot_of y) ≡ Less → Self.cmp x y ≡ Less };
 }
 
 impl RunKey for Nlri {
@@ -18,4 +39,16 @@ impl<K: RunKey> RunKey for (u32, K) {
     ghost use Rattle.route_runs.specs.Keys.{pairs_exact};
 
     ghost exact = { pairs_exact K.cmp K.exact };
+}
+
+impl RunKey for u32 {
+    ghost use Rattle.std.proofs.lemmas.Map.Lookups.{exact_unsigned};
+
+    ghost exact = { exact_unsigned };
+}
+
+impl RunKey for u64 {
+    ghost use Rattle.std.proofs.lemmas.Map.Lookups.{exact_unsigned};
+
+    ghost exact = { exact_unsigned };
 }

@@ -5,8 +5,9 @@ ghost use Rattle.bmp_specs.proofs.OrderLaws.{nlri_total};
 ghost use Rattle.bmp_specs.specs.declared.wire.Family.TheVariants.{V4};
 ghost use Rattle.bmp_specs.specs.Orders.{nlri_cmp};
 
-use crate::key::RunKey;
+use crate::key::{RunKey, TableKey};
 use crate::marks::{marked, unmarked};
+use crate::see::see;
 use ip_prefix::{Addr, Nlri, Prefix};
 use std::cmp::Ordering;
 use std::marker::Model;
@@ -114,4 +115,37 @@ impl RunKey for Key4 {
     ghost use Rattle.bmp_specs.proofs.OrderLaws.{nlri_exact};
 
     ghost exact = { nlri_exact };
+}
+
+impl TableKey for Key4 {
+    type Spot = u32;
+
+    ghost use Rattle.bmp_specs.specs.declared.wire.Family.TheVariants.{V4};
+    ghost use Rattle.route_runs.specs.Nlri.{IsNlriOf};
+    ghost use Rattle.route_runs.specs.NumberKeys.{address_of};
+    ghost use Rattle.route_runs.specs.Spots.{spots4_rise};
+
+    ghost spot_of = { address_of };
+
+    ghost is_key = { IsNlriOf V4 };
+
+    fn spot(&self) -> u32 {
+        self.address
+    }
+
+    // The last one of the address before.
+    fn before(spot: u32) -> Option<Key4> {
+        if spot == 0 {
+            return None;
+        }
+        let addr = Addr::v4((spot - 1).to_be_bytes());
+        let last = Nlri {
+            prefix: Prefix::new(addr, 32).unwrap(),
+            id: Some(u32::MAX),
+        };
+        see(&last);
+        Some(Key4::of(&last))
+    }
+
+    ghost spots_rise = { spots4_rise };
 }

@@ -5,8 +5,9 @@ ghost use Rattle.bmp_specs.proofs.OrderLaws.{nlri_total};
 ghost use Rattle.bmp_specs.specs.declared.wire.Family.TheVariants.{V6};
 ghost use Rattle.bmp_specs.specs.Orders.{nlri_cmp};
 
-use crate::key::RunKey;
+use crate::key::{RunKey, TableKey};
 use crate::marks::{marked, unmarked};
+use crate::see::see;
 use ip_prefix::{Addr, Nlri, Prefix};
 use std::cmp::Ordering;
 use std::marker::Model;
@@ -128,4 +129,40 @@ impl RunKey for Key6 {
     ghost use Rattle.bmp_specs.proofs.OrderLaws.{nlri_exact};
 
     ghost exact = { nlri_exact };
+}
+
+impl TableKey for Key6 {
+    type Spot = u64;
+
+    ghost use Rattle.bmp_specs.specs.declared.wire.Family.TheVariants.{V6};
+    ghost use Rattle.route_runs.specs.Nlri.{IsNlriOf};
+    ghost use Rattle.route_runs.specs.NumberKeys.{high_of};
+    ghost use Rattle.route_runs.specs.Spots.{spots6_rise};
+
+    ghost spot_of = { high_of };
+
+    ghost is_key = { IsNlriOf V6 };
+
+    fn spot(&self) -> u64 {
+        self.high
+    }
+
+    // The last one of the upper half before.
+    fn before(spot: u64) -> Option<Key6> {
+        if spot == 0 {
+            return None;
+        }
+        let [a, b, c, d, e, f, g, h] = (spot - 1).to_be_bytes();
+        let addr = Addr::v6([
+            a, b, c, d, e, f, g, h, 255, 255, 255, 255, 255, 255, 255, 255,
+        ]);
+        let last = Nlri {
+            prefix: Prefix::new(addr, 128).unwrap(),
+            id: Some(u32::MAX),
+        };
+        see(&last);
+        Some(Key6::of(&last))
+    }
+
+    ghost spots_rise = { spots6_rise };
 }

@@ -1,16 +1,15 @@
-ghost use Rattle.std.specs.Prelude.{◌≡◌, Some, option_and_then};
+ghost use Rattle.std.specs.Prelude.{◌≡◌, Some, true, IfSome, option_and_then};
+ghost use Rattle.std.specs.Arc.{arc_value};
 ghost use Rattle.std.specs.List.Sorted.{IsStrictlySortedBy};
 ghost use Rattle.std.specs.Map.{keys_of};
-ghost use Rattle.std.specs.Option.{option_map, is_some};
-ghost use Rattle.route_runs.specs.Keys.{pair_cmp};
-ghost use Rattle.route_runs.specs.Origins.{attrs_origin, is_number, of_origin, passes, IsIndexed};
+ghost use Rattle.std.specs.Option.{option_map};
+ghost use Rattle.route_runs.specs.Origins.{attrs_origin, is_number, has_spot, of_origin, passes, AreKeysBy, IsFirstSpot, IsIndexed, IsReached, IsSkip};
 ghost use Rattle.route_runs.specs.Override.{value_at};
-ghost use Rattle.route_runs.specs.Places.{shown, is_after, is_from, IsFirst, IsNext};
+ghost use Rattle.route_runs.specs.Places.{shown, is_after, is_from, IsFirst};
 ghost use Rattle.route_runs.specs.Runs.{shared};
 
-use crate::cursor::Cursor;
-use crate::key::RunKey;
-use crate::runs::Runs;
+use crate::cursor::{Cursor, is_less};
+use crate::key::{RunKey, TableKey};
 use path_attrs::Attrs;
 use rib_model::Route;
 
@@ -37,14 +36,21 @@ fn is_this(origin: Option<u32>, asn: u32) -> bool
     }
 }
 
-// The route of a key, where it has this origin.
-fn get_of<'a, K: RunKey>(runs: &'a Runs<K, Attrs>, asn: u32, key: &K) -> Option<&'a Route>
-    ensures { option_map shared result ≡ of_origin attrs_origin asn (value_at K.cmp key.now runs.now) }
+// Whether a route has this origin.
+fn has_origin(route: &Route, asn: u32) -> bool
+    ensures { result ≡ is_number asn (attrs_origin (arc_value route.now)) }
 {
-    match runs.get(key) {
+    is_this(origin_of(Some(route)), asn)
+}
+
+// The route of a key, where it has this origin.
+fn get_of<'a, K: RunKey>(rows: &Cursor<'a, K, Attrs>, asn: u32, key: &K) -> Option<&'a Route>
+    ensures { option_map shared result ≡ of_origin attrs_origin asn (value_at K.cmp key.now rows.now.pairs) }
+{
+    match rows.get(key) {
         None => None,
         Some(route) => {
-            if is_this(origin_of(Some(route)), asn) {
+            if has_origin(route, asn) {
                 Some(route)
             } else {
                 None
@@ -53,73 +59,104 @@ fn get_of<'a, K: RunKey>(runs: &'a Runs<K, Attrs>, asn: u32, key: &K) -> Option<
     }
 }
 
-// The first key after another one that the index has under an AS.
-fn next_of<K: RunKey>(index: &mut Cursor<'_, (u32, K), ()>, asn: u32, place: &K) -> Option<K>
-    ensures next { IsNext K.cmp (Some place.now) (λ q. is_some (value_at (pair_cmp K.cmp) (asn, q) index.old.pairs)) result }
+// The first spot, from one on, that the index has under an AS.
+fn next_spot<S: RunKey>(index: &mut Cursor<'_, (u32, S), ()>, asn: u32, spot: S) -> Option<S>
+    ensures next { IsFirstSpot S.cmp spot (has_spot S.cmp asn index.old.pairs) result }
     ensures pairs { index.new.pairs ≡ index.old.pairs }
 {
-    match index.after(Some((asn, *place))) {
+    match index.from((asn, spot)) {
         None => None,
         Some((pair, _)) => { if pair.0 == asn { Some(pair.1) } else { None } }
     }
 }
 
+// The key, or a later one before all keys of a spot or after it.
+fn reached<K: TableKey>(key: K, spot: K::Spot) -> K
+    ensures { IsReached K.cmp K.Spot.cmp K.spot_of K.is_key key spot result }
+{
+    match K::before(spot) {
+        None => key,
+        Some(before) => { if is_less(&key, &before) { before } else { key } }
+    }
+}
+
+// A key up to which, from this one on, no key has an origin by the index; none where no later key has it.
+fn skipped<K: TableKey>(index: &mut Cursor<'_, (u32, K::Spot), ()>, asn: u32, key: K) -> Option<K>
+    requires { K.is_key key }
+    ensures skip { IsSkip K.cmp K.spot_of K.is_key key (has_spot K.Spot.cmp asn index.old.pairs) result }
+    ensures pairs { index.new.pairs ≡ index.old.pairs }
+{
+    match next_spot(index, asn, key.spot()) {
+        None => None,
+        Some(spot) => Some(reached(key, spot)),
+    }
+}
+
 // The first pair after a place whose route has this origin.
-fn first_after<'a, K: RunKey>(
-    runs: &'a Runs<K, Attrs>,
-    index: &mut Cursor<'_, (u32, K), ()>,
+fn first_after<'a, K: TableKey>(
+    rows: &mut Cursor<'a, K, Attrs>,
+    index: &mut Cursor<'_, (u32, K::Spot), ()>,
     asn: u32,
     place: &K,
 ) -> Option<(K, &'a Route)>
-    requires { IsIndexed K.cmp attrs_origin runs.now index.old.pairs }
-    ensures first { IsFirst K.cmp (is_after K.cmp (Some place.now)) (λ q. of_origin attrs_origin asn (value_at K.cmp q runs.now)) (option_map shown result) }
+    requires indexed { IsIndexed K.cmp K.Spot.cmp K.spot_of attrs_origin rows.old.pairs index.old.pairs }
+    requires keys { AreKeysBy K.cmp K.is_key rows.old.pairs }
+    ensures first { IsFirst K.cmp (is_after K.cmp (Some place.now)) (λ q. of_origin attrs_origin asn (value_at K.cmp q rows.old.pairs)) (option_map shown result) }
+    ensures rows { rows.new.pairs ≡ rows.old.pairs }
     ensures pairs { index.new.pairs ≡ index.old.pairs }
 {
     let mut at = *place;
     loop {
-        let Some(key) = next_of(index, asn, &at) else {
+        let Some(pair) = rows.after(Some(at)) else {
             return None;
         };
-        if let Some(route) = get_of(runs, asn, &key) {
-            return Some((key, route));
+        if has_origin(pair.1, asn) {
+            return Some(pair);
         }
-        at = key;
+        let Some(next) = skipped(index, asn, pair.0) else {
+            return None;
+        };
+        at = next;
     }
 }
 
 // The first pair from a place on whose route has this origin.
-fn first_from<'a, K: RunKey>(
-    runs: &'a Runs<K, Attrs>,
-    index: &mut Cursor<'_, (u32, K), ()>,
+fn first_from<'a, K: TableKey>(
+    rows: &mut Cursor<'a, K, Attrs>,
+    index: &mut Cursor<'_, (u32, K::Spot), ()>,
     asn: u32,
     place: &K,
 ) -> Option<(K, &'a Route)>
-    requires { IsIndexed K.cmp attrs_origin runs.now index.old.pairs }
-    ensures first { IsFirst K.cmp (is_from K.cmp place.now) (λ q. of_origin attrs_origin asn (value_at K.cmp q runs.now)) (option_map shown result) }
+    requires indexed { IsIndexed K.cmp K.Spot.cmp K.spot_of attrs_origin rows.old.pairs index.old.pairs }
+    requires keys { AreKeysBy K.cmp K.is_key rows.old.pairs }
+    ensures first { IsFirst K.cmp (is_from K.cmp place.now) (λ q. of_origin attrs_origin asn (value_at K.cmp q rows.old.pairs)) (option_map shown result) }
+    ensures rows { rows.new.pairs ≡ rows.old.pairs }
     ensures pairs { index.new.pairs ≡ index.old.pairs }
 {
-    match get_of(runs, asn, place) {
+    match get_of(rows, asn, place) {
         Some(route) => Some((*place, route)),
-        None => first_after(runs, index, asn, place),
+        None => first_after(rows, index, asn, place),
     }
 }
 
 /// The first pair whose route has this origin: after a place, or from it on.
-pub(crate) fn first_of<'a, K: RunKey>(
-    runs: &'a Runs<K, Attrs>,
-    index: &mut Cursor<'_, (u32, K), ()>,
+pub(crate) fn first_of<'a, K: TableKey>(
+    rows: &mut Cursor<'a, K, Attrs>,
+    index: &mut Cursor<'_, (u32, K::Spot), ()>,
     asn: u32,
     place: &K,
     at: bool,
 ) -> Option<(K, &'a Route)>
-    requires { IsIndexed K.cmp attrs_origin runs.now index.old.pairs }
-    ensures first { IsFirst K.cmp (passes K.cmp at place.now) (λ q. of_origin attrs_origin asn (value_at K.cmp q runs.now)) (option_map shown result) }
+    requires indexed { IsIndexed K.cmp K.Spot.cmp K.spot_of attrs_origin rows.old.pairs index.old.pairs }
+    requires keys { AreKeysBy K.cmp K.is_key rows.old.pairs }
+    ensures first { IsFirst K.cmp (passes K.cmp at place.now) (λ q. of_origin attrs_origin asn (value_at K.cmp q rows.old.pairs)) (option_map shown result) }
+    ensures rows { rows.new.pairs ≡ rows.old.pairs }
     ensures pairs { index.new.pairs ≡ index.old.pairs }
-    ensures ordered { IsStrictlySortedBy K.cmp (keys_of runs.now) }
+    ensures ordered { IsStrictlySortedBy K.cmp (keys_of rows.old.pairs) }
 {
-    runs.see_order();
+    rows.see_order();
     if at {
-        return first_from(runs, index, asn, place);
+        return first_from(rows, index, asn, place);
     }
-    first_after(runs, index, asn, place)
+    first_after(rows, index, asn, place)
 }

@@ -19,8 +19,8 @@ fn see_number(number: u32)
     ensures { number < 4294967296 }
 {}
 
-// An NLRI is one.
-fn see(nlri: &Nlri)
+/// An NLRI is one.
+pub(crate) fn see(nlri: &Nlri)
     ensures { IsNlri nlri.now }
 {
     let _bits = nlri.prefix.bits();

@@ -6,6 +6,6 @@ use Rattle.route_runs.proofs.index.add_rows.Given as goal
 
 abbrev pub invariant-loop-at : goal.invariant-loop-at
 invariant-loop-at g l = record {
-  kept : (p : ℕ × g.row.K.Denot) → Contains l.fn.pairs.items p → Contains l.pairs.items p;
-  added : AreNamed attrs_origin (sets_of l.packs) l.keys l.handles l.at l.pairs.items;
+  kept : (p : ℕ × g.row.K-Spot.Denot) → Contains l.fn.pairs.items p → Contains l.pairs.items p;
+  added : AreNamed g.K.TableKey.spot_of attrs_origin (sets_of l.packs) l.keys l.handles l.at l.pairs.items;
 }

@@ -17,4 +17,4 @@ returns-in-None-clause-changed g c = IfOk-weaker c.share_both.result _ (λ r. Is
     (changed_by_none g.K.Ord.cmp c.args.runs.now c.args.changes c.see_order.ensures (subst (SaysTheSame g.K.Ord.cmp c.args.changes) c.in-None.is c.in_ok-rows.ensures))) c.share_both.ensures.runs
 
 pub returns-in-None-clause-indexed : goal.returns-in-None-clause-indexed
-returns-in-None-clause-indexed g c = same_indexed g.K.Ord.cmp attrs_origin c.args.runs.now c.args.index.now c.share_both.result (λ r. r.0) (λ r. r.1) c.share_both.ensures.runs c.share_both.ensures.index c.requires
+returns-in-None-clause-indexed g c = same_indexed g.K.Ord.cmp g.K.Spot.Ord.cmp g.K.TableKey.spot_of attrs_origin c.args.runs.now c.args.index.now c.share_both.result (λ r. r.0) (λ r. r.1) c.share_both.ensures.runs c.share_both.ensures.index c.requires

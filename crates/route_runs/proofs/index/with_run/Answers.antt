@@ -7,6 +7,6 @@ use Rattle.route_runs.proofs.index.with_run.Goals as goal
 
 pub kept_short-requires : goal.kept_short-requires
 kept_short-requires g c =
-    both_grown g.K.Ord.cmp attrs_origin c.args.runs.now c.args.run c.args.index.now c.push.new.self c.in_ok-pairs.pairs c.requires c.in_ok-pairs.ensures
-    (subst (λ l. IsChanged (pair_cmp g.K.Ord.cmp) l c.in_ok-pairs.pairs c.push.new.self) c.in_ok-new_index.ensures c.in_ok-push.ensures.ok) c.push-2.new.self
+    both_grown g.K.Ord.cmp g.K.Spot.Ord.cmp g.K.TableKey.spot_of attrs_origin c.args.runs.now c.args.run c.args.index.now c.push.new.self c.in_ok-pairs.pairs c.requires c.in_ok-pairs.ensures
+    (subst (λ l. IsChanged (pair_cmp g.K.Spot.Ord.cmp) l c.in_ok-pairs.pairs c.push.new.self) c.in_ok-new_index.ensures c.in_ok-push.ensures.ok) c.push-2.new.self
     (subst (λ l. IsChanged g.K.Ord.cmp l c.args.run c.push-2.new.self) c.in_ok-new_runs.ensures c.in_ok-push-2.ensures.ok)

@@ -1,15 +1,33 @@
 use Rattle.std.proofs.Common.{◌∙◌, sym}
 use Rattle.route_runs.specs.Origins.{attrs_origin}
-use Rattle.route_runs.proofs.Origins.{fewer_pairs, passed_on}
+use Rattle.route_runs.specs.Places.{shown}
+use Rattle.route_runs.proofs.Origins.{search_ended, search_fewer, search_on}
 use Rattle.route_runs.proofs.origin.first_after.Goals as goal
 
-pub loop-key-smaller : goal.loop-key-smaller
-loop-key-smaller g c = fewer_pairs g.K.Ord.cmp g.met.K.Ord.total g.met.K.RunKey.exact c.args.index.now.pairs c.args.asn c.loop-key.at c.in-Some.key
-    (rw c.loop-key.invariant.same at c.in-Some.ensures.next)
+pub returns-in_default-skipped-clause-first : goal.returns-in_default-skipped-clause-first
+returns-in_default-skipped-clause-first g c =
+    let f = rw c.loop-pair.invariant.rows at c.in-Some.ensures.first in
+    let other = sym c.has_origin.ensures ∙ c.if-has_origin.false in
+    let skip = rw c.loop-pair.invariant.index at c.in_default-skipped.ensures.skip in
+    search_ended g.K.Ord.cmp g.met.K.Ord.total g.met.K.RunKey.exact g.K.Spot.Ord.cmp g.K.TableKey.spot_of g.K.TableKey.is_key g.met.K.TableKey.spots_rise attrs_origin c.args.asn
+    c.args.rows.now.pairs c.args.index.now.pairs c.requires.indexed c.requires.keys c.args.place.now c.loop-pair.at c.loop-pair.invariant.passed (shown c.in-Some.pair) f other skip
 
-pub loop-key-preserved : goal.loop-key-preserved
-loop-key-preserved g c = record {
-  passed = passed_on g.K.Ord.cmp g.met.K.Ord.total g.met.K.RunKey.exact attrs_origin c.args.asn c.args.runs.now c.args.index.now.pairs c.args.place.now c.loop-key.at c.loop-key.invariant.passed c.in-Some.key
-      (rw c.loop-key.invariant.same at c.in-Some.ensures.next) (sym c.in_default-get_of.ensures);
-  same = c.in-Some.ensures.pairs ∙ c.loop-key.invariant.same;
-}
+pub loop-pair-smaller : goal.loop-pair-smaller
+loop-pair-smaller g c =
+    let f = rw c.loop-pair.invariant.rows at c.in-Some.ensures.first in
+    let other = sym c.has_origin.ensures ∙ c.if-has_origin.false in
+    let skip = rw c.loop-pair.invariant.index at c.in-Some-skipped.ensures.skip in
+    search_fewer g.K.Ord.cmp g.met.K.Ord.total g.met.K.RunKey.exact g.K.Spot.Ord.cmp g.K.TableKey.spot_of g.K.TableKey.is_key g.met.K.TableKey.spots_rise attrs_origin c.args.asn
+    c.args.rows.now.pairs c.args.index.now.pairs c.requires.indexed c.requires.keys c.args.place.now c.loop-pair.at c.loop-pair.invariant.passed (shown c.in-Some.pair) f other c.in-Some-skipped.next skip
+
+pub loop-pair-preserved : goal.loop-pair-preserved
+loop-pair-preserved g c =
+    let f = rw c.loop-pair.invariant.rows at c.in-Some.ensures.first in
+    let other = sym c.has_origin.ensures ∙ c.if-has_origin.false in
+    let skip = rw c.loop-pair.invariant.index at c.in-Some-skipped.ensures.skip in
+    record {
+      passed = search_on g.K.Ord.cmp g.met.K.Ord.total g.met.K.RunKey.exact g.K.Spot.Ord.cmp g.K.TableKey.spot_of g.K.TableKey.is_key g.met.K.TableKey.spots_rise attrs_origin c.args.asn
+          c.args.rows.now.pairs c.args.index.now.pairs c.requires.indexed c.requires.keys c.args.place.now c.loop-pair.at c.loop-pair.invariant.passed (shown c.in-Some.pair) f other c.in-Some-skipped.next skip;
+      rows = c.in-Some.ensures.pairs ∙ c.loop-pair.invariant.rows;
+      index = c.in-Some-skipped.ensures.pairs ∙ c.loop-pair.invariant.index;
+    }

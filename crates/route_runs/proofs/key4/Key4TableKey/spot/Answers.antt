@@ -1,0 +1,6 @@
+use Rattle.std.proofs.Common.{sym, ap, ◌∙◌}
+use Rattle.route_runs.specs.NumberKeys.{address_of, address_back}
+use Rattle.route_runs.proofs.key4.Key4TableKey.spot.Goals as goal
+
+pub returns : goal.returns
+returns c = sym (address_back c.self.inside.address c.self.invariant.address_fits) ∙ ap address_of c.self.view_is
