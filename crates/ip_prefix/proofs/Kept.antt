@@ -33,7 +33,7 @@ first_bits_twice n (x ∷ xs) = ap (λ (b : ℕ). b ∷ first_bits (n - 8) (firs
 zero_stays : (m : ℕ) → 0 - 0 % m ≡ 0
 zero_stays m = omega arith
 
-zeros_stay : (n k : ℕ) → first_bits n (replicate k 0) ≡ replicate k 0
+pub zeros_stay : (n k : ℕ) → first_bits n (replicate k 0) ≡ replicate k 0
 zeros_stay n zero = refl
 zeros_stay n (suc k) = ap (λ (b : ℕ). b ∷ first_bits (n - 8) (replicate k 0)) (zero_stays (2 ^ (8 - n))) ∙ ap (λ (l : List ℕ). 0 ∷ l) (zeros_stay (n - 8) k)
 

@@ -1,11 +1,14 @@
 -- An IPv4 prefix at the front, read from the four bytes after its length octet: those past its own do no harm.
-use Rattle.std.proofs.Common.{◌≡◌, ℕ, zero, suc, ◌+◌, ◌-◌, ◌<◌, ◌≤◌, List, [], ◌∷◌, ◌++◌, length, take, drop, get_or, replicate, refl, sym, ap, subst, ◌∙◌, arith, length-append, take_all}
+use Rattle.std.proofs.Common.{◌≡◌, ℕ, zero, suc, ◌+◌, ◌-◌, ◌<◌, ◌≤◌, List, [], ◌∷◌, ◌++◌, length, take, drop, get_or, replicate, refl, sym, ap, subst, ◌∙◌, arith, length-append, take_all, length-take}
 use Rattle.std.proofs.lemmas.List.{length-replicate, take-take, take-append-le}
 use Rattle.bmp_specs.proofs.FirstBits.{no_first}
 use Rattle.bmp_specs.specs.declared.wire.Family.{Family}
-use Rattle.bmp_specs.specs.declared.wire.Family.TheVariants.{V4, V6}
+use Rattle.bmp_specs.specs.declared.wire.Family.TheVariants.{V4}
+use Rattle.bmp_specs.specs.Address.{FitsFamily, IsAddress, IsAddressPrefix, prefix_at}
 use Rattle.bmp_specs.specs.Prefix.{StandsAtFront, bytes_for, first_bits, high_bits, padded, prefix_of}
-use Rattle.bmp_specs.specs.Values.{PrefixValue}
+use Rattle.bmp_specs.specs.Values.{AddressValue, PrefixValue}
+use Rattle.ip_prefix.proofs.FirstOfFour.{padded_first}
+use Rattle.ip_prefix.proofs.Kept.{FitsFamily-sent, IsAddressPrefix-prefix_at}
 use Rattle.ip_prefix.proofs.Sizes.{sent_here, sent_count}
 
 abbrev AreBytes : List ℕ → Type 0
@@ -50,37 +53,57 @@ bytes_padded xs p = bytes_join xs (replicate (16 - length xs) 0) p (bytes_zeros 
 length-padded : (xs : List ℕ) → length xs ≤ 16 → length (padded xs) ≡ 16
 length-padded xs few = length-append xs (replicate (16 - length xs) 0) ∙ ap (λ (k : ℕ). length xs + k) (length-replicate {A = ℕ} (16 - length xs) 0) ∙ omega arith
 
--- the four bytes after the first
-four_after : (xs : List ℕ) → 5 ≤ length xs → get_or xs 1 0 ∷ get_or xs 2 0 ∷ get_or xs 3 0 ∷ get_or xs 4 0 ∷ [] ≡ take 4 (drop 1 xs)
-four_after [] some = absurd (omega arith)
-four_after (a ∷ []) some = absurd (omega arith)
-four_after (a ∷ b ∷ []) some = absurd (omega arith)
-four_after (a ∷ b ∷ c ∷ []) some = absurd (omega arith)
-four_after (a ∷ b ∷ c ∷ d ∷ []) some = absurd (omega arith)
-four_after (a ∷ b ∷ c ∷ d ∷ e ∷ xs) some = refl
-
--- the prefix of the four bytes is the one that stands there
-pub four_here : (family : Family) (input : List ℕ) (size : ℕ) (p q : PrefixValue) → family ≡ V4 → StandsAtFront family input p size → 5 ≤ length input → AreBytes input
-    → q ≡ prefix_of V4 (get_or input 0 0) (get_or input 1 0 ∷ get_or input 2 0 ∷ get_or input 3 0 ∷ get_or input 4 0 ∷ []) → StandsAtFront family input q size
-four_here V6 input size p q is stands some bytes e = absurd (cc)
-four_here V4 input size p q is stands some bytes e =
+-- the prefix of the four bytes behind the length octet is the one that stands there
+pub four_here : (input four : List ℕ) (size : ℕ) (p q : PrefixValue) → StandsAtFront V4 input p size → AreBytes input → four ≡ take 4 (drop 1 input ++ replicate 4 0) → q ≡ prefix_of V4 (get_or input 0 0) four
+    → StandsAtFront V4 input q size
+four_here input four size p q stands bytes is e =
     let bits = get_or input 0 0 in
     let rest = drop 1 input in
     let sent = take (size - 1) rest in
-    let four = take 4 rest in
+    let behind = rest ++ replicate 4 0 in
+    let here = take 4 behind in
     let sends = sent_here V4 input size p stands in
     let count : length sent ≡ size - 1 = (sent_count V4 input size p stands).0 in
     let whole : length sent ≡ bytes_for bits = sends.whole in
     let few : bytes_for bits ≤ 4 = omega (arith, sends.within) in
-    let long : length four ≡ 4 = sym (ap length (four_after input some)) in
+    let some : length behind ≡ length rest + 4 = length-append rest (replicate 4 0) ∙ ap (λ (k : ℕ). length rest + k) (length-replicate {A = ℕ} 4 0) in
+    let long : length here ≡ 4 = omega (arith, length-take 4 behind, some) in
+    let enough : bytes_for bits ≤ length rest = omega (arith, count, whole, length-take (size - 1) rest) in
     let left : take (bytes_for bits) (padded sent) ≡ sent =
     take-append-le (bytes_for bits) sent (replicate (16 - length sent) 0) (omega arith) ∙ take_all (bytes_for bits) sent (omega arith) in
-    let right : take (bytes_for bits) (padded four) ≡ sent =
-    take-append-le (bytes_for bits) four (replicate (16 - length four) 0) (omega arith) ∙ take-take (bytes_for bits) 4 rest few ∙ ap (λ (k : ℕ). take k rest) (sym whole ∙ count) in
+    let right : take (bytes_for bits) (padded here) ≡ sent =
+    take-append-le (bytes_for bits) here (replicate (16 - length here) 0) (omega arith) ∙ take-take (bytes_for bits) 4 behind few ∙ take-append-le (bytes_for bits) rest (replicate 4 0) enough
+    ∙ ap (λ (k : ℕ). take k rest) (sym whole ∙ count) in
     let pass : AreBytes rest = bytes_after input bytes in
-    let len : length (padded sent) ≡ length (padded four) = length-padded sent (omega arith) ∙ sym (length-padded four (omega arith)) in
-    let same : first_bits bits (padded sent) ≡ first_bits bits (padded four) =
-    first_same bits (padded sent) (padded four) len (bytes_padded sent (bytes_front (size - 1) rest pass)) (bytes_padded four (bytes_front 4 rest pass)) (left ∙ sym right) in
+    let len : length (padded sent) ≡ length (padded here) = length-padded sent (omega arith) ∙ sym (length-padded here (omega arith)) in
+    let same : first_bits bits (padded sent) ≡ first_bits bits (padded here) =
+    first_same bits (padded sent) (padded here) len (bytes_padded sent (bytes_front (size - 1) rest pass)) (bytes_padded here (bytes_front 4 behind (bytes_join rest (replicate 4 0) pass (bytes_zeros 4)))) (left ∙ sym right) in
     let of : List ℕ → PrefixValue = λ l. record { address = record { family = V4; octets = l }; bits = bits } in
-    let it : p ≡ q = sends.value ∙ ap of same ∙ ap (λ (l : List ℕ). prefix_of V4 bits l) (sym (four_after input some)) ∙ sym e in
+    let it : p ≡ q = sends.value ∙ ap of same ∙ ap (λ (l : List ℕ). prefix_of V4 bits l) (sym is) ∙ sym e in
     subst (λ (v : PrefixValue). StandsAtFront V4 input v size) it stands
+
+-- an address of four bytes, of which all but the first bits were cleared
+pub four_is : (bits : ℕ) (bytes first : List ℕ) (a : AddressValue) → first ≡ first_bits bits bytes → a.family ≡ V4 → a.octets ≡ padded first → record { address = a; bits = bits } ≡ prefix_of V4 bits bytes
+four_is bits bytes first a cleared family octets =
+    let same : a.octets ≡ first_bits bits (padded bytes) = octets ∙ ap padded cleared ∙ padded_first bits bytes in
+    λ i. record { address = record { family = family i; octets = same i }; bits = bits }
+
+pub four_valid : (bits : ℕ) (bytes : List ℕ) → length bytes ≡ 4 → AreBytes bytes → bits ≤ 32 → IsAddressPrefix (prefix_of V4 bits bytes)
+four_valid bits bytes four are within =
+    IsAddressPrefix-prefix_at (record { family = V4; octets = padded bytes }) bits
+    (record { len = length-padded bytes (omega arith); bytes = bytes_padded bytes are; used = FitsFamily-sent V4 32 bytes (omega arith) four }) within
+
+four_taken : (xs : List ℕ) → 4 ≤ length xs → get_or xs 0 0 ∷ get_or xs 1 0 ∷ get_or xs 2 0 ∷ get_or xs 3 0 ∷ [] ≡ take 4 xs
+four_taken [] some = absurd (omega arith)
+four_taken (a ∷ []) some = absurd (omega arith)
+four_taken (a ∷ b ∷ []) some = absurd (omega arith)
+four_taken (a ∷ b ∷ c ∷ []) some = absurd (omega arith)
+four_taken (a ∷ b ∷ c ∷ d ∷ xs) some = refl
+
+-- an IPv4 address, by its four bytes
+pub four_at : (a : AddressValue) (bits : ℕ) (os : List ℕ) (q : PrefixValue) → a.family ≡ V4 → IsAddress a → os ≡ a.octets → q ≡ prefix_of V4 bits (get_or os 0 0 ∷ get_or os 1 0 ∷ get_or os 2 0 ∷ get_or os 3 0 ∷ [])
+    → q ≡ prefix_at a bits
+four_at a bits os q is valid whole e =
+    let used : FitsFamily V4 a.octets = subst (λ (f : Family). FitsFamily f a.octets) is valid.used in
+    let same : padded (get_or os 0 0 ∷ get_or os 1 0 ∷ get_or os 2 0 ∷ get_or os 3 0 ∷ []) ≡ a.octets = ap padded (four_taken os (omega (arith, valid.len, ap length whole)) ∙ ap (λ (l : List ℕ). take 4 l) whole) ∙ sym used in
+    e ∙ (λ i. record { address = record { family = sym is i; octets = first_bits bits (same i) }; bits = bits })

@@ -5,9 +5,10 @@ ghost use Rattle.std.specs.Cmp.Rules.{comparing};
 ghost use Rattle.std.specs.Ordering.{as_partial_cmp};
 ghost use Rattle.bmp_specs.specs.Address.{IsAddressPrefix, prefix_at};
 ghost use Rattle.bmp_specs.specs.Orders.{prefix_cmp, nlri_cmp};
-ghost use Rattle.bmp_specs.specs.Prefix.{width_of, high_bits, first_bits};
+ghost use Rattle.bmp_specs.specs.Prefix.{width_of, high_bits, first_bits, prefix_of};
 
 use crate::address::{Addr, width};
+use bmp_specs::Family;
 use std::cmp::Ordering;
 use std::marker::Model;
 
@@ -31,6 +32,16 @@ fn clear(octets: &mut [u8; 16], bits: u8)
         *octet = high(*octet, left);
         left = left.saturating_sub(8);
     }
+}
+
+// The first bits of four bytes, the others zero. They are cleared in the number that the bytes spell.
+fn first_of_four(bytes: [u8; 4], bits: u8) -> [u8; 4]
+    requires { bits ≤ 32 }
+    ensures { result ≡ first_bits bits bytes }
+{
+    let word = u32::from_be_bytes(bytes) as u64;
+    let first = word - word % (1u64 << (32 - bits));
+    (first as u32).to_be_bytes()
 }
 
 /// A prefix: an address and how many of its bits count. All bits past that number are zero.
@@ -59,15 +70,32 @@ impl Prefix {
         ensures some { IsSome result ↔ (bits ≤ width_of addr.family) }
         ensures value { IfSome result (λ p. p ≡ prefix_at addr bits) }
     {
-        if width(addr.family()) < bits {
+        let family = addr.family();
+        if width(family) < bits {
             return None;
         }
         let mut octets = addr.octets();
+        if family == Family::V4 {
+            let four = [octets[0], octets[1], octets[2], octets[3]];
+            return Some(Prefix::v4(four, bits));
+        }
         clear(&mut octets, bits);
         Some(Prefix {
-            addr: Addr::with_octets(addr.family(), octets),
+            addr: Addr::with_octets(family, octets),
             bits,
         })
+    }
+
+    // The IPv4 prefix of this many bits, which are the first of these four bytes; the others are cleared.
+    #[inline(always)]
+    pub(crate) fn v4(bytes: [u8; 4], bits: u8) -> Prefix
+        requires { bits ≤ 32 }
+        ensures { result ≡ prefix_of Family.V4 bits bytes }
+    {
+        Prefix {
+            addr: Addr::v4(first_of_four(bytes, bits)),
+            bits,
+        }
     }
 
     /// The address, with no bit set past the number of bits.

@@ -1,9 +1,7 @@
-use Rattle.std.proofs.Common.{rules, ap, arith, ◌≡◌, List, ℕ, ◌++◌, ◌-◌, ◌∙◌, drop, get_or, replicate}
+use Rattle.std.proofs.Common.{ap, List, ℕ, ◌++◌, ◌-◌, ◌∙◌, drop, get_or, replicate}
 use Rattle.bmp_specs.specs.Address.{prefix_at}
-use Rattle.bmp_specs.specs.declared.wire.Family.TheVariants.{V4}
 use Rattle.bmp_specs.specs.Values.{AddressValue}
 use Rattle.ip_prefix.proofs.Sizes.{fits_here, read_here}
-use Rattle.ip_prefix.proofs.WireFront.{four_here}
 use Rattle.ip_prefix.proofs.prefixes.Prefix.from_wire.Goals as goal
 
 pub with_octets-requires : goal.with_octets-requires
@@ -18,9 +16,3 @@ returns-clause-found c =
     let size = c.in-Some.size in
     read_here c.args.family c.args.input.now _ size it.0 c.in-Some-new.prefix it.1 (ap (λ (l : List ℕ). l ++ drop (size - 1) (replicate 16 0)) c.copy_from_slice.ensures.after)
     (c.in-Some-new.ensures.value ∙ ap (λ (a : AddressValue). prefix_at a (get_or c.args.input.now 0 0)) c.with_octets.ensures)
-
--- the four bytes after the length octet
-pub returns-then-input-ge5-clause-found : goal.returns-then-input-ge5-clause-found
-returns-then-input-ge5-clause-found c =
-    let v4 : c.args.family ≡ V4 = search rules in
-    four_here c.args.family c.args.input.now c.in-Some.size c.in-Some.ensures.found.0 c.in-Some-from_four.prefix v4 c.in-Some.ensures.found.1 (omega arith) (λ k. omega (arith, c.type_inv.input k)) c.in-Some-from_four.ensures.value
