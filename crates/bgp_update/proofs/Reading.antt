@@ -1,5 +1,5 @@
 -- One item of a list of prefixes after another, as the loop reads them.
-use Rattle.std.proofs.Common.{◌≡◌, ◌+◌, ◌≤◌, ℕ, Bool, true, false, List, [], ◌∷◌, ◌++◌, length, take, drop, Some, sym, ap, subst, ◌∙◌, append_assoc, append-nil, arith, take-append-drop, length-append, length-drop}
+use Rattle.std.proofs.Common.{◌≡◌, ◌+◌, ◌≤◌, ℕ, Bool, true, false, List, [], ◌∷◌, ◌++◌, length, take, drop, Some, None, refl, sym, ap, subst, ◌∙◌, append_assoc, append-nil, arith, take-append-drop, length-append, length-drop}
 use Rattle.std.proofs.lemmas.List.{drop-append-le, drop-take, length-take-le}
 use Rattle.std.proofs.Math.Seq.{take-append_seam}
 use Rattle.byteorder.specs.Endian.{big_number}
@@ -22,6 +22,10 @@ front_stands family input front rest p split is = record {
 pub bare_none : (family : Family) (input : List ℕ) → ((size : ℕ) (p : PrefixValue) → StandsAtFront family input p size → ⊥)
     → (n : NlriValue) (rest : List ℕ) → HasFront (IsNlri family false) input n rest → ⊥
 bare_none family input none n rest (front, split, is) = none (length front) n.prefix (front_stands family input front rest n.prefix split.joined is.prefix_is)
+
+-- the prefix that was read stands at the front
+pub bare_found : (family : Family) (input : List ℕ) (p : PrefixValue) (size : ℕ) → StandsAtFront family input p size → HasFront (IsNlri family false) input (record { prefix = p; id = None }) (drop size input)
+bare_found family input p size here = (take size input, record { joined = sym (take-append-drop size input) }, record { prefix_is = here.is; id_is = refl })
 
 -- no prefix stands behind the identifier
 pub identified_none : (family : Family) (input after : List ℕ) → after ≡ drop 4 input → ((size : ℕ) (p : PrefixValue) → StandsAtFront family after p size → ⊥)

@@ -70,6 +70,20 @@ fn read_item(family: Family, identified: bool, input: &[u8]) -> Option<(Nlri, us
     }
 }
 
+// Appends the IPv4 prefixes without identifiers that stand in these bytes, up to bytes that are none. Most prefixes
+// are such ones, and in a loop of their own nothing is asked about them.
+fn add_plain_v4(list: &mut NlriList, bytes: &[u8]) -> Result<(), NoMemory>
+    ensures { OnOk result ((ns : List NlriValue) → AreNlri Family.V4 false bytes.now ns → list.new ≡ list.old ++ ns) }
+{
+    let mut rest = bytes;
+    while let Some((prefix, size)) = Prefix::v4_from_wire(rest) {
+        list.push(Nlri { prefix, id: None })?;
+        let (_, after) = rest.split_at(size);
+        rest = after;
+    }
+    Ok(())
+}
+
 // Appends the items that stand in these bytes, up to bytes that are none.
 pub(crate) fn add_items(
     list: &mut NlriList,
@@ -79,6 +93,9 @@ pub(crate) fn add_items(
 ) -> Result<(), NoMemory>
     ensures { OnOk result ((ns : List NlriValue) → AreNlri family identified bytes.now ns → list.new ≡ list.old ++ ns) }
 {
+    if family == Family::V4 && !identified {
+        return add_plain_v4(list, bytes);
+    }
     let mut rest = bytes;
     while let Some((nlri, size)) = read_item(family, identified, rest) {
         list.push(nlri)?;
