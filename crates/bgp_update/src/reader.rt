@@ -47,28 +47,12 @@ pub struct UpdateReader {
     last: Option<OwnAttrs>,
 }
 
-// Whether the two widths are one.
-fn same_width(a: Width, b: Width) -> bool
-    ensures { IsTrue result → a ≡ b }
-{
-    match a {
-        Width::Two => match b {
-            Width::Two => true,
-            Width::Four => false,
-        },
-        Width::Four => match b {
-            Width::Two => false,
-            Width::Four => true,
-        },
-    }
-}
-
 impl OwnAttrs {
     // Whether these attributes are the same ones.
     fn are(&self, width: Width, field: &[u8]) -> bool
         ensures { IsTrue result → AreOwn width field.now self.now }
     {
-        same_width(self.width, width) && self.field.as_slice() == field
+        self.width == width && self.field.as_slice() == field
     }
 }
 
