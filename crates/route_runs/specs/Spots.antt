@@ -1,5 +1,5 @@
 -- The spots of keys, by which the index by origin knows them.
-use Rattle.std.proofs.Common.{◌≡◌, ℕ, ◌*◌, ◌<◌, ◌≤◌, [], ◌∷◌, List, get_or, length, take, sym, ap, ◌∙◌, subst, arith}
+use Rattle.std.proofs.Common.{◌≡◌, ℕ, ◌*◌, ◌/◌, ◌<◌, ◌≤◌, [], ◌∷◌, List, get_or, length, take, sym, ap, ◌∙◌, subst, arith}
 use Rattle.std.specs.declared.cmp.Ordering.{Ordering}
 use Rattle.std.specs.declared.cmp.Ordering.TheVariants.{Less, Equal, Greater}
 use Rattle.std.specs.Cmp.{ranks, nat_cmp_is}
@@ -72,9 +72,14 @@ spots6_rise x y p q e =
     first_octets x y (p.family ∙ sym q.family)
     (sym (by_front os ts a.len b.len a.bytes b.bytes (high_of x) (high_of y) (front_word os (omega (arith, a.len))) (front_word ts (omega (arith, b.len))) (λ s. omega (arith, less, s))) ∙ e)
 
-pub spots4_rise : (x y : NlriValue) → IsNlriOf V4 x → IsNlriOf V4 y → nat_cmp (address_of x) (address_of y) ≡ Less → nlri_cmp x y ≡ Less
+-- the first 20 bits of an address
+abbrev pub spot4_of : NlriValue → ℕ
+spot4_of n = address_of n / 4096
+
+pub spots4_rise : (x y : NlriValue) → IsNlriOf V4 x → IsNlriOf V4 y → nat_cmp (spot4_of x) (spot4_of y) ≡ Less → nlri_cmp x y ≡ Less
 spots4_rise x y p q e =
-    let less : address_of x < address_of y = less_than (address_of x) (address_of y) e in
+    let part : spot4_of x < spot4_of y = less_than (spot4_of x) (spot4_of y) e in
+    let less : address_of x < address_of y = omega (arith, part) in
     let os = x.prefix.address.octets in
     let ts = y.prefix.address.octets in
     let a = p.nlri.prefix.address in

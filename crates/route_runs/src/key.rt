@@ -8,10 +8,10 @@ pub(crate) trait RunKey: Copy + Ord {
     ghost exact: { (x y : Self) → Self.cmp x y ≡ Equal → x ≡ y };
 }
 
-/// Keys of routes. Each has a spot, a part of its address that the index by origin knows it by, so that a pair of the index
-/// is short and may stand for several keys. Keys stand in the order of their spots.
+/// Keys of routes. Each has a spot, the first bits of its address, by which the index by origin knows it: so a pair of the
+/// index is short, and stands for the routes that an AS originates beside each other. Keys stand in the order of their spots.
 pub(crate) trait TableKey: RunKey {
-    /// All of an IPv4 address, and the upper half of an IPv6 one.
+    /// The first 20 bits of an IPv4 address, and the upper half of an IPv6 one.
     type Spot: RunKey;
 
     ghost spot_of: { Self → Self.Spot };

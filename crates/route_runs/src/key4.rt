@@ -122,23 +122,23 @@ impl TableKey for Key4 {
 
     ghost use Rattle.bmp_specs.specs.declared.wire.Family.TheVariants.{V4};
     ghost use Rattle.route_runs.specs.Nlri.{IsNlriOf};
-    ghost use Rattle.route_runs.specs.NumberKeys.{address_of};
-    ghost use Rattle.route_runs.specs.Spots.{spots4_rise};
+    ghost use Rattle.route_runs.specs.Spots.{spot4_of, spots4_rise};
 
-    ghost spot_of = { address_of };
+    ghost spot_of = { spot4_of };
 
     ghost is_key = { IsNlriOf V4 };
 
+    // The first 20 bits of the address.
     fn spot(&self) -> u32 {
-        self.address
+        self.address / 4096
     }
 
-    // The last one of the address before.
+    // The last one of the spot before.
     fn before(spot: u32) -> Option<Key4> {
-        if spot == 0 {
+        if spot == 0 || spot > 1_048_575 {
             return None;
         }
-        let addr = Addr::v4((spot - 1).to_be_bytes());
+        let addr = Addr::v4((spot * 4096 - 1).to_be_bytes());
         let last = Nlri {
             prefix: Prefix::new(addr, 32).unwrap(),
             id: Some(u32::MAX),

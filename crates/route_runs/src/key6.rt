@@ -143,11 +143,12 @@ impl TableKey for Key6 {
 
     ghost is_key = { IsNlriOf V6 };
 
+    // The upper half of the address.
     fn spot(&self) -> u64 {
         self.high
     }
 
-    // The last one of the upper half before.
+    // The last one of the spot before.
     fn before(spot: u64) -> Option<Key6> {
         if spot == 0 {
             return None;

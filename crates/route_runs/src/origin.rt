@@ -80,13 +80,23 @@ fn reached<K: TableKey>(key: K, spot: K::Spot) -> K
     }
 }
 
-// A key up to which, from this one on, no key has an origin by the index; none where no later key has it.
-fn skipped<K: TableKey>(index: &mut Cursor<'_, (u32, K::Spot), ()>, asn: u32, key: K) -> Option<K>
+// A key up to which, from this one on, no key has an origin by the index; none where no later key has it. Beside the
+// place before, the index isn't asked again.
+fn skipped<K: TableKey>(
+    index: &mut Cursor<'_, (u32, K::Spot), ()>,
+    asn: u32,
+    place: &K,
+    key: K,
+) -> Option<K>
     requires { K.is_key key }
     ensures skip { IsSkip K.cmp K.spot_of K.is_key key (has_spot K.Spot.cmp asn index.old.pairs) result }
     ensures pairs { index.new.pairs ≡ index.old.pairs }
 {
-    match next_spot(index, asn, key.spot()) {
+    let spot = key.spot();
+    if spot == place.spot() {
+        return Some(key);
+    }
+    match next_spot(index, asn, spot) {
         None => None,
         Some(spot) => Some(reached(key, spot)),
     }
@@ -113,7 +123,7 @@ fn first_after<'a, K: TableKey>(
         if has_origin(pair.1, asn) {
             return Some(pair);
         }
-        let Some(next) = skipped(index, asn, pair.0) else {
+        let Some(next) = skipped(index, asn, &at, pair.0) else {
             return None;
         };
         at = next;
