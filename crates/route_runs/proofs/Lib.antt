@@ -18,6 +18,7 @@ pub mod Counting
 pub mod CountingRuns
 pub mod Rising
 pub mod Listing
+pub mod Guessing
 pub mod Halves
 pub mod OriginHalves
 pub mod LastOfHalves

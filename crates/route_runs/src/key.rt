@@ -5,7 +5,10 @@ use ip_prefix::Nlri;
 
 /// Keys that are equal in their order only where they are the same.
 pub(crate) trait RunKey: Copy + Ord {
-    ghost exact: { (x y : Self) → Self.cmp x y ≡ Equal → x ≡ y };
+    /// A number by which the order of keys is guessed. It is best where the lesser of two keys has the lesser number.
+    fn rank(&self) -> u64;
+
+    ghost exact: { (x y : Self) → Self.Ord.cmp x y ≡ Equal → x ≡ y };
 }
 
 /// Keys of routes. Each has a spot, the first bits of its address, by which the index by origin knows it: so a pair of the
@@ -33,12 +36,20 @@ impl RunKey for Nlri {
     ghost use Rattle.bmp_specs.proofs.OrderLaws.{nlri_exact};
 
     ghost exact = { nlri_exact };
+
+    fn rank(&self) -> u64 {
+        0
+    }
 }
 
 impl<K: RunKey> RunKey for (u32, K) {
     ghost use Rattle.route_runs.specs.Keys.{pairs_exact};
 
     ghost exact = { pairs_exact K.cmp K.exact };
+
+    fn rank(&self) -> u64 {
+        self.0 as u64
+    }
 }
 
 impl RunKey for u32 {

@@ -115,6 +115,10 @@ impl RunKey for Key4 {
     ghost use Rattle.bmp_specs.proofs.OrderLaws.{nlri_exact};
 
     ghost exact = { nlri_exact };
+
+    fn rank(&self) -> u64 {
+        self.address as u64
+    }
 }
 
 impl TableKey for Key4 {

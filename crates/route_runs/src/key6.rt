@@ -129,6 +129,10 @@ impl RunKey for Key6 {
     ghost use Rattle.bmp_specs.proofs.OrderLaws.{nlri_exact};
 
     ghost exact = { nlri_exact };
+
+    fn rank(&self) -> u64 {
+        self.high
+    }
 }
 
 impl TableKey for Key6 {

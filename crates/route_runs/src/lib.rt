@@ -20,11 +20,13 @@
 #![tactic(auto)]
 
 mod back;
+mod by_guess;
 mod changes;
 mod count;
 mod cursor;
 mod family;
 mod find;
+mod guessed;
 mod index;
 mod join;
 mod key;

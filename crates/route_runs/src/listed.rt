@@ -4,6 +4,7 @@ ghost use Rattle.std.specs.Map.{keys_of};
 ghost use Rattle.route_runs.specs.Layers.{handles_of, SaysTheSame};
 ghost use Rattle.route_runs.specs.Override.{value_at};
 
+use crate::by_guess::by_guess;
 use crate::key::RunKey;
 use crate::run::Run;
 use crate::tidy::{Gathered, turn};
@@ -74,7 +75,7 @@ impl<K: RunKey, A: Drop> Listed<K, A> {
         if sets.packs.len() >= 1_048_576 {
             return Err(NoMemory);
         }
-        let rows = last_of_each(self.rows)?;
+        let rows = last_of_each(alloc, self.rows)?;
         let keys = keys_alone(alloc, rows.as_slice())?;
         let handles = handles_alone(alloc, rows.as_slice())?;
         Ok(Run {
@@ -85,8 +86,8 @@ impl<K: RunKey, A: Drop> Listed<K, A> {
     }
 }
 
-// Whether the keys of rows rise.
-fn are_rising<K: RunKey>(rows: &[(K, u32)]) -> bool
+/// Whether the keys of rows rise.
+pub(crate) fn are_rising<K: RunKey>(rows: &[(K, u32)]) -> bool
     ensures { result ≡ true → IsStrictlySortedBy K.cmp (keys_of rows.now) }
 {
     for at in 1..rows.len() {
@@ -112,12 +113,15 @@ fn sorted_rows<K: RunKey>(rows: Vec<(K, u32)>) -> Result<Vec<(K, u32)>, NoMemory
 }
 
 // Rows in the order of their keys, of each key the last one. Where they stand so they stay as they are.
-fn last_of_each<K: RunKey>(rows: Vec<(K, u32)>) -> Result<Vec<(K, u32)>, NoMemory>
+fn last_of_each<K: RunKey>(alloc: Global, rows: Vec<(K, u32)>) -> Result<Vec<(K, u32)>, NoMemory>
     ensures ordered { IfOk result (λ list. IsStrictlySortedBy K.cmp (keys_of list.items)) }
     ensures values { IfOk result (λ list. (q : K) → value_at K.cmp q list.items ≡ value_at K.cmp q (reverse rows.items)) }
 {
     if are_rising(&rows) {
         return Ok(rows);
+    }
+    if let Some(list) = by_guess(alloc, &rows) {
+        return Ok(list);
     }
     sorted_rows(rows)
 }
