@@ -4,6 +4,7 @@ ghost use Rattle.std.specs.List.Sorted.{IsStrictlySortedBy};
 ghost use Rattle.std.specs.Option.{option_map};
 ghost use Rattle.route_runs.specs.Message.{IsAllSet, HasSame};
 
+use crate::by_guess::keys_by_guess;
 use crate::key::RunKey;
 use crate::run::Run;
 use crate::tidy::{Gathered, added, turn};
@@ -11,8 +12,8 @@ use std::alloc::Global;
 use std::sync::Arc;
 use wire_io::NoMemory;
 
-// Whether keys rise.
-fn keys_rise<K: RunKey>(keys: &[K]) -> bool
+/// Whether keys rise.
+pub(crate) fn keys_rise<K: RunKey>(keys: &[K]) -> bool
     ensures { result ≡ true → IsStrictlySortedBy K.cmp keys.now }
 {
     for at in 1..keys.len() {
@@ -46,12 +47,15 @@ pub(crate) fn each_once<K: RunKey>(keys: Vec<K>) -> Vec<K>
 }
 
 // Keys in order, each once. Where they stand so they stay as they are.
-fn in_order<K: RunKey>(keys: Vec<K>) -> Vec<K>
+fn in_order<K: RunKey>(alloc: Global, keys: Vec<K>) -> Vec<K>
     ensures ordered { IsStrictlySortedBy K.cmp result.items }
     ensures same { HasSame keys.items result.items }
 {
     if keys_rise(&keys) {
         return keys;
+    }
+    if let Some(list) = keys_by_guess(alloc, &keys) {
+        return list;
     }
     sorted_keys(keys)
 }
@@ -75,7 +79,7 @@ impl<K: RunKey, A: Drop> Run<K, A> {
     ) -> Result<Run<K, A>, NoMemory>
         ensures { IfOk result (IsAllSet K.cmp keys.items (option_map arc_value set)) }
     {
-        let keys = in_order(keys);
+        let keys = in_order(alloc, keys);
         let mut out = Gathered {
             packs: Vec::new(alloc),
             now: Vec::new(alloc),
