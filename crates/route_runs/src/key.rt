@@ -56,10 +56,18 @@ impl RunKey for u32 {
     ghost use Rattle.std.proofs.lemmas.Map.Lookups.{exact_unsigned};
 
     ghost exact = { exact_unsigned };
+
+    fn rank(&self) -> u64 {
+        *self as u64
+    }
 }
 
 impl RunKey for u64 {
     ghost use Rattle.std.proofs.lemmas.Map.Lookups.{exact_unsigned};
 
     ghost exact = { exact_unsigned };
+
+    fn rank(&self) -> u64 {
+        *self
+    }
 }
