@@ -1,4 +1,5 @@
 use ip_prefix::{Addr, Family, Nlri, Prefix, ShortText, parse_addr, parse_number, parse_prefix};
+use std::process::Abort;
 use std::test::Fail;
 
 // The text of the address that a text is read as, or `-`.
@@ -84,6 +85,15 @@ fn prefixes_and_numbers_are_read(rt: HostRuntime) -> Result<(), Fail> {
     Ok(())
 }
 
+// The one prefix holds the other, and the addresses that begin with it.
+fn holds(rt: &impl Abort, short: &Prefix, long: &Prefix) {
+    assert!(rt; short.contains(long));
+    assert!(rt; !long.contains(short));
+    assert!(rt; short.holds(&Addr::v4([192, 0, 128, 1])));
+    assert!(rt; !short.holds(&Addr::v4([192, 0, 127, 1])));
+    assert!(rt; !short.holds(&Addr::v6([192, 0, 128, 0, 0, 0, 0, 0, 0, 0, 0, 0, 0, 0, 0, 0])));
+}
+
 #[test]
 fn a_prefix_of_the_wire_holds_what_begins_with_it(rt: HostRuntime) -> Result<(), Fail> {
     // 17 bits, 192.0.255: the last seven bits are cleared
@@ -91,11 +101,7 @@ fn a_prefix_of_the_wire_holds_what_begins_with_it(rt: HostRuntime) -> Result<(),
     assert_eq!(rt; size, 4);
     assert_eq!(rt; short.text().as_slice(), b"192.0.128.0/17".as_slice());
     let long = Prefix::new(Addr::v4([192, 0, 200, 0]), 24).ok_or("too long")?;
-    assert!(rt; short.contains(&long));
-    assert!(rt; !long.contains(&short));
-    assert!(rt; short.holds(&Addr::v4([192, 0, 128, 1])));
-    assert!(rt; !short.holds(&Addr::v4([192, 0, 127, 1])));
-    assert!(rt; !short.holds(&Addr::v6([192, 0, 128, 0, 0, 0, 0, 0, 0, 0, 0, 0, 0, 0, 0, 0])));
+    holds(&rt, &short, &long);
     let plain = Nlri {
         prefix: short,
         id: None,

@@ -3,10 +3,12 @@
 use bgp_open::{Detail, PeerInfo};
 use bmp_frames::PeerHeader;
 use peer_events::{
-    read_initiation, read_mirroring, read_peer_down, read_peer_up, read_statistics,
-    read_termination,
+    Initiation, PeerUp, Statistics, read_initiation, read_mirroring, read_peer_down, read_peer_up,
+    read_statistics, read_termination,
 };
+use std::process::Abort;
 use std::test::Fail;
+use wire_io::ByteList;
 use wire_tables::Stat;
 
 // sysDescr `test`, sysName `r1`.
@@ -72,45 +74,64 @@ const LOC_RIB: PeerHeader = PeerHeader {
     micros: 0,
 };
 
+// The three statistics.
+const STATS: [Stat; 3] = [
+    Stat {
+        code: 0,
+        afi: 0,
+        safi: 0,
+        value: 5,
+    },
+    Stat {
+        code: 7,
+        afi: 0,
+        safi: 0,
+        value: 2,
+    },
+    Stat {
+        code: 9,
+        afi: 1,
+        safi: 1,
+        value: 2,
+    },
+];
+
+// A text, where there is one.
+fn text(text: &Option<ByteList>) -> Option<&[u8]> {
+    match text {
+        Some(text) => Some(text.as_slice()),
+        None => None,
+    }
+}
+
+fn expect_initiation(rt: &impl Abort, first: &Initiation) {
+    assert_eq!(rt; text(&first.name), Some(b"r1".as_slice()));
+    assert_eq!(rt; text(&first.descr), Some(b"test".as_slice()));
+    assert_eq!(rt; first.unread, 0);
+}
+
+fn expect_statistics(rt: &impl Abort, report: &Statistics) {
+    assert_eq!(rt; report.stats.as_slice(), STATS.as_slice());
+    assert_eq!(rt; report.unread, 0);
+}
+
+// What is read of a Peer Down Notification of the reason alone.
+fn reason(code: u8) -> Option<(u8, Detail)> {
+    let down = read_peer_down(&[code])?;
+    Some((down.reason, down.detail))
+}
+
 #[test]
 fn bodies_have_their_values(rt: HostRuntime) -> Result<(), Fail> {
-    let first = read_initiation(rt.alloc(), &INITIATION)?;
-    let name = first.name.ok_or("no name")?;
-    let descr = first.descr.ok_or("no description")?;
-    assert_eq!(rt;
-        (name.as_slice(), descr.as_slice()),
-        (b"r1".as_slice(), b"test".as_slice())
-    );
-    assert_eq!(rt; first.unread, 0);
     assert!(rt; read_termination(&TERMINATION));
     assert_eq!(rt; read_mirroring(&TERMINATION), Some(0));
-    for reason in [4u8, 6] {
-        let down = read_peer_down(&[reason]).ok_or("no reason")?;
-        assert_eq!(rt; (down.reason, down.detail), (reason, Detail::Unread));
+    for code in [4u8, 6] {
+        assert_eq!(rt; reason(code), Some((code, Detail::Unread)));
     }
+    let first = read_initiation(rt.alloc(), &INITIATION)?;
+    expect_initiation(&rt, &first);
     let report = read_statistics(rt.alloc(), &STATISTICS)?;
-    let stats = [
-        Stat {
-            code: 0,
-            afi: 0,
-            safi: 0,
-            value: 5,
-        },
-        Stat {
-            code: 7,
-            afi: 0,
-            safi: 0,
-            value: 2,
-        },
-        Stat {
-            code: 9,
-            afi: 1,
-            safi: 1,
-            value: 2,
-        },
-    ];
-    assert_eq!(rt; report.stats.as_slice(), stats.as_slice());
-    assert_eq!(rt; report.unread, 0);
+    expect_statistics(&rt, &report);
     Ok(())
 }
 
@@ -126,45 +147,43 @@ fn speakers(info: &PeerInfo) -> (u32, u32) {
     (sent, received)
 }
 
-// The table name.
-fn table(info: &PeerInfo) -> Option<&[u8]> {
-    match &info.table {
-        Some(name) => Some(name.as_slice()),
-        None => None,
-    }
-}
-
 // The addresses: the local one, and the BGP identifier.
 fn addresses(info: &PeerInfo) -> ([u8; 16], [u8; 4]) {
     (info.local.octets(), info.identifier)
 }
 
+// A Peer Up of the peer 192.0.2.1, whose OPENs have so many entries of an ADD-PATH capability each.
+fn expect_up(rt: &impl Abort, up: &PeerUp, paths: usize) {
+    assert_eq!(rt; up.unread, 0);
+    assert_eq!(rt; numbers(&up.info), (64500, 179, 50000, false));
+    let local = [192, 0, 2, 254, 0, 0, 0, 0, 0, 0, 0, 0, 0, 0, 0, 0];
+    assert_eq!(rt; addresses(&up.info), (local, [192, 0, 2, 1]));
+    assert_eq!(rt; speakers(&up.info), (64496, 64500));
+    assert_eq!(rt; up.info.sent.paths.as_slice().len(), paths);
+    assert!(rt; text(&up.info.table).is_none());
+}
+
 #[test]
 fn a_peer_up_has_its_fields(rt: HostRuntime) -> Result<(), Fail> {
-    let local = [192, 0, 2, 254, 0, 0, 0, 0, 0, 0, 0, 0, 0, 0, 0, 0];
-    // the body, and how many entries of an ADD-PATH capability each OPEN has
     let bodies: [(&[u8], usize); 2] = [(&PEER_UP, 0), (&PEER_UP_WITH_PATHS, 1)];
     for (body, paths) in bodies {
         let up = read_peer_up(rt.alloc(), &GLOBAL, body)?;
-        assert_eq!(rt; up.unread, 0);
-        let info = up.info;
-        assert_eq!(rt; numbers(&info), (64500, 179, 50000, false));
-        assert_eq!(rt; addresses(&info), (local, [192, 0, 2, 1]));
-        assert_eq!(rt; speakers(&info), (64496, 64500));
-        assert_eq!(rt; info.sent.paths.as_slice().len(), paths);
-        assert!(rt; table(&info).is_none());
+        expect_up(&rt, &up, paths);
     }
     Ok(())
+}
+
+fn expect_loc_rib_up(rt: &impl Abort, up: &PeerUp) {
+    assert_eq!(rt; up.unread, 0);
+    assert_eq!(rt; numbers(&up.info), (64496, 0, 0, true));
+    assert_eq!(rt; addresses(&up.info), ([0; 16], [192, 0, 2, 254]));
+    assert_eq!(rt; speakers(&up.info), (64496, 64496));
+    assert_eq!(rt; text(&up.info.table), Some(b"global".as_slice()));
 }
 
 #[test]
 fn a_loc_rib_peer_up_has_its_table(rt: HostRuntime) -> Result<(), Fail> {
     let up = read_peer_up(rt.alloc(), &LOC_RIB, &LOC_RIB_UP)?;
-    assert_eq!(rt; up.unread, 0);
-    let info = up.info;
-    assert_eq!(rt; numbers(&info), (64496, 0, 0, true));
-    assert_eq!(rt; addresses(&info), ([0; 16], [192, 0, 2, 254]));
-    assert_eq!(rt; speakers(&info), (64496, 64496));
-    assert_eq!(rt; table(&info).ok_or("no table")?, b"global".as_slice());
+    expect_loc_rib_up(&rt, &up);
     Ok(())
 }

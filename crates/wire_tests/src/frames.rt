@@ -1,3 +1,5 @@
+ghost use Rattle.std.specs.Prelude.{◌≡◌, length};
+
 use bmp_frames::{Cutter, Next, PeerHeader, PeerKey, View, ViewText, Why, parse_key, parse_view};
 use ip_prefix::Addr;
 use std::alloc::Global;
@@ -54,30 +56,54 @@ fn take<R: Abort>(
     Ok(())
 }
 
+// What the messages are that two pieces give, one after the other.
+fn seen_in_two<R: Abort>(
+    rt: &R,
+    alloc: Global,
+    first: &[u8],
+    second: &[u8],
+) -> Result<Vec<u8>, Fail> {
+    let mut cutter = Cutter::new(alloc);
+    let mut seen = Vec::new(alloc);
+    take(rt, &mut cutter, first, &mut seen)?;
+    take(rt, &mut cutter, second, &mut seen)?;
+    assert_eq!(rt; (cutter.offset(), cutter.rest()), (250, 0));
+    Ok(seen)
+}
+
+// The same, byte by byte.
+fn seen_by_bytes<R: Abort>(rt: &R, alloc: Global, stream: &[u8]) -> Result<Vec<u8>, Fail> {
+    let mut cutter = Cutter::new(alloc);
+    let mut seen = Vec::new(alloc);
+    for byte in stream {
+        take(rt, &mut cutter, &[*byte], &mut seen)?;
+    }
+    Ok(seen)
+}
+
+// What the messages of the stream are.
+fn wanted(alloc: Global, stream: &[u8]) -> Result<Vec<u8>, Fail>
+    requires { length stream.now ≡ 250 }
+{
+    let mut whole = vec![in alloc; 3u8, 0, 0, 0, 154]?;
+    whole.extend_from_slice(&stream[6..154])?;
+    whole.extend_from_slice(&[0, 0, 0, 0, 96])?;
+    whole.extend_from_slice(&stream[160..])?;
+    Ok(whole)
+}
+
 #[test]
 fn every_division_into_two_pieces(rt: HostRuntime) -> Result<(), Fail> {
     let alloc = rt.alloc();
     let stream = stream(alloc)?;
     let stream = stream.as_slice();
     assert_eq!(rt; stream.len(), 250);
-    let mut whole = vec![in alloc; 3u8, 0, 0, 0, 154]?;
-    whole.extend_from_slice(&stream[6..154])?;
-    whole.extend_from_slice(&[0, 0, 0, 0, 96])?;
-    whole.extend_from_slice(&stream[160..])?;
+    let whole = wanted(alloc, stream)?;
     for at in 0..251 {
-        let mut cutter = Cutter::new(alloc);
-        let mut seen = Vec::new(alloc);
-        take(&rt, &mut cutter, &stream[..at], &mut seen)?;
-        take(&rt, &mut cutter, &stream[at..], &mut seen)?;
+        let seen = seen_in_two(&rt, alloc, &stream[..at], &stream[at..])?;
         assert_eq!(rt; seen.as_slice(), whole.as_slice(), "cut at {at}");
-        assert_eq!(rt; cutter.offset(), 250);
-        assert_eq!(rt; cutter.rest(), 0);
     }
-    let mut cutter = Cutter::new(alloc);
-    let mut seen = Vec::new(alloc);
-    for byte in stream {
-        take(&rt, &mut cutter, &[*byte], &mut seen)?;
-    }
+    let seen = seen_by_bytes(&rt, alloc, stream)?;
     assert_eq!(rt; seen.as_slice(), whole.as_slice(), "byte by byte");
     Ok(())
 }
@@ -114,67 +140,92 @@ fn another_version_or_length_is_bad(rt: HostRuntime) -> Result<(), Fail> {
 }
 
 // Reads a Per-Peer Header.
-fn header<R: Abort>(rt: &R, text: &str) -> Result<PeerHeader, Fail> {
+fn header(rt: &impl Abort, text: &str) -> PeerHeader {
     let mut head = [0u8; 42];
     assert!(rt; hex::decode_to_slice(text, &mut head).is_ok());
-    Ok(PeerHeader::read(&head))
+    PeerHeader::read(&head)
+}
+
+// The last bytes of an address of 16 that are those of 192.0.2.1.
+const LAST: [u8; 16] = [0, 0, 0, 0, 0, 0, 0, 0, 0, 0, 0, 0, 192, 0, 2, 1];
+
+// The header of the Global Instance Peer.
+const WANTED: PeerHeader = PeerHeader {
+    kind: 0,
+    flags: 0,
+    distinguisher: 0,
+    address: LAST,
+    asn: 64500,
+    identifier: [192, 0, 2, 1],
+    seconds: 0,
+    micros: 0,
+};
+
+// What the type and the flags of a header say: the view, whether AS numbers have two bytes, and which address `LAST` is.
+fn says(rt: &impl Abort, head: &PeerHeader, view: View, two_byte: bool, place: Addr) {
+    assert_eq!(rt; (head.view(), head.two_byte()), (view, two_byte));
+    assert_eq!(rt; head.place(&LAST), place);
+}
+
+fn expect_global(rt: &impl Abort, head: &PeerHeader) {
+    assert_eq!(rt; *head, WANTED);
+    says(rt, head, View::InPre, false, Addr::v4([192, 0, 2, 1]));
+}
+
+fn expect_rd(rt: &impl Abort, head: &PeerHeader) {
+    let wanted = PeerHeader {
+        kind: 1,
+        distinguisher: 1,
+        ..WANTED
+    };
+    assert_eq!(rt; *head, wanted);
+}
+
+fn expect_loc_rib(rt: &impl Abort, head: &PeerHeader) {
+    assert_eq!(rt; (head.kind, head.flags, head.asn), (3, 0x80, 64496));
+    assert_eq!(rt; head.identifier, [192, 0, 2, 254]);
+    says(rt, head, View::Loc, false, Addr::v4([192, 0, 2, 1]));
 }
 
 #[test]
-fn the_fields_of_three_headers(rt: HostRuntime) -> Result<(), Fail> {
-    let global = header(&rt, GLOBAL)?;
-    let last = [0, 0, 0, 0, 0, 0, 0, 0, 0, 0, 0, 0, 192, 0, 2, 1];
-    let want = PeerHeader {
-        kind: 0,
-        flags: 0,
-        distinguisher: 0,
-        address: last,
-        asn: 64500,
-        identifier: [192, 0, 2, 1],
-        seconds: 0,
-        micros: 0,
-    };
-    assert_eq!(rt; global, want);
-    assert_eq!(rt; (global.view(), global.two_byte()), (View::InPre, false));
-    assert_eq!(rt; global.place(&last), Addr::v4([192, 0, 2, 1]));
-    let rd = header(&rt, RD)?;
-    assert_eq!(rt;
-        rd,
-        PeerHeader {
-            kind: 1,
-            distinguisher: 1,
-            ..want
-        }
-    );
-    let loc_rib = header(&rt, LOC_RIB)?;
-    assert_eq!(rt;
-        (loc_rib.kind, loc_rib.flags, loc_rib.asn),
-        (3, 0x80, 64496)
-    );
-    assert_eq!(rt; loc_rib.identifier, [192, 0, 2, 254]);
-    assert_eq!(rt; (loc_rib.view(), loc_rib.two_byte()), (View::Loc, false));
-    assert_eq!(rt; loc_rib.place(&last), Addr::v4([192, 0, 2, 1]));
+fn the_fields_of_three_headers(rt: HostRuntime) {
+    let global = header(&rt, GLOBAL);
+    expect_global(&rt, &global);
+    let rd = header(&rt, RD);
+    expect_rd(&rt, &rd);
+    let loc_rib = header(&rt, LOC_RIB);
+    expect_loc_rib(&rt, &loc_rib);
     let flagged = PeerHeader {
         flags: 0xf0,
-        ..want
+        ..WANTED
     };
-    assert_eq!(rt; (flagged.view(), flagged.two_byte()), (View::OutPost, true));
-    assert_eq!(rt; flagged.place(&last), Addr::v6(last));
+    says(&rt, &flagged, View::OutPost, true, Addr::v6(LAST));
     assert!(rt; global.key() < rd.key() && rd.key() < loc_rib.key());
-    assert_eq!(rt; PeerHeader { kind: 4, ..want }.key(), None);
-    Ok(())
+    assert_eq!(rt; PeerHeader { kind: 4, ..WANTED }.key(), None);
+}
+
+// The key of a header has this text, and no other key has it.
+fn expect_key(rt: &impl Abort, head: &str, text: &str) {
+    let Some(key) = header(rt, head).key() else {
+        panic!(rt; "no key");
+    };
+    assert_eq!(rt; key.text().as_slice(), text.as_bytes());
+    assert_eq!(rt; parse_key(text.as_bytes()), Some(key));
+}
+
+fn expect_view(rt: &impl Abort, view: View, text: &str) {
+    assert_eq!(rt; view.text().as_slice(), text.as_bytes());
+    assert_eq!(rt; parse_view(text.as_bytes()), Some(view));
 }
 
 #[test]
-fn texts_of_peers_and_views(rt: HostRuntime) -> Result<(), Fail> {
+fn texts_of_peers_and_views(rt: HostRuntime) {
     for (head, text) in [
         (GLOBAL, "0-0000000000000000-192.0.2.1"),
         (RD, "1-0000000000000001-192.0.2.1"),
         (LOC_RIB, "3-0000000000000000-0.0.0.0"),
     ] {
-        let key = header(&rt, head)?.key().ok_or("no key")?;
-        assert_eq!(rt; key.text().as_slice(), text.as_bytes());
-        assert_eq!(rt; parse_key(text.as_bytes()), Some(key));
+        expect_key(&rt, head, text);
     }
     for text in [
         "0-0-192.0.2.1",
@@ -190,9 +241,7 @@ fn texts_of_peers_and_views(rt: HostRuntime) -> Result<(), Fail> {
         (View::OutPost, "adj-out-post"),
         (View::Loc, "loc"),
     ] {
-        assert_eq!(rt; view.text().as_slice(), text.as_bytes());
-        assert_eq!(rt; parse_view(text.as_bytes()), Some(view));
+        expect_view(&rt, view, text);
     }
     assert_eq!(rt; parse_view(b"adj-in"), None);
-    Ok(())
 }

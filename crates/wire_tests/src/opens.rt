@@ -4,6 +4,7 @@
 use bgp_open::{Cap, Open, Side, bgp_frame, path_ids, read_open};
 use ip_prefix::Family;
 use std::alloc::Global;
+use std::process::Abort;
 use std::test::Fail;
 
 // The OPEN that the router sent: marker, length 43, type 1, version 4, AS 64496, hold time 180,
@@ -33,26 +34,29 @@ fn read(alloc: Global, message: &[u8]) -> Result<Open, Fail> {
     Ok(read_open(alloc, &message[19..frame.length as usize])?)
 }
 
+// The family of `PLAIN`.
+const FAMILIES: [Cap; 1] = [Cap {
+    afi: 1,
+    safi: 1,
+    value: 0,
+}];
+
+fn expect_plain(rt: &impl Abort, open: &Open) {
+    assert_eq!(rt; (open.version, open.my_as, open.hold), (4, 64496, 180));
+    assert_eq!(rt; open.identifier, [192, 0, 2, 254]);
+    assert_eq!(rt;
+        (open.four, open.asn(), open.extended),
+        (Some(64496), 64496, false)
+    );
+    assert_eq!(rt; open.families.as_slice(), FAMILIES.as_slice());
+    assert_eq!(rt; open.paths.as_slice().len(), 0);
+}
+
 #[test]
 fn an_open_has_its_fields(rt: HostRuntime) -> Result<(), Fail> {
     let plain = read(rt.alloc(), &PLAIN)?;
     let copy = plain.copy()?;
-    assert_eq!(rt; (copy.version, copy.my_as, copy.hold), (4, 64496, 180));
-    assert_eq!(rt; copy.identifier, [192, 0, 2, 254]);
-    assert_eq!(rt;
-        (copy.four, copy.asn(), copy.extended),
-        (Some(64496), 64496, false)
-    );
-    assert_eq!(rt;
-        copy.families.as_slice(),
-        [Cap {
-            afi: 1,
-            safi: 1,
-            value: 0
-        }]
-        .as_slice()
-    );
-    assert_eq!(rt; copy.paths.as_slice().len(), 0);
+    expect_plain(&rt, &copy);
     Ok(())
 }
 

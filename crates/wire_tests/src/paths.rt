@@ -1,5 +1,6 @@
 use as_path::{AsPath, Numbers, Segment, SegmentKind, Width};
 use std::alloc::{AllocError, Global};
+use std::process::Abort;
 use std::test::Fail;
 use wire_io::BodyFault;
 
@@ -29,35 +30,36 @@ fn merged(alloc: Global, short: &[u8], long: &[u8]) -> Result<Vec<u32>, Fail> {
 
 #[test]
 fn four_byte_path_is_merged(rt: HostRuntime) -> Result<(), Fail> {
-    let alloc = rt.alloc();
-    // AS_PATH 23456 64500 and AS4_PATH 4200000001 64500
-    let short = b"\x02\x02\x5b\xa0\xfb\xf4";
-    let long = b"\x02\x02\xfa\x56\xea\x01\x00\x00\xfb\xf4";
-    assert_eq!(rt;
-        merged(alloc, short, long)?.as_slice(),
-        [2, 2, 4200000001, 64500].as_slice()
-    );
-
-    // AS4_PATH has a number more, and is ignored
-    let longer = b"\x02\x03\xfa\x56\xea\x01\xfa\x56\xea\x01\x00\x00\xfb\xf4";
-    assert_eq!(rt;
-        merged(alloc, short, longer)?.as_slice(),
-        [2, 2, 23456, 64500].as_slice()
-    );
-
-    // a confederation and two more ASes stand before what AS4_PATH has, whose own confederation is dropped
-    let short = b"\x03\x01\xfd\xe8\x02\x04\x00\x0a\x00\x14\x5b\xa0\xfb\xf4";
-    let long = b"\x04\x01\x00\x00\xfd\xe9\x02\x02\xfa\x56\xea\x01\x00\x00\xfb\xf4";
-    let wanted = [3, 1, 65000, 2, 2, 10, 20, 2, 2, 4200000001, 64500];
-    assert_eq!(rt; merged(alloc, short, long)?.as_slice(), wanted.as_slice());
-
-    // an AS_SET of three counts as one, and isn't split
-    let short = b"\x01\x03\x00\x0a\x00\x14\x00\x1e\x02\x01\x5b\xa0";
-    let long = b"\x02\x01\xfa\x56\xea\x01";
-    assert_eq!(rt;
-        merged(alloc, short, long)?.as_slice(),
-        [1, 3, 10, 20, 30, 2, 1, 4200000001].as_slice()
-    );
+    // AS_PATH, AS4_PATH, and the path of both
+    let table: [(&[u8], &[u8], &[u32]); 4] = [
+        // 23456 64500, and 4200000001 64500
+        (
+            b"\x02\x02\x5b\xa0\xfb\xf4",
+            b"\x02\x02\xfa\x56\xea\x01\x00\x00\xfb\xf4",
+            &[2, 2, 4200000001, 64500],
+        ),
+        // AS4_PATH has a number more, and is ignored
+        (
+            b"\x02\x02\x5b\xa0\xfb\xf4",
+            b"\x02\x03\xfa\x56\xea\x01\xfa\x56\xea\x01\x00\x00\xfb\xf4",
+            &[2, 2, 23456, 64500],
+        ),
+        // a confederation and two more ASes stand before what AS4_PATH has, whose own confederation is dropped
+        (
+            b"\x03\x01\xfd\xe8\x02\x04\x00\x0a\x00\x14\x5b\xa0\xfb\xf4",
+            b"\x04\x01\x00\x00\xfd\xe9\x02\x02\xfa\x56\xea\x01\x00\x00\xfb\xf4",
+            &[3, 1, 65000, 2, 2, 10, 20, 2, 2, 4200000001, 64500],
+        ),
+        // an AS_SET of three counts as one, and isn't split
+        (
+            b"\x01\x03\x00\x0a\x00\x14\x00\x1e\x02\x01\x5b\xa0",
+            b"\x02\x01\xfa\x56\xea\x01",
+            &[1, 3, 10, 20, 30, 2, 1, 4200000001],
+        ),
+    ];
+    for (short, long, wanted) in table {
+        assert_eq!(rt; merged(rt.alloc(), short, long)?.as_slice(), wanted);
+    }
     Ok(())
 }
 
@@ -113,21 +115,33 @@ fn what_is_judged_a_path_is_read(rt: HostRuntime) {
     }
 }
 
-#[test]
-fn lists_keep_what_is_pushed(rt: HostRuntime) -> Result<(), Fail> {
-    let alloc = rt.alloc();
+// A path of one AS_SET with 64500, and the number behind it that was taken back.
+fn pushed(alloc: Global) -> Result<(AsPath, Option<u32>), Fail> {
     let mut numbers = Numbers::new(alloc);
     numbers.push(64500)?;
     numbers.push(64501)?;
-    assert_eq!(rt; numbers.pop(), Some(64501));
+    let last = numbers.pop();
     let mut path = AsPath::new(alloc);
     path.push(Segment {
         kind: SegmentKind::Set,
         numbers,
     })?;
-    let copy = path.copy()?;
+    Ok((path, last))
+}
+
+// Takes the one segment of a path.
+fn take_segment(rt: &impl Abort, path: &mut AsPath) {
     assert!(rt; path.pop().is_some());
     assert!(rt; path.pop().is_none());
+}
+
+#[test]
+fn lists_keep_what_is_pushed(rt: HostRuntime) -> Result<(), Fail> {
+    let alloc = rt.alloc();
+    let (mut path, last) = pushed(alloc)?;
+    assert_eq!(rt; last, Some(64501));
+    let copy = path.copy()?;
+    take_segment(&rt, &mut path);
     assert_eq!(rt; flat(alloc, &copy)?.as_slice(), [1, 1, 64500].as_slice());
     Ok(())
 }
