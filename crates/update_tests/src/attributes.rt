@@ -1,6 +1,4 @@
-use path_attrs::{
-    AttrsRead, MpPart, MpSlice, Width, fits_width, frame_attrs, judge_attrs, read_attrs,
-};
+use path_attrs::{Attrs, MpPart, MpSlice, Width, fits_width, frame_attrs, judge_attrs, read_attrs};
 use std::alloc::Global;
 use std::test::Fail;
 use wire_io::BodyFault;
@@ -10,12 +8,18 @@ const TWO_BYTE: &[u8] =
     b"\x40\x01\x01\x00\x40\x02\x06\x02\x02\x5b\xa0\xfb\xf4\x40\x03\x04\xc0\x00\x02\x01\xc0\x07\x06\xfb\xf4\xc0\x00\x02\x01\xc0\x11\x0a\x02\x02\xfa\x56\xea\x01\x00\x00\xfb\xf4\xc0\x12\x08\xfa\x56\xea\x01\xc0\x00\x02\x01";
 
 // The first AS number of the path, and the AS of the aggregator.
-fn ases(read: &AttrsRead) -> Option<(u32, u32)> {
-    let path = read.attrs.path.as_ref()?;
+fn ases(attrs: &Attrs) -> Option<(u32, u32)> {
+    let path = attrs.path.as_ref()?;
     let first = path.as_slice().first()?;
     let asn = first.numbers.as_slice().first()?;
-    let aggregator = read.attrs.aggregator.as_ref()?;
+    let aggregator = attrs.aggregator.as_ref()?;
     Some((*asn, aggregator.asn))
+}
+
+// The ASes of a copy.
+fn ases_of_copy(attrs: &Attrs) -> Result<Option<(u32, u32)>, BodyFault> {
+    let copy = attrs.copy()?;
+    Ok(ases(&copy))
 }
 
 // What is read of the field, by way of a copy: how many attributes, and its ASes.
@@ -25,14 +29,8 @@ fn read_copy(
     width: Width,
 ) -> Result<(u32, Option<(u32, u32)>), BodyFault> {
     let read = read_attrs(alloc, field, width)?;
-    let attrs = read.attrs.copy()?;
-    let copy = AttrsRead {
-        attrs,
-        reach: None,
-        unreach: None,
-        count: read.count,
-    };
-    Ok((read.count, ases(&copy)))
+    let ases = ases_of_copy(&read.attrs)?;
+    Ok((read.count, ases))
 }
 
 #[test]

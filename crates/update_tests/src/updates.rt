@@ -6,9 +6,10 @@ use bgp_update::{
     judge_update, read_update,
 };
 use bmp_specs::Width;
-use ip_prefix::{Family, Nlri, parse_prefix};
+use ip_prefix::{Family, Nlri, Prefix, parse_prefix};
 use path_attrs::Attrs;
 use std::alloc::Global;
+use std::process::Abort;
 use std::sync::Arc;
 use std::test::Fail;
 use wire_io::BodyFault;
@@ -31,16 +32,20 @@ fn put_list(text: &mut Vec<u8>, sign: u8, list: &NlriList) -> Result<(), Fail> {
     Ok(())
 }
 
+fn mark_of(update: &Update) -> &'static [u8] {
+    match update.mark {
+        Some(Family::V4) => b"end of IPv4",
+        Some(Family::V6) => b"end of IPv6",
+        None => b"",
+    }
+}
+
 // Puts what an UPDATE says.
 fn put_update(text: &mut Vec<u8>, update: &Update) -> Result<(), Fail> {
     put_list(text, b'-', &update.withdrawn)?;
     put_list(text, b'+', &update.plain)?;
     put_list(text, b'*', &update.multi)?;
-    match update.mark {
-        Some(Family::V4) => text.extend_from_slice(b"end of IPv4")?,
-        Some(Family::V6) => text.extend_from_slice(b"end of IPv6")?,
-        None => (),
-    }
+    text.extend_from_slice(mark_of(update))?;
     for _ in 0..update.unread {
         text.extend_from_slice(b" unread")?;
     }
@@ -219,57 +224,57 @@ fn hop_size(attrs: &Attrs) -> Option<usize> {
     }
 }
 
-// NEXT_HOP alone, and beside an MP_REACH_NLRI with a hop of one byte.
+// The sizes of both next hops, and how many shares the plain attributes have.
+fn hops(update: &Update) -> (Option<usize>, Option<usize>, usize) {
+    let plain = hop_size(&update.plain_attrs);
+    let multi = hop_size(&update.multi_attrs);
+    (plain, multi, Arc::strong_count(&update.plain_attrs))
+}
+
+// NEXT_HOP alone, whose attributes are shared, and beside an MP_REACH_NLRI with a hop of one byte.
 #[test]
 fn each_prefix_has_its_hop(rt: HostRuntime) -> Result<(), Fail> {
     let alloc = rt.alloc();
-    let one = read_update(
-        alloc,
-        b"\0\0\0\x07\x40\x03\x04\xc0\0\x02\x01\x08\x0a",
-        Width::Four,
-        NONE,
-    )?;
-    assert_eq!(rt;
-        (hop_size(&one.plain_attrs), hop_size(&one.multi_attrs)),
-        (Some(4), Some(4))
-    );
-    assert_eq!(rt; Arc::strong_count(&one.plain_attrs), 2);
-    let two = read_update(
-        alloc,
-        b"\0\0\0\x10\x40\x03\x04\xc0\0\x02\x01\x80\x0e\x06\0\x02\x01\x01\x0a\0",
-        Width::Four,
-        NONE,
-    )?;
-    assert_eq!(rt;
-        (hop_size(&two.plain_attrs), hop_size(&two.multi_attrs)),
-        (Some(4), Some(1))
-    );
-    assert_eq!(rt; Arc::strong_count(&two.plain_attrs), 1);
+    let rows: [(&[u8], Option<usize>, usize); 2] = [
+        (b"\0\0\0\x07\x40\x03\x04\xc0\0\x02\x01\x08\x0a", Some(4), 2),
+        (
+            b"\0\0\0\x10\x40\x03\x04\xc0\0\x02\x01\x80\x0e\x06\0\x02\x01\x01\x0a\0",
+            Some(1),
+            1,
+        ),
+    ];
+    for (body, multi, shares) in rows {
+        let update = read_update(alloc, body, Width::Four, NONE)?;
+        assert_eq!(rt; hops(&update), (Some(4), multi, shares));
+    }
     Ok(())
 }
 
-// What a reader reads of the body, after what it has read, with the sizes of the next hops.
-fn read_next(
-    alloc: Global,
-    reader: &mut UpdateReader,
-    body: &[u8],
-    width: Width,
-    ids: IdUse,
-) -> Result<Vec<u8>, Fail> {
-    let update = match reader.read(body, width, ids) {
-        Ok(update) => update,
-        Err(BodyFault::Broken) => return Ok(Vec::from_slice(alloc, b"broken")?),
-        Err(BodyFault::NoMemory) => return Ok(Vec::from_slice(alloc, b"no memory")?),
-    };
-    let mut text = Vec::new(alloc);
-    put_update(&mut text, &update)?;
+// Puts what an UPDATE says, and the sizes of its next hops.
+fn put_with_hops(text: &mut Vec<u8>, update: &Update) -> Result<(), Fail> {
+    put_update(text, update)?;
     if hop_size(&update.plain_attrs) == Some(4) {
         text.extend_from_slice(b" of 4")?;
     }
     if hop_size(&update.multi_attrs) == Some(1) {
         text.extend_from_slice(b" of 1")?;
     }
-    Ok(text)
+    Ok(())
+}
+
+// Puts what a reader reads of the body, after what it has read, with the sizes of the next hops.
+fn put_next(
+    text: &mut Vec<u8>,
+    reader: &mut UpdateReader,
+    body: &[u8],
+    width: Width,
+    ids: IdUse,
+) -> Result<(), Fail> {
+    match reader.read(body, width, ids) {
+        Ok(update) => put_with_hops(text, &update),
+        Err(BodyFault::Broken) => Ok(text.extend_from_slice(b"broken")?),
+        Err(BodyFault::NoMemory) => Ok(text.extend_from_slice(b"no memory")?),
+    }
 }
 
 // One body after another, of which most have the attributes of one before.
@@ -342,42 +347,59 @@ fn what_was_read_changes_nothing(rt: HostRuntime) -> Result<(), Fail> {
     ];
     let mut reader = UpdateReader::new(alloc);
     for (body, width, ids, wanted) in rows {
-        let text = read_next(alloc, &mut reader, body, width, ids)?;
+        let mut text = Vec::new(alloc);
+        put_next(&mut text, &mut reader, body, width, ids)?;
         assert_eq!(rt; text.as_slice(), wanted);
     }
     Ok(())
 }
 
+// Reads a body twice, and tells how many shares the attributes have after the first time and after the second.
+fn shares_of_two(reader: &mut UpdateReader, body: &[u8]) -> Result<(usize, usize), BodyFault> {
+    let one = reader.read(body, Width::Four, NONE)?;
+    let first = Arc::strong_count(&one.plain_attrs);
+    let two = reader.read(body, Width::Four, NONE)?;
+    Ok((first, Arc::strong_count(&two.multi_attrs)))
+}
+
 // The attributes of two messages are one, of which the reader keeps one share.
 #[test]
 fn the_same_attributes_are_shared(rt: HostRuntime) -> Result<(), Fail> {
-    let alloc = rt.alloc();
-    let mut reader = UpdateReader::new(alloc);
+    let mut reader = UpdateReader::new(rt.alloc());
     let body = b"\0\0\0\x07\x40\x03\x04\xc0\0\x02\x01\x08\x0a";
-    let one = reader.read(body, Width::Four, NONE)?;
-    assert_eq!(rt; Arc::strong_count(&one.plain_attrs), 3);
-    let two = reader.read(body, Width::Four, NONE)?;
-    assert_eq!(rt; Arc::strong_count(&two.multi_attrs), 5);
+    let shares = shares_of_two(&mut reader, body)?;
+    assert_eq!(rt; shares, (3, 5));
     Ok(())
 }
 
-#[test]
-fn a_list_gives_back_its_last_item(rt: HostRuntime) -> Result<(), Fail> {
-    let prefix = parse_prefix(b"10.0.0.0/8").ok_or("no prefix")?;
-    let mut list = NlriList::new(rt.alloc());
+// A list of the prefix without a path identifier, and with one.
+fn two_of(alloc: Global, prefix: Prefix) -> Result<NlriList, Fail> {
+    let mut list = NlriList::new(alloc);
     list.push(Nlri { prefix, id: None })?;
     list.push(Nlri {
         prefix,
         id: Some(7),
     })?;
-    assert_eq!(rt;
-        list.pop(),
-        Some(Nlri {
-            prefix,
-            id: Some(7)
-        })
-    );
+    Ok(list)
+}
+
+fn expect_last(rt: &impl Abort, list: &mut NlriList, last: Nlri) {
+    assert_eq!(rt; list.pop(), Some(last));
     assert_eq!(rt; list.as_slice().len(), 1);
+}
+
+#[test]
+fn a_list_gives_back_its_last_item(rt: HostRuntime) -> Result<(), Fail> {
+    let prefix = parse_prefix(b"10.0.0.0/8").ok_or("no prefix")?;
+    let mut list = two_of(rt.alloc(), prefix)?;
+    expect_last(
+        &rt,
+        &mut list,
+        Nlri {
+            prefix,
+            id: Some(7),
+        },
+    );
     Ok(())
 }
 
