@@ -73,11 +73,6 @@ module _ {K U : Type 0} (cmp : K → K → Ordering) (pairs : List (ℕ × K)) (
     none_gone = λ p h. ap (λ o. is_some (seen o)) (all.set_there p (all.listed p h));
   }
 
--- it has the pairs of a list with the same members too
-module _ {K U : Type 0} (cmp : K → K → Ordering) (pairs list : List (ℕ × K)) (added : List ((ℕ × K) × Option U)) where
-  pub has_same_pairs : HasSame pairs list → HasPairs cmp list added → HasPairs cmp pairs added
-  has_same_pairs same has = record { there = λ p h. has.there p (same.to p h); none_gone = has.none_gone }
-
 module _ {K S A U : Type 0} (cmp : K → K → Ordering) (by : S → S → Ordering) (spot : K → S) (origin : A → Option ℕ) (pairs : List (ℕ × S)) (added : List ((ℕ × S) × Option U)) (has : HasPairs by pairs added) where
   pub covered_by : (run : List (K × Option A)) → AreAdded cmp spot origin run pairs → Covers cmp by spot origin run added
   covered_by run all = record { there = λ q asn h. has.there (asn, spot q) (all q asn h); none_gone = has.none_gone }

@@ -1,15 +1,14 @@
-ghost use Rattle.std.specs.Prelude.{◌≡◌, ℕ, true, length, map, IfOk, OnOk};
+ghost use Rattle.std.specs.Prelude.{◌≡◌, ℕ, true, length, map, IfOk, IsTrue, OnOk};
 ghost use Rattle.std.specs.Arc.{arc_value};
 ghost use Rattle.std.specs.List.{AllByRecursion, Contains};
-ghost use Rattle.route_runs.specs.Message.{HasSame};
 ghost use Rattle.route_runs.specs.Origins.{attrs_origin, is_number, AreAdded, AreAll, AreNamed, Covers, HasPairs, IsIndexed};
 ghost use Rattle.route_runs.specs.Rows.{sets_of, IsHandle};
 ghost use Rattle.route_runs.specs.Runs.{IsChanged};
 
+use crate::cursor::is_same;
 use crate::find::set_of;
 use crate::key::{RunKey, TableKey};
 use crate::listed::Listed;
-use crate::many::each_once;
 use crate::origin::origin_of;
 use crate::run::{Pack, Run};
 use crate::runs::Runs;
@@ -18,7 +17,30 @@ use std::alloc::Global;
 use std::sync::Arc;
 use wire_io::NoMemory;
 
-// Adds a pair, where there is an origin.
+// How many pairs are looked at for one that is there already.
+const LOOKED_AT: usize = 16;
+
+// Whether a pair stands among the last ones, as far as these have its spot. Rows come in the order of their spots, so the
+// pairs of one spot stand together.
+fn is_listed<S: RunKey>(pairs: &[(u32, S)], asn: u32, spot: &S) -> bool
+    ensures { IsTrue result → Contains pairs.now (asn, spot.now) }
+{
+    for back in 0..LOOKED_AT {
+        if back >= pairs.len() {
+            return false;
+        }
+        let pair = pairs[pairs.len() - 1 - back];
+        if !is_same(&pair.1, spot) {
+            return false;
+        }
+        if pair.0 == asn {
+            return true;
+        }
+    }
+    false
+}
+
+// Adds a pair, where there is an origin and the pair isn't there.
 fn add_pair<S: RunKey>(
     pairs: &mut Vec<(u32, S)>,
     origin: Option<u32>,
@@ -30,6 +52,9 @@ fn add_pair<S: RunKey>(
     let Some(asn) = origin else {
         return Ok(());
     };
+    if is_listed(pairs, asn, &spot) {
+        return Ok(());
+    }
     match pairs.push((asn, spot)) {
         Ok(_) => Ok(()),
         Err(_) => Err(NoMemory),
@@ -76,17 +101,7 @@ fn run_of<S: RunKey>(alloc: Global, pairs: Vec<(u32, S)>) -> Result<Run<(u32, S)
     }
 }
 
-// The pairs by their origins, each once. Those of one origin stay as they stood, which is by their spots where they are of
-// one run; so `Run::many` has no more to sort, and numbers alone are compared.
-fn by_origin<S: RunKey>(pairs: Vec<(u32, S)>) -> Result<Vec<(u32, S)>, NoMemory>
-    ensures { IfOk result (λ list. HasSame pairs.items list.items) }
-{
-    let mut pairs = pairs;
-    pairs.sort_by_key(|pair| pair.0)?;
-    Ok(each_once(pairs))
-}
-
-// The pairs of a run.
+// The pairs of a run. Routes beside each other have one pair, if an AS originates them.
 fn pairs_of<K: TableKey>(
     alloc: Global,
     run: &Run<K, Attrs>,
@@ -97,8 +112,7 @@ fn pairs_of<K: TableKey>(
         return Err(NoMemory);
     };
     add_pairs(&mut pairs, run)?;
-    let sorted = by_origin(pairs)?;
-    run_of(alloc, sorted)
+    run_of(alloc, pairs)
 }
 
 // The index of a table, of the rows of its runs alone.

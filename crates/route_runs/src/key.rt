@@ -1,8 +1,6 @@
 ghost use Rattle.std.specs.Prelude.{◌≡◌, IfSome};
 ghost use Rattle.std.specs.declared.cmp.Ordering.TheVariants.{Less, Equal};
 
-use ip_prefix::Nlri;
-
 /// Keys that are equal in their order only where they are the same.
 pub(crate) trait RunKey: Copy + Ord {
     /// A number by which the order of keys is guessed. It is best where the lesser of two keys has the lesser number.
@@ -30,16 +28,6 @@ pub(crate) trait TableKey: RunKey {
         ensures { IfSome result (λ k. is_key k × (Self.Spot.cmp (spot_of k) spot ≡ Less)) };
 
     ghost spots_rise: { (x y : Self) → is_key x → is_key y → Self.Spot.cmp (spot_of x) (spot_of y) ≡ Less → Self.cmp x y ≡ Less };
-}
-
-impl RunKey for Nlri {
-    ghost use Rattle.bmp_specs.proofs.OrderLaws.{nlri_exact};
-
-    ghost exact = { nlri_exact };
-
-    fn rank(&self) -> u64 {
-        0
-    }
 }
 
 impl<K: RunKey> RunKey for (u32, K) {

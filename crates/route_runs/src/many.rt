@@ -37,15 +37,6 @@ fn sorted_keys<K: RunKey>(keys: Vec<K>) -> Vec<K>
     keys
 }
 
-/// Keys, of neighbours that are the same one.
-pub(crate) fn each_once<K: RunKey>(keys: Vec<K>) -> Vec<K>
-    ensures { HasSame keys.items result.items }
-{
-    let mut keys = keys;
-    keys.dedup();
-    keys
-}
-
 // Keys in order, each once. Where they stand so they stay as they are.
 fn in_order<K: RunKey>(alloc: Global, keys: Vec<K>) -> Vec<K>
     ensures ordered { IsStrictlySortedBy K.cmp result.items }
