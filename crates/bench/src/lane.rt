@@ -10,10 +10,10 @@ use rib_model::Entry;
 use route_runs::{Place, RouteTable};
 use router_tables::RouterTables;
 use std::alloc::Global;
-use std::io;
 use std::io::Read;
 use std::marker::Brand;
 use std::sync::ledger::{Blank, Ledger};
+use std::{io, mem};
 
 /// The most bytes of one read, after which the tables are brought up to date.
 const READ: usize = 65_536;
@@ -172,13 +172,16 @@ fn rows(tables: &RouterTables, places: &[(PeerKey, View)]) -> u64 {
 }
 
 /// Takes the stream of standard input, brings the tables up to date after each read, and prints how many
-/// routes they have, how many entries were taken, with the opening, and how many versions were kept.
+/// routes they have, how many entries were taken, with the opening, and how many versions were kept. The tables are left
+/// to the system, which takes all memory back as the program ends.
 pub fn run(rt: &HostRuntime, versions: Versions) -> io::Result<()> {
     let lane = taken(rt.alloc(), rt.reader(), versions)?;
     let places = wanted(places(rt.alloc(), &lane.tables))?;
     println!(rt; "count {}", rows(&lane.tables, &places))?;
     println!(rt; "entries {}", lane.entries)?;
-    println!(rt; "kept {}", lane.kept.len())
+    println!(rt; "kept {}", lane.kept.len())?;
+    mem::forget(lane);
+    Ok(())
 }
 
 // The NLRI of a table, in order. None where no memory is left.

@@ -8,7 +8,7 @@ use Rattle.std.proofs.lemmas.Bool.{cases_lt}
 use Rattle.std.proofs.lemmas.List.{get_or_default, take_all}
 use Rattle.std.proofs.lemmas.Map.Lookups.{CmpEqualImpliesEq}
 use Rattle.route_runs.specs.Keys.{pair_cmp}
-use Rattle.route_runs.specs.Message.{HasSame, IsAllSet}
+use Rattle.route_runs.specs.Message.{IsAllSet}
 use Rattle.route_runs.specs.Origins.{is_number, of_origin, AreAdded, AreAll, AreNamed, Covers, HasPairs, IsIndexed}
 use Rattle.route_runs.specs.Override.{value_at, or_else}
 use Rattle.route_runs.specs.Rows.{set_at, paired, rows, IsRun}

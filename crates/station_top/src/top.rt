@@ -29,6 +29,7 @@ use reply_text::put_stop;
 use station_doors::Yard;
 use station_run::{FromEnding, Outcome, drill, serve};
 use std::alloc::Global;
+use std::mem;
 use std::sync::Wait;
 use std::thread::Threads;
 use wire_io::{BufferedSink, Failed, Sink, write_all};
@@ -141,10 +142,12 @@ fn run<A: Account + Drop, R: BodyReading + Drop, Y: Yard, O: Sink>(
 {
     match take_from::<Y, A, R>(alloc, yard) {
         Ok((account, taken)) => match account.ready(alloc, taken.revision) {
-            Ok(told) => unless_failed(
-                write_reply(out, &told, ask, taken.cause),
-                status_after(taken.cause),
-            ),
+            Ok(told) => {
+                let write = write_reply(out, &told, ask, taken.cause);
+                // The command is over, and the system takes all memory back at once.
+                mem::forget(told);
+                unless_failed(write, status_after(taken.cause))
+            }
             Err(_) => Status::NoMemory,
         },
         Err(status) => status,
