@@ -7,7 +7,9 @@
 //! attributes, up to 4,096 of them each, and a merge counts a pack, not a row.
 //!
 //! IPv4 and IPv6 have runs of their own, and an index of their own by origin AS. A key is the NLRI in a few numbers that
-//! stand in its order: 12 bytes for IPv4 and 24 for IPv6, with the path identifier where there is one.
+//! stand in its order: 12 bytes for IPv4 and 24 for IPv6, with the path identifier where there is one. The index has
+//! pairs of an AS and a spot, the first bits of an address: it tells where an origin's routes may be, and the table says
+//! which they are.
 //!
 //! Proved: `with` gives the table with the last change of each NLRI made, and all others as they were; `get` is
 //! the look-up, `walk` gives the pairs from a place on in the order of NLRI, each once, `count` is their number;

@@ -13,8 +13,8 @@ use path_attrs::Attrs;
 use rib_model::Route;
 use std::marker::Model;
 
-/// What reads the routes of an origin AS, of one family of addresses. It keeps its places in the table and in the index. Contracts see
-/// the pairs of all routes.
+/// What reads the routes of an origin AS, of one family of addresses. It keeps its places in the table and in the
+/// index. Contracts see the pairs of all routes.
 #[derive(Drop)]
 pub(crate) struct OriginCursor<'a, K: TableKey> {
     pub(crate) rows: Cursor<'a, K, Attrs>,

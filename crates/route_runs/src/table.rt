@@ -155,7 +155,7 @@ impl RouteTable {
     }
 
     /// The routes whose path has this origin AS (RFC 6811, section 2), from a place on, in the order of NLRI. It
-    /// takes no memory. A step reads the index at the next NLRI of this origin, and the table there.
+    /// takes no memory. A step reads the table from row to row, and jumps by the index over rows of other origins.
     pub fn origin(&self, asn: u32, place: Place) -> OriginWalk<'_>
         ensures { result ≡ pairs_from place (with_origin asn self.now) }
     {
