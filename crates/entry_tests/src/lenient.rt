@@ -1,6 +1,6 @@
 //! Messages as routers send them, one after another: what each does to the tables, after those before it.
 
-use crate::messages::describe;
+use crate::messages::describe_all;
 use bmp_message::LenientReading;
 use rib_model::Entry;
 use std::alloc::Global;
@@ -243,33 +243,67 @@ fn row_at(number: u8) -> Row {
     }
 }
 
+// Writes the effects of a message that was read. Another reading judged it.
+fn expect_entry<R: Abort>(
+    rt: &R,
+    alloc: Global,
+    said: &mut Vec<u8>,
+    read: &Result<Entry, BodyFault>,
+    judged: Result<(), BodyFault>,
+) -> Result<(), Fail> {
+    match read {
+        Ok(Entry::Message { effects, .. }) => {
+            assert_eq!(rt; judged, Ok(()));
+            describe_all(alloc, said, effects.as_slice())
+        }
+        Ok(_) => Ok(said.extend_from_slice(b"no message")?),
+        Err(BodyFault::Broken) => {
+            assert_eq!(rt; judged, Err(BodyFault::Broken));
+            Ok(said.extend_from_slice(b"broken")?)
+        }
+        Err(BodyFault::NoMemory) => Err("no memory".into()),
+    }
+}
+
 // Reads a message, and writes its effects. Another reading judges it.
 fn read<R: Abort>(
     rt: &R,
     alloc: Global,
+    said: &mut Vec<u8>,
     reading: &mut LenientReading,
     judging: &mut LenientReading,
-    row: Row,
-) -> Result<Vec<u8>, Fail> {
-    let body = hex::decode(alloc, row.body)?;
+    kind: u8,
+    body: &[u8],
+) -> Result<(), Fail> {
     assert!(rt; body.len() <= 1000);
-    let judged = judging.judge(row.kind, body.as_slice());
-    let mut said = Vec::new(alloc);
-    match reading.entry(row.kind, body.as_slice()) {
-        Ok(Entry::Message { effects, .. }) => {
-            assert_eq!(rt; judged, Ok(()));
-            for effect in effects.as_slice() {
-                describe(alloc, &mut said, effect)?;
-            }
-        }
-        Ok(_) => said.extend_from_slice(b"no message")?,
-        Err(BodyFault::Broken) => {
-            assert_eq!(rt; judged, Err(BodyFault::Broken));
-            said.extend_from_slice(b"broken")?;
-        }
-        Err(BodyFault::NoMemory) => return Err("no memory".into()),
+    let judged = judging.judge(kind, body);
+    let entry = reading.entry(kind, body);
+    expect_entry(rt, alloc, said, &entry, judged)
+}
+
+// Reads all messages one after another.
+fn read_all<R: Abort>(
+    rt: &R,
+    alloc: Global,
+    reading: &mut LenientReading,
+    judging: &mut LenientReading,
+) -> Result<(), Fail> {
+    for number in 0..41u8 {
+        let row = row_at(number);
+        let body = hex::decode(alloc, row.body)?;
+        let mut said = Vec::new(alloc);
+        read(
+            rt,
+            alloc,
+            &mut said,
+            reading,
+            judging,
+            row.kind,
+            body.as_slice(),
+        )?;
+        assert_eq!(rt; said.as_slice(), row.effects.as_bytes());
     }
-    Ok(said)
+    Ok(())
 }
 
 #[test]
@@ -277,10 +311,5 @@ fn messages_are_read_as_routers_send_them(rt: HostRuntime) -> Result<(), Fail> {
     let alloc = rt.alloc();
     let mut reading = LenientReading::new(alloc);
     let mut judging = LenientReading::new(alloc);
-    for number in 0..41u8 {
-        let row = row_at(number);
-        let said = read(&rt, alloc, &mut reading, &mut judging, row)?;
-        assert_eq!(rt; said.as_slice(), row.effects.as_bytes());
-    }
-    Ok(())
+    read_all(&rt, alloc, &mut reading, &mut judging)
 }

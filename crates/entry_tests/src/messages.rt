@@ -3,7 +3,7 @@
 use bgp_open::PeerInfo;
 use bmp_frames::{PeerKey, View, ViewText};
 use bmp_message::Reading;
-use ip_prefix::{Family, Nlri, parse_addr};
+use ip_prefix::{Addr, Family, Nlri, parse_addr};
 use rib_model::{Effect, Entry, Route};
 use std::alloc::Global;
 use std::process::Abort;
@@ -360,125 +360,179 @@ fn statistic(alloc: Global, out: &mut Vec<u8>, stat: &Stat) -> Result<(), Fail> 
     number(alloc, out, stat.value)
 }
 
-// Writes an effect in words, one for each route.
-pub(crate) fn describe(alloc: Global, out: &mut Vec<u8>, effect: &Effect) -> Result<(), Fail> {
+// Writes words.
+fn words(out: &mut Vec<u8>, words: &[&[u8]]) -> Result<(), Fail> {
+    for text in words {
+        word(out, text)?;
+    }
+    Ok(())
+}
+
+// Writes an announcement of each of these prefixes.
+fn announced(
+    alloc: Global,
+    out: &mut Vec<u8>,
+    key: &PeerKey,
+    view: View,
+    nlris: &[Nlri],
+    route: &Route,
+) -> Result<(), Fail> {
+    for nlri in nlris {
+        word(out, b"announce")?;
+        place(alloc, out, key, view, nlri)?;
+        number(alloc, out, first_as(route))?;
+        number(alloc, out, hop_length(route))?;
+        out.push(b';')?;
+    }
+    Ok(())
+}
+
+// Writes a withdrawal of each of these prefixes.
+fn withdrawn(
+    alloc: Global,
+    out: &mut Vec<u8>,
+    key: &PeerKey,
+    view: View,
+    nlris: &[Nlri],
+) -> Result<(), Fail> {
+    for nlri in nlris {
+        word(out, b"withdraw")?;
+        place(alloc, out, key, view, nlri)?;
+        out.push(b';')?;
+    }
+    Ok(())
+}
+
+fn number_of(family: &Family) -> &'static [u8] {
+    match family {
+        Family::V4 => b"4",
+        Family::V6 => b"6",
+    }
+}
+
+// Writes an effect that isn't on a route in words.
+fn describe_one(alloc: Global, out: &mut Vec<u8>, effect: &Effect) -> Result<(), Fail> {
     match effect {
         Effect::Up { key, info } => {
-            word(out, b"up")?;
-            word(out, key.text().as_slice())?;
-            peer(alloc, out, info)?;
+            words(out, &[b"up", key.text().as_slice()])?;
+            peer(alloc, out, info)
         }
         Effect::Down { key, info } => {
-            word(out, b"down")?;
-            word(out, key.text().as_slice())?;
-            number(alloc, out, info.reason as u64)?;
+            words(out, &[b"down", key.text().as_slice()])?;
+            number(alloc, out, info.reason as u64)
         }
+        Effect::Mark { key, view, family } => words(
+            out,
+            &[
+                b"mark",
+                key.text().as_slice(),
+                view.text().as_slice(),
+                number_of(family),
+            ],
+        ),
+        Effect::Statistic { key, stat } => {
+            words(out, &[b"stat", key.text().as_slice()])?;
+            statistic(alloc, out, stat)
+        }
+        Effect::Name(name) => words(out, &[b"name", name.as_slice()]),
+        Effect::Descr(descr) => words(out, &[b"descr", descr.as_slice()]),
+        Effect::Orphan => word(out, b"orphan"),
+        Effect::Mirrored => word(out, b"mirrored"),
+        Effect::Passed => word(out, b"passed"),
+        Effect::Unread(parts) => {
+            word(out, b"unread")?;
+            number(alloc, out, *parts as u64)
+        }
+        _ => Err("an effect on a route".into()),
+    }
+}
+
+// Writes an effect in words, one for each route.
+fn describe(alloc: Global, out: &mut Vec<u8>, effect: &Effect) -> Result<(), Fail> {
+    match effect {
         Effect::Announce {
             key,
             view,
             nlris,
             route,
-        } => {
-            for nlri in nlris.as_slice() {
-                word(out, b"announce")?;
-                place(alloc, out, key, *view, nlri)?;
-                number(alloc, out, first_as(route))?;
-                number(alloc, out, hop_length(route))?;
-                out.push(b';')?;
-            }
-            return Ok(());
-        }
+        } => announced(alloc, out, key, *view, nlris.as_slice(), route),
         Effect::Withdraw { key, view, nlris } => {
-            for nlri in nlris.as_slice() {
-                word(out, b"withdraw")?;
-                place(alloc, out, key, *view, nlri)?;
-                out.push(b';')?;
-            }
-            return Ok(());
+            withdrawn(alloc, out, key, *view, nlris.as_slice())
         }
-        Effect::Mark { key, view, family } => {
-            word(out, b"mark")?;
-            word(out, key.text().as_slice())?;
-            word(out, view.text().as_slice())?;
-            match family {
-                Family::V4 => word(out, b"4")?,
-                Family::V6 => word(out, b"6")?,
-            }
-        }
-        Effect::Statistic { key, stat } => {
-            word(out, b"stat")?;
-            word(out, key.text().as_slice())?;
-            statistic(alloc, out, stat)?;
-        }
-        Effect::Name(name) => {
-            word(out, b"name")?;
-            word(out, name.as_slice())?;
-        }
-        Effect::Descr(descr) => {
-            word(out, b"descr")?;
-            word(out, descr.as_slice())?;
-        }
-        Effect::Orphan => word(out, b"orphan")?,
-        Effect::Mirrored => word(out, b"mirrored")?,
-        Effect::Passed => word(out, b"passed")?,
-        Effect::Unread(parts) => {
-            word(out, b"unread")?;
-            number(alloc, out, *parts as u64)?;
+        _ => {
+            describe_one(alloc, out, effect)?;
+            Ok(out.push(b';')?)
         }
     }
-    out.push(b';')?;
+}
+
+// Writes effects in words.
+pub(crate) fn describe_all(
+    alloc: Global,
+    out: &mut Vec<u8>,
+    effects: &[Effect],
+) -> Result<(), Fail> {
+    for effect in effects {
+        describe(alloc, out, effect)?;
+    }
     Ok(())
+}
+
+// Writes the effects of a message that was read. Another reading judged it.
+fn expect_entry<R: Abort>(
+    rt: &R,
+    alloc: Global,
+    said: &mut Vec<u8>,
+    read: &Result<Entry, BodyFault>,
+    judged: Result<(), BodyFault>,
+    wanted: (u8, u32),
+) -> Result<(), Fail> {
+    match read {
+        Ok(
+            Entry::Message {
+                kind,
+                length,
+                effects,
+            },
+        ) => {
+            assert_eq!(rt; (*kind, *length), wanted);
+            assert_eq!(rt; judged, Ok(()));
+            describe_all(alloc, said, effects.as_slice())
+        }
+        Ok(_) => Ok(said.extend_from_slice(b"no message")?),
+        Err(BodyFault::Broken) => {
+            assert_eq!(rt; judged, Err(BodyFault::Broken));
+            Ok(said.extend_from_slice(b"broken")?)
+        }
+        Err(BodyFault::NoMemory) => Err("no memory".into()),
+    }
+}
+
+// The bytes that a Per-Peer Header and what follows it spell.
+fn spelled(alloc: Global, head: &str, rest: &str) -> Result<Vec<u8>, Fail> {
+    let mut body = hex::decode(alloc, head)?;
+    body.extend_from_slice(hex::decode(alloc, rest)?.as_slice())?;
+    Ok(body)
 }
 
 // Reads a message, and writes its effects. Another reading judges it.
 fn read<R: Abort>(
     rt: &R,
     alloc: Global,
+    said: &mut Vec<u8>,
     reading: &mut Reading,
     judging: &mut Reading,
-    message: (u8, u32, &str, &str),
-) -> Result<Vec<u8>, Fail> {
-    let (kind, wanted, head, rest) = message;
-    let mut body = hex::decode(alloc, head)?;
-    body.extend_from_slice(hex::decode(alloc, rest)?.as_slice())?;
+    wanted: (u8, u32),
+    body: &[u8],
+) -> Result<(), Fail> {
     assert!(rt; body.len() <= 1000);
-    let judged = judging.judge(kind, body.as_slice());
-    let mut said = Vec::new(alloc);
-    match reading.entry(kind, body.as_slice()) {
-        Ok(
-            Entry::Message {
-                kind: read,
-                length,
-                effects,
-            },
-        ) => {
-            assert_eq!(rt; (read, length), (kind, wanted));
-            assert_eq!(rt; judged, Ok(()));
-            for effect in effects.as_slice() {
-                describe(alloc, &mut said, effect)?;
-            }
-        }
-        Ok(_) => said.extend_from_slice(b"no message")?,
-        Err(BodyFault::Broken) => {
-            assert_eq!(rt; judged, Err(BodyFault::Broken));
-            said.extend_from_slice(b"broken")?;
-        }
-        Err(BodyFault::NoMemory) => return Err("no memory".into()),
-    }
-    Ok(said)
+    let judged = judging.judge(wanted.0, body);
+    let entry = reading.entry(wanted.0, body);
+    expect_entry(rt, alloc, said, &entry, judged, wanted)
 }
 
-#[test]
-fn messages_have_their_effects(rt: HostRuntime) -> Result<(), Fail> {
-    let alloc = rt.alloc();
-    let mut reading = Reading::new(alloc);
-    let mut judging = Reading::new(alloc);
-    for (kind, length, head, rest, effects) in MESSAGES {
-        let message = (kind, length, head, rest);
-        let said = read(&rt, alloc, &mut reading, &mut judging, message)?;
-        assert_eq!(rt; said.as_slice(), effects.as_bytes());
-    }
-    let address = parse_addr(b"192.0.2.1").ok_or("no address")?;
+// Each of the three peers is up or not.
+fn expect_peers(rt: &impl Abort, reading: &Reading, address: Addr) {
     for kind in 0..3u8 {
         let key = PeerKey {
             kind,
@@ -486,7 +540,41 @@ fn messages_have_their_effects(rt: HostRuntime) -> Result<(), Fail> {
             address,
         };
         assert_eq!(rt; reading.is_up(&key), kind < 2);
-        assert_eq!(rt; judging.is_up(&key), kind < 2);
     }
+}
+
+// Reads all messages one after another.
+fn read_all<R: Abort>(
+    rt: &R,
+    alloc: Global,
+    reading: &mut Reading,
+    judging: &mut Reading,
+) -> Result<(), Fail> {
+    for (kind, length, head, rest, effects) in &MESSAGES {
+        let body = spelled(alloc, head, rest)?;
+        let mut said = Vec::new(alloc);
+        read(
+            rt,
+            alloc,
+            &mut said,
+            reading,
+            judging,
+            (*kind, *length),
+            body.as_slice(),
+        )?;
+        assert_eq!(rt; said.as_slice(), effects.as_bytes());
+    }
+    Ok(())
+}
+
+#[test]
+fn messages_have_their_effects(rt: HostRuntime) -> Result<(), Fail> {
+    let alloc = rt.alloc();
+    let address = parse_addr(b"192.0.2.1").ok_or("no address")?;
+    let mut reading = Reading::new(alloc);
+    let mut judging = Reading::new(alloc);
+    read_all(&rt, alloc, &mut reading, &mut judging)?;
+    expect_peers(&rt, &reading, address);
+    expect_peers(&rt, &judging, address);
     Ok(())
 }

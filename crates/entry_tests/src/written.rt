@@ -8,7 +8,7 @@ use rib_model::{Effect, Entry};
 use std::alloc::Global;
 use std::process::Abort;
 use std::test::Fail;
-use wire_io::ByteList;
+use wire_io::{BodyFault, ByteList};
 
 // A Peer Up Notification of the peer 192.0.2.1 (RFC 7854, section 4.10).
 pub(crate) const PEER_UP: &str = "030000009a03\
@@ -83,63 +83,95 @@ fn describe(out: &mut Vec<u8>, effect: &Effect) -> Result<(), Fail> {
     Ok(())
 }
 
-// Reads the messages of a stream, and writes what they do.
-fn read<R: Abort>(rt: &R, alloc: Global, stream: &[u8]) -> Result<Vec<u8>, Fail> {
-    let mut cutter = Cutter::new(alloc);
-    let mut reading = Reading::new(alloc);
-    let mut said = Vec::new(alloc);
+// Writes the effects of a message that was read in words.
+fn describe_read(said: &mut Vec<u8>, read: &Result<Entry, BodyFault>) -> Result<(), Fail> {
+    match read {
+        Ok(Entry::Message { effects, .. }) => {
+            for effect in effects.as_slice() {
+                describe(said, effect)?;
+            }
+            Ok(())
+        }
+        _ => Err("no entry".into()),
+    }
+}
+
+// Reads the body of a message, and writes what it does.
+fn read_body<R: Abort>(
+    rt: &R,
+    reading: &mut Reading,
+    kind: u8,
+    body: &[u8],
+    said: &mut Vec<u8>,
+) -> Result<(), Fail> {
+    assert!(rt; body.len() <= 1000);
+    let entry = reading.entry(kind, body);
+    describe_read(said, &entry)
+}
+
+// Reads the next message of a stream, and writes what it does.
+fn read_next<R: Abort>(
+    rt: &R,
+    cutter: &mut Cutter,
+    reading: &mut Reading,
+    said: &mut Vec<u8>,
+) -> Result<(), Fail> {
+    match cutter.next() {
+        Next::Frame { kind, .. } => read_body(rt, reading, kind, cutter.body(), said),
+        _ => Err("no message".into()),
+    }
+}
+
+// Reads the seven messages of a stream, and writes what they do.
+fn read<R: Abort>(
+    rt: &R,
+    cutter: &mut Cutter,
+    reading: &mut Reading,
+    stream: &[u8],
+    said: &mut Vec<u8>,
+) -> Result<(), Fail> {
     assert!(rt; stream.len() <= 1000 && cutter.offset() + cutter.rest() <= 1000);
     cutter.feed(stream).ok().ok_or("no memory")?;
     for _ in 0..7 {
-        let Next::Frame { kind, .. } = cutter.next() else {
-            return Err("no message".into());
-        };
-        let body = cutter.body();
-        assert!(rt; body.len() <= 1000);
-        match reading.entry(kind, body) {
-            Ok(Entry::Message { effects, .. }) => {
-                for effect in effects.as_slice() {
-                    describe(&mut said, effect)?;
-                }
-            }
-            _ => return Err("no entry".into()),
-        }
+        read_next(rt, cutter, reading, said)?;
     }
     assert_eq!(rt; cutter.next(), Next::More);
     assert_eq!(rt; cutter.rest(), 0);
+    Ok(())
+}
+
+// What is read of a stream.
+fn said_of<R: Abort>(rt: &R, alloc: Global, stream: &[u8]) -> Result<Vec<u8>, Fail> {
+    let mut cutter = Cutter::new(alloc);
+    let mut reading = Reading::new(alloc);
+    let mut said = Vec::new(alloc);
+    read(rt, &mut cutter, &mut reading, stream, &mut said)?;
     Ok(said)
 }
 
 // Writes the End-of-RIB marker of IPv4 in the Adj-RIB-Out after policy of the peer 192.0.2.1.
-fn put_mark_of_v4(out: &mut ByteList) -> Result<(), Fail> {
+fn put_mark_of_v4(out: &mut ByteList) -> Option<()> {
     let peer = PeerKey {
         kind: 0,
         distinguisher: 0,
         address: Addr::v4([192, 0, 2, 1]),
     };
-    put_mark(out, &peer, View::OutPost, Family::V4)
-        .ok()
-        .ok_or("no memory")?;
-    Ok(())
+    put_mark(out, &peer, View::OutPost, Family::V4).ok()
 }
 
 // Writes that of IPv6 in its Adj-RIB-In after policy, and that the peer went down.
-fn put_mark_of_v6_and_down(out: &mut ByteList) -> Result<(), Fail> {
+fn put_mark_of_v6_and_down(out: &mut ByteList) -> Option<()> {
     let peer = PeerKey {
         kind: 0,
         distinguisher: 0,
         address: Addr::v4([192, 0, 2, 1]),
     };
-    put_mark(out, &peer, View::InPost, Family::V6)
-        .ok()
-        .ok_or("no memory")?;
-    put_peer_down(out, &peer, 2).ok().ok_or("no memory")?;
-    Ok(())
+    put_mark(out, &peer, View::InPost, Family::V6).ok()?;
+    put_peer_down(out, &peer, 2).ok()
 }
 
-#[test]
-fn written_messages_are_read(rt: HostRuntime) -> Result<(), Fail> {
-    let alloc = rt.alloc();
+// Writes that an IPv6 peer and a Loc-RIB Instance Peer went down.
+fn put_other_downs(out: &mut ByteList) -> Option<()> {
     let other = PeerKey {
         kind: 1,
         distinguisher: 7,
@@ -150,21 +182,44 @@ fn written_messages_are_read(rt: HostRuntime) -> Result<(), Fail> {
         distinguisher: 7,
         address: Addr::v4([0, 0, 0, 0]),
     };
+    put_peer_down(out, &other, 6).ok()?;
+    put_peer_down(out, &local, 4).ok()
+}
+
+fn put_all(out: &mut ByteList) -> Option<()> {
+    put_initiation(out, b"r1", b"test").ok()?;
+    put_mark_of_v4(out)?;
+    put_mark_of_v6_and_down(out)?;
+    put_other_downs(out)
+}
+
+fn all_put(alloc: Global) -> Option<ByteList> {
     let mut out = ByteList::new(alloc);
-    put_initiation(&mut out, b"r1", b"test")
-        .ok()
-        .ok_or("no memory")?;
-    put_mark_of_v4(&mut out)?;
-    put_mark_of_v6_and_down(&mut out)?;
-    put_peer_down(&mut out, &other, 6).ok().ok_or("no memory")?;
-    put_peer_down(&mut out, &local, 4).ok().ok_or("no memory")?;
-    let wanted = hex::decode(alloc, WRITTEN)?;
-    assert_eq!(rt; out.as_slice(), wanted.as_slice());
+    put_all(&mut out)?;
+    Some(out)
+}
+
+// The messages, behind a Peer Up Notification of the peer 192.0.2.1.
+fn behind_up(alloc: Global, messages: &[u8]) -> Result<Vec<u8>, Fail> {
     let mut stream = hex::decode(alloc, PEER_UP)?;
-    stream.extend_from_slice(out.as_slice())?;
-    let said = read(&rt, alloc, stream.as_slice())?;
+    stream.extend_from_slice(messages)?;
+    Ok(stream)
+}
+
+fn expect_read<R: Abort>(rt: &R, alloc: Global, messages: &[u8]) -> Result<(), Fail> {
+    let stream = behind_up(alloc, messages)?;
+    let said = said_of(rt, alloc, stream.as_slice())?;
     assert_eq!(rt; said.as_slice(), READ.as_bytes());
     Ok(())
+}
+
+#[test]
+fn written_messages_are_read(rt: HostRuntime) -> Result<(), Fail> {
+    let alloc = rt.alloc();
+    let out = all_put(alloc).ok_or("no memory")?;
+    let wanted = hex::decode(alloc, WRITTEN)?;
+    assert_eq!(rt; out.as_slice(), wanted.as_slice());
+    expect_read(&rt, alloc, out.as_slice())
 }
 
 // Reads a Peer Up Notification, and writes what it told.
