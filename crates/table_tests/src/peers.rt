@@ -73,6 +73,31 @@ fn completes(rt: &impl Abort, book: &PeerBook, table: Option<(View, Family)>) {
     }
 }
 
+// Both peers come up; a second Peer Up drops the marks.
+fn up_both(alloc: Global, book: &mut PeerBook) -> Result<(), Fail> {
+    book.up(peer(FIRST), info(alloc)?)?;
+    book.up(peer(SECOND), info(alloc)?)?;
+    Ok(())
+}
+
+// A mark completes its table, in a copy too.
+fn marks(rt: &impl Abort, book: &mut PeerBook, table: (View, Family)) -> Result<(), Fail> {
+    completes(rt, book, None);
+    assert!(rt; book.mark(&peer(FIRST), table.0, table.1));
+    completes(rt, book, Some(table));
+    let copy = book.copy()?;
+    completes(rt, &copy, Some(table));
+    Ok(())
+}
+
+// A peer that went down has no mark, and takes none.
+fn downs(rt: &impl Abort, book: &mut PeerBook) -> Result<(), Fail> {
+    book.down(peer(FIRST), REMOTE_SILENT)?;
+    assert!(rt; !book.mark(&peer(FIRST), View::InPre, Family::V4));
+    completes(rt, book, None);
+    Ok(())
+}
+
 #[test]
 fn end_of_rib_completes_one_table(rt: HostRuntime) -> Result<(), Fail> {
     let mut book = PeerBook::new(rt.alloc());
@@ -81,18 +106,10 @@ fn end_of_rib_completes_one_table(rt: HostRuntime) -> Result<(), Fail> {
         (View::InPre, Family::V6),
         (View::OutPost, Family::V6),
     ] {
-        // a second Peer Up drops the marks
-        book.up(peer(FIRST), info(rt.alloc())?)?;
-        book.up(peer(SECOND), info(rt.alloc())?)?;
-        completes(&rt, &book, None);
-        assert!(rt; book.mark(&peer(FIRST), table.0, table.1));
-        completes(&rt, &book, Some(table));
-        completes(&rt, &book.copy()?, Some(table));
+        up_both(rt.alloc(), &mut book)?;
+        marks(&rt, &mut book, table)?;
     }
-    book.down(peer(FIRST), REMOTE_SILENT)?;
-    assert!(rt; !book.mark(&peer(FIRST), View::InPre, Family::V4));
-    completes(&rt, &book, None);
-    Ok(())
+    downs(&rt, &mut book)
 }
 
 // The AS of a peer that is up, or the reason of one that is down.
@@ -111,19 +128,36 @@ fn told(book: &PeerBook, place: Option<&PeerKey>) -> Option<(u8, u32)> {
     }
 }
 
+// The first peer after this one.
+fn told_after(book: &PeerBook, kind: u8) -> Option<(u8, u32)> {
+    let place = peer(kind);
+    told(book, Some(&place))
+}
+
+// The first peer is down, and the second up.
+fn expect_both(rt: &impl Abort, book: &PeerBook) {
+    assert!(rt; !book.is_up(&peer(FIRST)));
+    assert!(rt; book.is_up(&peer(SECOND)));
+    assert!(rt; told(book, None) == Some((FIRST, 4)));
+    assert!(rt; told_after(book, FIRST) == Some((SECOND, 64500)));
+    assert!(rt; told_after(book, SECOND).is_none());
+}
+
+// Both come up, the second first, and the first goes down.
+fn up_and_down(alloc: Global, book: &mut PeerBook) -> Result<(), Fail> {
+    book.up(peer(SECOND), info(alloc)?)?;
+    book.up(peer(FIRST), info(alloc)?)?;
+    book.down(peer(FIRST), REMOTE_SILENT)?;
+    Ok(())
+}
+
 #[test]
 fn a_peer_that_went_down_stays(rt: HostRuntime) -> Result<(), Fail> {
     let mut book = PeerBook::new(rt.alloc());
     assert!(rt; told(&book, None).is_none());
-    book.up(peer(SECOND), info(rt.alloc())?)?;
-    book.up(peer(FIRST), info(rt.alloc())?)?;
-    book.down(peer(FIRST), REMOTE_SILENT)?;
-    for book in [&book, &book.copy()?] {
-        assert!(rt; !book.is_up(&peer(FIRST)));
-        assert!(rt; book.is_up(&peer(SECOND)));
-        assert!(rt; told(book, None) == Some((FIRST, 4)));
-        assert!(rt; told(book, Some(&peer(FIRST))) == Some((SECOND, 64500)));
-        assert!(rt; told(book, Some(&peer(SECOND))).is_none());
-    }
+    up_and_down(rt.alloc(), &mut book)?;
+    expect_both(&rt, &book);
+    let copy = book.copy()?;
+    expect_both(&rt, &copy);
     Ok(())
 }

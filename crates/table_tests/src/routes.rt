@@ -14,6 +14,7 @@ use route_runs::{Changes, OriginWalk, Place, RouteTable};
 use std::alloc::Global;
 use std::collections::BTreeMap;
 use std::marker::Brand;
+use std::process::Abort;
 use std::sync::Arc;
 use std::sync::ledger::{Blank, Ledger};
 use std::test::Fail;
@@ -234,37 +235,51 @@ fn searches_against_an_ordered_map(rt: HostRuntime) {
     assert!(rt; searches::<Brand>(rt.alloc(), Blank::new(1)));
 }
 
-// The tables are compared once all is done, so that a change to a later one would show in an earlier.
-fn stages(alloc: Global) -> Result<bool, Fail> {
+// A table, and the map of its routes.
+type Stage = (RouteTable, BTreeMap<Nlri, u32>);
+
+// The table behind these stages with 5,000 more changes, and the map, which is changed too.
+fn next_stage(
+    alloc: Global,
+    rng: &mut Lcg64Xsh32,
+    before: RouteTable,
+    map: &mut BTreeMap<Nlri, u32>,
+) -> Option<Stage> {
+    let table = change_many(alloc, rng, before, map)?;
+    let map = map.clone().ok()?;
+    Some((table, map))
+}
+
+// Four stages, each begun with a share of the one before.
+fn four_stages(alloc: Global) -> Option<Vec<Stage>> {
     let mut rng = Lcg64Xsh32::new(42, 54);
     let mut map = BTreeMap::new(alloc);
-    let Some(first) = change_many(alloc, &mut rng, RouteTable::new(alloc), &mut map) else {
-        return Ok(false);
-    };
-    let first_map = map.clone()?;
-    let Some(second) = change_many(alloc, &mut rng, first.share()?, &mut map) else {
-        return Ok(false);
-    };
-    let second_map = map.clone()?;
-    let Some(third) = change_many(alloc, &mut rng, second.share()?, &mut map) else {
-        return Ok(false);
-    };
-    let third_map = map.clone()?;
-    let Some(last) = change_many(alloc, &mut rng, third.share()?, &mut map) else {
-        return Ok(false);
-    };
-    Ok(
-        are_same(&first, &first_map)
-            && are_same(&second, &second_map)
-            && are_same(&third, &third_map)
-            && are_same(&last, &map),
-    )
+    let mut stages: Vec<Stage> = Vec::new(alloc);
+    for _ in 0..4 {
+        let before = match stages.last() {
+            Some(stage) => stage.0.share().ok()?,
+            None => RouteTable::new(alloc),
+        };
+        let stage = next_stage(alloc, &mut rng, before, &mut map)?;
+        stages.push(stage).ok()?;
+    }
+    Some(stages)
+}
+
+// The tables are compared once all is done, so that a change to a later one would show in an earlier.
+fn stages(alloc: Global) -> Option<bool> {
+    let stages = four_stages(alloc)?;
+    for (table, map) in stages.as_slice() {
+        if !are_same(table, map) {
+            return Some(false);
+        }
+    }
+    Some(true)
 }
 
 #[test]
-fn versions_against_ordered_maps(rt: HostRuntime) -> Result<(), Fail> {
-    assert!(rt; stages(rt.alloc())?);
-    Ok(())
+fn versions_against_ordered_maps(rt: HostRuntime) {
+    assert_eq!(rt; stages(rt.alloc()), Some(true));
 }
 
 // The prefix of 32 bits with this number.
@@ -324,20 +339,29 @@ fn in_three_runs(alloc: Global) -> Option<RouteTable> {
     announced(alloc, &second, 10, 3)
 }
 
+fn expect_latest(rt: &impl Abort, table: &RouteTable) {
+    assert_eq!(rt; table.count(), 100);
+    for (place, med) in [
+        (Place::First, Some(3)),
+        (Place::From(numbered(9)), Some(3)),
+        (Place::After(numbered(9)), Some(2)),
+        (Place::After(numbered(39)), Some(1)),
+        (Place::From(numbered(100)), None),
+    ] {
+        assert_eq!(rt; next_med(table, place), med);
+    }
+    for (asn, place, count) in [
+        (1, Place::First, 60),
+        (2, Place::First, 30),
+        (3, Place::After(numbered(3)), 6),
+    ] {
+        assert_eq!(rt; count_origins(table, asn, place), count);
+    }
+}
+
 #[test]
 fn later_runs_override_earlier_ones(rt: HostRuntime) -> Result<(), Fail> {
-    let found = in_three_runs(rt.alloc());
-    assert!(rt; found.is_some());
-    if let Some(table) = found {
-        assert_eq!(rt; table.count(), 100);
-        assert_eq!(rt; next_med(&table, Place::First), Some(3));
-        assert_eq!(rt; next_med(&table, Place::From(numbered(9))), Some(3));
-        assert_eq!(rt; next_med(&table, Place::After(numbered(9))), Some(2));
-        assert_eq!(rt; next_med(&table, Place::After(numbered(39))), Some(1));
-        assert_eq!(rt; next_med(&table, Place::From(numbered(100))), None);
-        assert_eq!(rt; count_origins(&table, 1, Place::First), 60);
-        assert_eq!(rt; count_origins(&table, 2, Place::First), 30);
-        assert_eq!(rt; count_origins(&table, 3, Place::After(numbered(3))), 6);
-    }
+    let table = in_three_runs(rt.alloc()).ok_or("no memory")?;
+    expect_latest(&rt, &table);
     Ok(())
 }

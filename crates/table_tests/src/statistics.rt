@@ -40,12 +40,8 @@ fn has(rt: &impl Abort, book: &StatsBook, stats: &[Stat]) {
     assert!(rt; book.after(&peer(FIRST), place.as_ref()).is_none());
 }
 
-#[test]
-fn a_peer_has_the_last_values(rt: HostRuntime) -> Result<(), Fail> {
-    let mut book = StatsBook::new(rt.alloc());
-    has(&rt, &book, &[]);
-    // rejected by policy 5, Adj-RIB-In 2, of IPv4 unicast 2
-    let usual = [stat(0, 0, 0, 5), stat(7, 0, 0, 2), stat(9, 1, 1, 2)];
+// Rejected by policy 5, Adj-RIB-In 2, of IPv4 unicast 2, each set last.
+fn set_usual(book: &mut StatsBook) -> Result<(), Fail> {
     for one in [
         stat(9, 1, 1, 2),
         stat(0, 0, 0, 4),
@@ -55,16 +51,36 @@ fn a_peer_has_the_last_values(rt: HostRuntime) -> Result<(), Fail> {
         book.set(peer(FIRST), one)?;
         book.set(peer(SECOND), one)?;
     }
-    has(&rt, &book, &usual);
-    has(&rt, &book.copy()?, &usual);
+    Ok(())
+}
+
+// The book has these, and so has a copy.
+fn has_usual(rt: &impl Abort, book: &StatsBook) -> Result<(), Fail> {
+    let usual = [stat(0, 0, 0, 5), stat(7, 0, 0, 2), stat(9, 1, 1, 2)];
+    has(rt, book, &usual);
+    let copy = book.copy()?;
+    has(rt, &copy, &usual);
     assert!(rt; book.after(&peer(FIRST), Some(&stat(0, 0, 0, 99))) == Some(stat(7, 0, 0, 2)));
-    // a statistic of another family stands beside it
+    Ok(())
+}
+
+// A statistic of another family stands beside it, and a peer that is forgotten leaves the other's.
+fn goes_on(rt: &impl Abort, book: &mut StatsBook) -> Result<(), Fail> {
     book.set(peer(FIRST), stat(9, 2, 1, 3))?;
     assert!(rt; book.after(&peer(FIRST), Some(&stat(9, 1, 1, 2))) == Some(stat(9, 2, 1, 3)));
     book.forget(&peer(FIRST));
-    has(&rt, &book, &[]);
+    has(rt, book, &[]);
     assert!(rt; book.after(&peer(SECOND), None) == Some(stat(0, 0, 0, 5)));
     Ok(())
+}
+
+#[test]
+fn a_peer_has_the_last_values(rt: HostRuntime) -> Result<(), Fail> {
+    let mut book = StatsBook::new(rt.alloc());
+    has(&rt, &book, &[]);
+    set_usual(&mut book)?;
+    has_usual(&rt, &book)?;
+    goes_on(&rt, &mut book)
 }
 
 #[test]
