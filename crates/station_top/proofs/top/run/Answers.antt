@@ -10,20 +10,20 @@ pub returns-in-Ok-ready-clause-concludes : goal.returns-in-Ok-ready-clause-concl
 returns-in-Ok-ready-clause-concludes g c =
     let t = c.in-Ok.ensures.from in
     let tells = c.in-Ok-ready.ensures (opened ∷ t.messages) t.noted t.count (short g.R.BodyReading.meaning g.met.R.BodyReading.gives_messages (g.A.Account.stands c.in-Ok.account) _ _ _ c.in-Ok.taken t).bytes in
-    concludes_replied g.R.BodyReading.meaning (g.A.Account.stands c.in-Ok.account) (g.A.Told.Replies.replies c.args.ask.now) (g.Y.Yard.told c.args.yard.now) (g.Y.Yard.told c.take_from.new.yard) (g.Y.Yard.calls c.args.yard.now) c.in-Ok.taken t c.args.out.now c.write_reply.new.out c.write_reply.result c.unless_failed.result
-    (c.write_reply.ensures (opened ∷ t.messages) tells) (rw c.status_after.ensures at c.unless_failed.ensures.fine) c.unless_failed.ensures.failed
+    concludes_replied g.R.BodyReading.meaning (g.A.Account.stands c.in-Ok.account) (g.A.Told.Replies.replies c.args.ask.now) (g.Y.Yard.told c.args.yard.now) (g.Y.Yard.told c.take_from.new.yard) (g.Y.Yard.calls c.args.yard.now) c.in-Ok.taken t c.args.out.now c.write_reply-write.new.out c.write_reply-write.result c.unless_failed.result
+    (c.write_reply-write.ensures (opened ∷ t.messages) tells) (rw c.status_after.ensures at c.unless_failed.ensures.fine) c.unless_failed.ensures.failed
 
 pub returns-in-Ok-ready-clause-out : goal.returns-in-Ok-ready-clause-out
 returns-in-Ok-ready-clause-out g c =
     let t = c.in-Ok.ensures.from in
     let tells = c.in-Ok-ready.ensures (opened ∷ t.messages) t.noted t.count (short g.R.BodyReading.meaning g.met.R.BodyReading.gives_messages (g.A.Account.stands c.in-Ok.account) _ _ _ c.in-Ok.taken t).bytes in
-    answers_write c.in-Ok.taken.cause c.unless_failed.result _ _ c.write_reply.result (c.write_reply.ensures (opened ∷ t.messages) tells).written.cause (rw c.status_after.ensures at c.unless_failed.ensures.fine) c.unless_failed.ensures.failed
+    answers_write c.in-Ok.taken.cause c.unless_failed.result _ _ c.write_reply-write.result (c.write_reply-write.ensures (opened ∷ t.messages) tells).written.cause (rw c.status_after.ensures at c.unless_failed.ensures.fine) c.unless_failed.ensures.failed
 
 pub returns-in-Ok-ready-clause-aside : goal.returns-in-Ok-ready-clause-aside
 returns-in-Ok-ready-clause-aside g c =
     let t = c.in-Ok.ensures.from in
     let tells = c.in-Ok-ready.ensures (opened ∷ t.messages) t.noted t.count (short g.R.BodyReading.meaning g.met.R.BodyReading.gives_messages (g.A.Account.stands c.in-Ok.account) _ _ _ c.in-Ok.taken t).bytes in
-    (c.write_reply.ensures (opened ∷ t.messages) tells).written.kept
+    (c.write_reply-write.ensures (opened ∷ t.messages) tells).written.kept
 
 pub returns-in-Err-ready-clause-concludes : goal.returns-in-Err-ready-clause-concludes
 returns-in-Err-ready-clause-concludes g c = concludes_unready g.R.BodyReading.meaning (g.A.Account.stands c.in-Ok.account) (g.A.Told.Replies.replies c.args.ask.now) (g.Y.Yard.told c.args.yard.now) (g.Y.Yard.told c.take_from.new.yard) (g.Y.Yard.calls c.args.yard.now) c.in-Ok.taken (g.O.Sink.told c.args.out.now) c.in-Ok.ensures.from
