@@ -50,15 +50,11 @@ pub fn publish<S: Subject + Drop, J: Naming, R: Wait>(
     ensures { MatchResult result (λ n. Published pass.old entries.now pass.new n) (λ r. (pass.new ≡ pass.old) × (handed_back r ≡ arc_value value)) }
 {
     let lock = &publisher.desk;
-    // What the last value alone holds is let go behind the lock: that may take long.
-    let last = Arc::try_clone(&pass.value);
-    let result = replace_with(
+    replace_with(
         pass,
         value,
         |pass, value| publish_by(rt, alloc, lock, pass, entries, value),
-    );
-    drop(last);
-    result
+    )
 }
 
 fn publish_by<S: Subject + Drop, J: Naming, R: Wait>(

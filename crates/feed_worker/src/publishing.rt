@@ -33,8 +33,14 @@ pub(crate) fn publish_entries<J: Naming, R: Wait>(
         return Ok(());
     }
     let tables = Arc::new(alloc, pass.value().with(entries)?)?;
+    // The tables before are let go here, once no cut holds them: not under the lock, and by no other lane.
+    let last = pass.last();
     match publish(rt, alloc, publisher, pass, entries, tables) {
-        Ok(_) => Ok(()),
+        Ok(note) => {
+            drop(note);
+            drop(last);
+            Ok(())
+        }
         Err(_) => Err(NoMemory),
     }
 }
