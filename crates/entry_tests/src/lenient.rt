@@ -1,6 +1,6 @@
 //! Messages as routers send them, one after another: what each does to the tables, after those before it.
 
-use crate::messages::describe_all;
+use crate::effects::describe_all;
 use bmp_message::LenientReading;
 use rib_model::Entry;
 use std::alloc::Global;

@@ -4,6 +4,8 @@
 #[cfg(test)]
 mod drills;
 #[cfg(test)]
+mod effects;
+#[cfg(test)]
 mod lenient;
 #[cfg(test)]
 mod messages;
