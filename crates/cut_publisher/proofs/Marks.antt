@@ -1,7 +1,6 @@
 -- A log without the mark tells a history without it.
 use Rattle.std.proofs.Common.{ℕ, List, [], ◌∷◌, ◌++◌}
 use Rattle.cut_publisher.specs.declared.history.Event.{Event}
-use Rattle.cut_publisher.specs.declared.history.Event.TheVariants.{Of, Finish}
 use Rattle.cut_publisher.specs.declared.history.Step.{Step}
 use Rattle.cut_publisher.specs.declared.history.Step.TheVariants.{Batch, End}
 use Rattle.cut_publisher.specs.History.{IsUnmarked, batch, told}

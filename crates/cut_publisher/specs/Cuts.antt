@@ -1,5 +1,5 @@
 -- When a cut stands for a history. Contracts see a cut as its lanes' values and counts, in order.
-use Rattle.std.specs.Prelude.{◌≡◌, ℕ, ◌<◌, ◌≤◌, ◌^◌, List, length, slice_index_or, All}
+use Rattle.std.specs.Prelude.{◌≡◌, ℕ, ◌+◌, ◌<◌, ◌≤◌, ◌^◌, List, length, slice_index_or, slice_set, All}
 use Rattle.std.specs.List.{sum_by}
 use Rattle.cut_publisher.specs.declared.history.Event.{Event}
 use Rattle.cut_publisher.specs.History.{part, revision, IsWithin}
@@ -7,6 +7,10 @@ use Rattle.cut_publisher.specs.History.{part, revision, IsWithin}
 -- the number of entries that a cut stands for
 abbrev pub total : {S : Type 0} → List (S × ℕ) → ℕ
 total c = sum_by (λ x. x.1) c
+
+-- the cut in which a lane has this value, which stands for so many entries more than the lane's value before
+abbrev pub with_value : {S : Type 0} → List (S × ℕ) → ℕ → S → ℕ → List (S × ℕ)
+with_value c lane v more = slice_set c lane (v, (slice_index_or c lane (v, 0)).1 + more)
 
 module _ {S E : Type 0} (stands : S → List E → Type 0) where
   -- the value of a lane stands for these entries, and the count is their number

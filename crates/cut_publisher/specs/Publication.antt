@@ -22,3 +22,7 @@ pub record Published {E : Type 0} (old : Fed E) (es : List E) (new : Fed E) (not
   pub unmarked : IsUnmarked new.seen
   pub part_is : part new.lane new.seen ≡ new.entries
   pub note_is : note ≡ record { station = new.station; seen = new.seen }
+
+-- what a note of the pass's last publication has
+abbrev pub note_to : {E : Type 0} → Fed E → Saw E
+note_to pass = record { station = pass.station; seen = pass.seen }

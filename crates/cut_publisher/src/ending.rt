@@ -60,6 +60,7 @@ pub fn finish<S: Subject + Drop, J: Naming, R: Wait>(
         head,
         writer,
         shown,
+        spare,
         of,
     } = desk.into_inner();
     let Ok((cut, owners)) = all_owners(alloc, &shown.cut, asks.as_slice().len()) else {
@@ -67,6 +68,7 @@ pub fn finish<S: Subject + Drop, J: Naming, R: Wait>(
             head,
             writer,
             shown,
+            spare,
             of,
         };
         let publisher = Publisher {

@@ -44,6 +44,6 @@ pub use lists::{AskList, FeedList};
 pub use memory::{NoMemory, Unplaced};
 pub use naming::name;
 pub use note::Note;
-pub use publication::{Refused, publish};
+pub use publication::{Refused, publish, publish_unnoted};
 pub use station::{Station, open_station};
 pub use subject::{Naming, Subject};

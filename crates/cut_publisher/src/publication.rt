@@ -1,12 +1,12 @@
 //! A publication: a lane's entries join the history in one step, and the cell shows the cut.
-ghost use Rattle.std.specs.Prelude.{◌≡◌, ◌+◌, ◌<◌, ◌≤◌, ◌^◌, ◌++◌, ◌∷◌, [], length, IsTrue, IfNone, IfSome, MatchResult, slice_set, slice_index_or};
+ghost use Rattle.std.specs.Prelude.{◌≡◌, ◌+◌, ◌<◌, ◌≤◌, ◌^◌, ◌++◌, ◌∷◌, [], length, IsTrue, IfNone, IfSome, MatchResult, slice_index_or};
 ghost use Rattle.std.specs.Arc.{arc_value};
 ghost use Rattle.cut_publisher.specs.History.{told, part};
 ghost use Rattle.cut_publisher.specs.declared.history.Step.TheVariants.{Batch};
-ghost use Rattle.cut_publisher.specs.Cuts.{total};
+ghost use Rattle.cut_publisher.specs.Cuts.{total, with_value};
 ghost use Rattle.cut_publisher.specs.Logs.{head_of, IsOpen};
 ghost use Rattle.cut_publisher.specs.Rule.{Good, IsAlike, IsLive, site_of};
-ghost use Rattle.cut_publisher.specs.Publication.{IsFollowed, Published};
+ghost use Rattle.cut_publisher.specs.Publication.{IsFollowed, Published, note_to};
 ghost use Rattle.cut_publisher.specs.Refusals.{handed_back};
 
 use crate::cell::{CellWriter, Shown};
@@ -57,6 +57,47 @@ pub fn publish<S: Subject + Drop, J: Naming, R: Wait>(
     )
 }
 
+/// Publishes as `publish` does, and makes no note. Who holds a note while others publish is the one to let go of what they
+/// replace, so a lane that tells nobody of its publications holds none.
+pub fn publish_unnoted<S: Subject + Drop, J: Naming, R: Wait>(
+    rt: &R,
+    alloc: Global,
+    publisher: &Publisher<S, J>,
+    pass: &mut FeedPass<S>,
+    entries: &[S::Entry],
+    value: Arc<S>,
+) -> Result<(), Refused<S>>
+    requires station { pass.old.station ≡ J.site }
+    requires value { S.stands (arc_value value) (pass.old.entries ++ entries.now) }
+    requires room { length (pass.old.entries ++ entries.now) ≤ 2 ^ 57 }
+    ensures { MatchResult result (λ _. Published pass.old entries.now pass.new (note_to pass.new)) (λ r. (pass.new ≡ pass.old) × (handed_back r ≡ arc_value value)) }
+{
+    let lock = &publisher.desk;
+    replace_with(
+        pass,
+        value,
+        |pass, value| publish_unnoted_by(rt, alloc, lock, pass, entries, value),
+    )
+}
+
+fn publish_unnoted_by<S: Subject + Drop, J: Naming, R: Wait>(
+    rt: &R,
+    alloc: Global,
+    lock: &Mutex<Desk<S, J, CellWriter<S>>>,
+    pass: FeedPass<S>,
+    entries: &[S::Entry],
+    value: Arc<S>,
+) -> (FeedPass<S>, Result<(), Refused<S>>)
+    requires station { pass.station ≡ J.site }
+    requires value { S.stands (arc_value value) (pass.entries ++ entries.now) }
+    requires room { length (pass.entries ++ entries.now) ≤ 2 ^ 57 }
+    ensures { MatchResult result.1 (λ _. Published pass entries.now result.0 (note_to result.0)) (λ r. (result.0 ≡ pass) × (handed_back r ≡ arc_value value)) }
+{
+    within(rt, lock, (pass, value), |desk, (pass, value)| {
+        desk.publish_unnoted(rt, alloc, pass, entries, value)
+    })
+}
+
 fn publish_by<S: Subject + Drop, J: Naming, R: Wait>(
     rt: &R,
     alloc: Global,
@@ -76,6 +117,30 @@ fn publish_by<S: Subject + Drop, J: Naming, R: Wait>(
 }
 
 impl<S: Subject + Drop, J: Naming> Desk<S, J, CellWriter<S>> {
+    // Publishes, and lets the note go here, where the cut has other owners.
+    fn publish_unnoted<R: Wait>(
+        self,
+        rt: &R,
+        alloc: Global,
+        pass: FeedPass<S>,
+        entries: &[S::Entry],
+        value: Arc<S>,
+    ) -> (
+        Desk<S, J, CellWriter<S>>,
+        (FeedPass<S>, Result<(), Refused<S>>),
+    )
+        requires station { pass.station ≡ J.site }
+        requires value { S.stands (arc_value value) (pass.entries ++ entries.now) }
+        requires room { length (pass.entries ++ entries.now) ≤ 2 ^ 57 }
+        ensures { MatchResult result.1.1 (λ _. Published pass entries.now result.1.0 (note_to result.1.0)) (λ r. (result.1.0 ≡ pass) × (handed_back r ≡ arc_value value)) }
+    {
+        let (desk, (pass, published)) = self.publish(rt, alloc, pass, entries, value);
+        match published {
+            Ok(_) => (desk, (pass, Ok(()))),
+            Err(refused) => (desk, (pass, Err(refused))),
+        }
+    }
+
     // Publishes, where the numbers are those of the pass.
     fn publish<R: Wait>(
         self,
@@ -97,6 +162,7 @@ impl<S: Subject + Drop, J: Naming> Desk<S, J, CellWriter<S>> {
             head,
             writer,
             shown,
+            spare,
             of,
         } = self;
         if shown.steps >= MOST_STEPS {
@@ -105,13 +171,14 @@ impl<S: Subject + Drop, J: Naming> Desk<S, J, CellWriter<S>> {
         if !follows(&shown, &pass) {
             match never(rt) {}
         }
-        let (writer, shown, note) = extend(
-            rt, alloc, &head, writer, shown, pass.lane, entries, &value,
+        let (writer, shown, spare, note) = extend(
+            rt, alloc, &head, writer, shown, spare, pass.lane, entries, &value,
         );
         let desk = Desk {
             head,
             writer,
             shown,
+            spare,
             of,
         };
         match note {
@@ -152,60 +219,109 @@ pub(crate) fn follows<S: Subject + Drop>(shown: &Shown<S>, pass: &FeedPass<S>) -
     true
 }
 
+// A cut that nobody else has, with this value for a lane. None where somebody has it.
+fn written<S: Drop>(cut: Arc<Cut<S>>, lane: u32, value: &Arc<S>, more: u64) -> Option<Arc<Cut<S>>>
+    requires lane { lane < length (arc_value cut) }
+    requires count { (slice_index_or (arc_value cut) lane (arc_value value.now, 0)).1 + more < 2 ^ 64 }
+    requires rev { total (arc_value cut) + more < 2 ^ 64 }
+    ensures { IfSome result (λ c. arc_value c ≡ with_value (arc_value cut) lane (arc_value value.now) more) }
+{
+    let mut cut = cut;
+    match Arc::get_mut(&mut cut) {
+        Some(lanes) => lanes.put(lane, value, more).ok()?,
+        None => return None,
+    }
+    Some(cut)
+}
+
+// The cut in which the lane has this value: the spare one where that can be written, else a new one.
+fn next_cut<S: Drop>(
+    alloc: Global,
+    cut: &Cut<S>,
+    spare: Option<Arc<Cut<S>>>,
+    lane: u32,
+    value: &Arc<S>,
+    more: u64,
+) -> Option<Arc<Cut<S>>>
+    requires spare { IfSome spare (λ c. arc_value c ≡ cut.now) }
+    requires lane { lane < length cut.now }
+    requires count { (slice_index_or cut.now lane (arc_value value.now, 0)).1 + more < 2 ^ 64 }
+    requires rev { total cut.now + more < 2 ^ 64 }
+    ensures { IfSome result (λ c. arc_value c ≡ with_value cut.now lane (arc_value value.now) more) }
+{
+    if let Some(spare) = spare
+        && let Some(next) = written(spare, lane, value, more)
+    {
+        return Some(next);
+    }
+    cut.with(alloc, lane, value, more).ok()
+}
+
 // Three owners of the cut in which the lane has this value: for the cell, the note and the lock.
 fn three_owners<S: Drop>(
     alloc: Global,
     cut: &Cut<S>,
+    spare: Option<Arc<Cut<S>>>,
     lane: u32,
     value: &Arc<S>,
     more: u64,
 ) -> Option<(Arc<Cut<S>>, Arc<Cut<S>>, Arc<Cut<S>>)>
+    requires spare { IfSome spare (λ c. arc_value c ≡ cut.now) }
     requires lane { lane < length cut.now }
     requires count { (slice_index_or cut.now lane (arc_value value.now, 0)).1 + more < 2 ^ 64 }
     requires rev { total cut.now + more < 2 ^ 64 }
-    ensures items { IfSome result (λ t. arc_value t.0 ≡ slice_set cut.now lane (arc_value value.now, (slice_index_or cut.now lane (arc_value value.now, 0)).1 + more)) }
+    ensures items { IfSome result (λ t. arc_value t.0 ≡ with_value cut.now lane (arc_value value.now) more) }
     ensures alike { IfSome result (λ t. (arc_value t.1 ≡ arc_value t.0) × (arc_value t.2 ≡ arc_value t.0)) }
 {
-    let one = cut.with(alloc, lane, value, more).ok()?;
+    let one = next_cut(alloc, cut, spare, lane, value, more)?;
     let two = Arc::try_clone(&one).ok()?;
     let three = Arc::try_clone(&one).ok()?;
     Some((one, two, three))
 }
 
-// Adds the entries to the log, and shows the cut in which the lane has the value. Without a note
-// there was no memory, and nothing changed.
+// Adds the entries to the log, and shows the cut in which the lane has the value. What was shown
+// becomes the spare cut, if nobody else has it. Without a note there was no memory, and nothing
+// changed.
 fn extend<S: Subject + Drop, R: Wait>(
     rt: &R,
     alloc: Global,
     head: &LogWord<S::Entry>,
     mut writer: CellWriter<S>,
     shown: Shown<S>,
+    spare: Option<Arc<Cut<S>>>,
     lane: u32,
     entries: &[S::Entry],
     value: &Arc<S>,
-) -> (CellWriter<S>, Shown<S>, Option<Shown<S>>)
+) -> (
+    CellWriter<S>,
+    Shown<S>,
+    Option<Arc<Cut<S>>>,
+    Option<Shown<S>>,
+)
     requires head { head.now ≡ head_of shown.seen.book }
     requires cell { IsAlike writer.desk.shown.value shown }
     requires good { Good S.stands shown }
     requires unmarked { IsOpen shown.seen.log }
     requires steps { shown.steps < 2 ^ 62 }
+    requires spare { IfSome spare (λ c. arc_value c ≡ arc_value shown.cut) }
     requires lane { lane < length (arc_value shown.cut) }
     requires value { S.stands (arc_value value.now) (part lane (told shown.seen.log) ++ entries.now) }
     requires room { length (part lane (told shown.seen.log) ++ entries.now) ≤ 2 ^ 57 }
     ensures cell { IsAlike result.0.desk.shown.value result.1 }
     ensures shown { Good S.stands result.1 × (site_of result.1 ≡ site_of shown) × IsOpen result.1.seen.log }
-    ensures none { IfNone result.2 (result.1 ≡ shown) }
-    ensures some { IfSome result.2 (λ n. IsLive S.stands n × (site_of n ≡ site_of shown) × (n.seen.log ≡ shown.seen.log ++ Batch lane entries.now ∷ [])) }
+    ensures spare { IfSome result.2 (λ c. arc_value c ≡ arc_value result.1.cut) }
+    ensures none { IfNone result.3 (result.1 ≡ shown) }
+    ensures some { IfSome result.3 (λ n. IsLive S.stands n × (site_of n ≡ site_of shown) × (n.seen.log ≡ shown.seen.log ++ Batch lane entries.now ∷ [])) }
 {
     let more = entries.len() as u64;
-    let Some((cut, noted, kept)) = three_owners(alloc, &shown.cut, lane, value, more) else {
-        return (writer, shown, None);
+    let Some((cut, noted, kept)) = three_owners(alloc, &shown.cut, spare, lane, value, more) else {
+        return (writer, shown, None, None);
     };
     if !make_room(&mut writer, &shown) {
-        return (writer, shown, None);
+        return (writer, shown, None, None);
     }
     let Shown {
-        cut: _,
+        cut: before,
         mut seen,
         steps,
     } = shown;
@@ -232,5 +348,6 @@ fn extend<S: Subject + Drop, R: Wait>(
         seen,
         steps,
     };
-    (writer, shown, Some(note))
+    let spare = written(before, lane, value, more);
+    (writer, shown, spare, Some(note))
 }

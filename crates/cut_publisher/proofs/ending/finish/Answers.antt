@@ -26,9 +26,9 @@ returns g c =
       marked = all;
       feeds_end = c.end.ensures;
       asks_end = c.end-2.ensures;
-      unmarked = told_unmarked was c.head.invariant.unmarked;
+      unmarked = told_unmarked was c.head.invariant.0.unmarked;
       earlier = λ k d lt. (c.follow.ensures c.if-not-follow.false k d lt).earlier;
       parts = λ k d lt. let f = get_or c.args.feeds k d in ap (part f.lane) all ∙ part-end f.lane (told was) ∙ (c.follow.ensures c.if-not-follow.false k d lt).same;
-      wide = ap (λ (z : List (S × ℕ)). length z) c.in-Ok.ensures.cut ∙ ap (λ z. z.lanes) c.head.invariant.station;
+      wide = ap (λ (z : List (S × ℕ)). length z) c.in-Ok.ensures.cut ∙ ap (λ z. z.lanes) c.head.invariant.0.station;
       cut_is = subst (λ (z : List (S × ℕ)). Stands g.S.Subject.stands z now) cut c.marked-end.ensures.good.cut;
     }

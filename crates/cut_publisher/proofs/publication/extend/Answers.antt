@@ -28,6 +28,12 @@ three_owners-requires-clause-count g c =
     let at = c.requires.good.cut.lanes c.args.lane x c.requires.lane in
     omega (arith, ap (λ (z : List (S × ℕ)). (get_or z c.args.lane x).1) d, at.count, c.requires.room, length-append (part c.args.lane (told c.args.shown.seen.log)) c.args.entries.now)
 
+pub written-spare-requires-clause-count : goal.written-spare-requires-clause-count
+written-spare-requires-clause-count g c =
+    let S = g.row.S.Denot in
+    let x : S × ℕ = (arc_value c.args.value.now, 0) in
+    omega (arith, (c.requires.good.cut.lanes c.args.lane x c.requires.lane).count, c.requires.room, length-append (part c.args.lane (told c.args.shown.seen.log)) c.args.entries.now)
+
 -- what is made of the new cut is good
 made : (g : Over) (c : After-again g) (y : Shown g.row.S.Denot g.row.S-Entry.Denot) → arc_value y.cut ≡ arc_value c.in-Some.cut → y.seen.log ≡ c.add_batch.new.seen.log → y.steps ≡ c.args.shown.steps + 1 → Good g.S.Subject.stands y
 made g c y cut log steps =

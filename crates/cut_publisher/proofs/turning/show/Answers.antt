@@ -1,4 +1,4 @@
-use Rattle.std.proofs.Common.{inl, inr, sym, ap, ◌∙◌, drop}
+use Rattle.std.proofs.Common.{inl, sym, ap, ◌∙◌, drop}
 use Rattle.cut_publisher.proofs.turning.show.Goals as goal
 use Rattle.cut_publisher.specs.Rule.{site_of}
 

@@ -1,4 +1,4 @@
-use Rattle.std.proofs.Common.{List, inl, inr, sym, ap, subst}
+use Rattle.std.proofs.Common.{List, sym, subst}
 use Rattle.cut_publisher.specs.declared.cell.Shown.{Shown}
 use Rattle.cut_publisher.specs.Rule.{IsReady}
 use Rattle.cut_publisher.proofs.Moves.{ready}

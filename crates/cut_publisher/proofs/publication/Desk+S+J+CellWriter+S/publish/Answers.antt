@@ -38,7 +38,7 @@ returns-in-Some g c =
     let same = subst (λ (k : ℕ). part k (told was.seen.log) ≡ c.args.pass.entries) (sym here) followed.same in
     let log = ap (λ s. s.log) c.again.ensures ∙ note.2 in
     let old : site c.pass.inside.seen.book c.pass.inside.lanes ≡ c.args.pass.station = ap (λ f. f.station) c.pass.view_is in
-    let shared : site_of c.in-Some.note ≡ c.args.pass.station = note.1 ∙ c.self.invariant.station ∙ sym c.requires.station in
+    let shared : site_of c.in-Some.note ≡ c.args.pass.station = note.1 ∙ c.self.invariant.0.station ∙ sym c.requires.station in
     let book : c.again.result.book ≡ c.pass.inside.seen.book = ap (λ s. s.book) c.again.ensures ∙ ap (λ (z : Site). z.book) shared ∙ sym (ap (λ (z : Site). z.book) old) in
     let station : site c.again.result.book c.pass.inside.lanes ≡ c.args.pass.station = ap (λ b. site b c.pass.inside.lanes) book ∙ old in
     record {
