@@ -17,6 +17,13 @@ use std::alloc::Global;
 use std::sync::Arc;
 use wire_io::NoMemory;
 
+// For how many runs of like size a merge of rows waits. Each merge is time, and memory that old tables keep; each run is one
+// more to look into.
+const ROWS_WAIT: usize = 2;
+
+// The same of the index, which few read.
+const INDEX_WAIT: usize = 3;
+
 // How many pairs are looked at for one that is there already.
 const LOOKED_AT: usize = 16;
 
@@ -126,7 +133,7 @@ fn anew<K: TableKey>(
     add_all(&mut pairs, runs.runs.as_slice())?;
     let rows = run_of(alloc, pairs)?;
     let mut index = Runs::new(alloc);
-    index.push(alloc, rows)?;
+    index.push(alloc, rows, 1)?;
     Ok(index)
 }
 
@@ -180,9 +187,9 @@ fn with_run<K: TableKey>(
 {
     let pairs = pairs_of(alloc, &run)?;
     let mut new_index = index.share(alloc)?;
-    new_index.push(alloc, pairs)?;
+    new_index.push(alloc, pairs, INDEX_WAIT)?;
     let mut new_runs = runs.share(alloc)?;
-    new_runs.push(alloc, run)?;
+    new_runs.push(alloc, run, ROWS_WAIT)?;
     let short = kept_short(alloc, &new_runs, new_index)?;
     Ok((new_runs, short))
 }

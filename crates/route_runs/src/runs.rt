@@ -39,12 +39,18 @@ impl<K: RunKey, A: Drop> Runs<K, A> {
         }
     }
 
-    /// Sets the rows of a run, and takes out those that are gone. After want of memory nothing has changed.
-    pub(crate) fn push(&mut self, alloc: Global, run: Run<K, A>) -> Result<(), NoMemory>
+    /// Sets the rows of a run, and takes out those that are gone. Merges wait for so many runs of like size. After want
+    /// of memory nothing has changed.
+    pub(crate) fn push(
+        &mut self,
+        alloc: Global,
+        run: Run<K, A>,
+        wait: usize,
+    ) -> Result<(), NoMemory>
         ensures ok { OnOk result (IsChanged K.cmp self.old run self.new) }
         ensures err { OnErr result (self.new ≡ self.old) }
     {
-        let (own, kept) = settle(alloc, self.runs.as_slice(), run)?;
+        let (own, kept) = settle(alloc, self.runs.as_slice(), run, wait)?;
         let Ok(own) = Arc::new(alloc, own) else {
             return Err(NoMemory);
         };
@@ -67,19 +73,49 @@ impl<K: RunKey, A: Drop> Runs<K, A> {
     }
 }
 
-// Merges a run with the last ones that aren't more than twice as long, and says how many runs are left before it.
+// How many of the last runs are merged with a run of this length: those that aren't more than twice as long, where they are
+// as many as are waited for.
+fn due_of<K: RunKey, A>(runs: &[Arc<Run<K, A>>], length: usize, wait: usize) -> usize {
+    let mut due = 0usize;
+    for run in runs.iter().rev() {
+        if run.len() / 2 >= length {
+            break;
+        }
+        due = due.saturating_add(1);
+    }
+    if due < wait { 0 } else { due }
+}
+
+// How many of the last runs are merged next: those that are left, or else what is due then.
+fn due_next<K: RunKey, A>(
+    runs: &[Arc<Run<K, A>>],
+    length: usize,
+    wait: usize,
+    left: usize,
+) -> usize {
+    if left > 0 {
+        return left;
+    }
+    due_of(runs, length, wait)
+}
+
+// Merges a run with the last ones that aren't more than twice as long, where they are as many as are waited for, and says
+// how many runs are left before it.
 fn settle<K: RunKey, A: Drop>(
     alloc: Global,
     runs: &[Arc<Run<K, A>>],
     run: Run<K, A>,
+    wait: usize,
 ) -> Result<(Run<K, A>, usize), NoMemory>
     ensures { IfOk result (λ r. IsSettled K.cmp (map arc_value runs.now) run r.0 r.1) }
 {
     let mut own = run;
     let mut kept = runs.len();
-    while kept > 0 && runs[kept - 1].len() / 2 < own.len() {
+    let mut due = due_of(&runs[..kept], own.len(), wait);
+    while kept > 0 && due > 0 {
         own = merge(alloc, &runs[kept - 1], &own, kept == 1)?;
         kept -= 1;
+        due = due_next(&runs[..kept], own.len(), wait, due - 1);
     }
     Ok((own, kept))
 }
