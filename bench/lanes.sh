@@ -24,14 +24,17 @@
 #               the processor time of our whole run, which holds both
 #   other       the processor time of OTHER's whole run, with its reading, and with the letting go of its table if it does
 #               that: a program may end without
+#   longest     the longest time by the clock from the bytes of a read until all that they brought is published: that of a
+#               merge with the oldest rows
 #
 # Bytes are of peak memory, by the `time` of GNU.
 #
 # Then the stream of a lane of a drill with MESSAGES messages (100,000) is taken by one lane, and by LANES lanes (64) at
 # once, each with a copy of it and a client of its own. The pace of lanes is how many messages they publish in a second of
-# the clock, the greatest of the runs, from the start of the lanes until the last of them closes its connection; and with
+# the clock, the median of the runs, from the start of the lanes until the last of them closes its connection; and with
 # the letting go, until all lanes have let go of their tables too. Reading the stream is in neither. They too are those of a
-# quiet machine.
+# quiet machine. What the machine itself has to give stands below: as many programs of one lane at once as there are
+# processors, and the sum of their paces.
 set -euo pipefail
 
 other=${1:?usage: bench/lanes.sh OTHER [PREFIXES]}
@@ -51,16 +54,17 @@ measure() {
         for client in quiet asks keeps; do
             run "$order.$client" "$client" 65536 1
             said "$order.$client" taken >>"$work/$order.$client.taken"
+            said "$order.$client" longest >>"$work/$order.$client.longest"
         done
     done
     echo "$order: $(said "$order.quiet" entries) entries, $(stat -c %s "$input") bytes, $(said "$order.quiet" turns) publications"
     for client in quiet asks keeps; do
         awk -v c="$client" -v t="$(least "$order.$client.taken")" -v a="$(least "$order.$client")" \
             -v b="$(least "$order.other")" -v m="$(peak "$order.$client")" -v n="$(peak "$order.other")" \
-            -v k="$(said "$order.$client" kept)" \
+            -v k="$(said "$order.$client" kept)" -v l="$(least "$order.$client.longest")" \
             'BEGIN {
                 printf "  %s published %.0f ms, ratio %.2f; with reading and letting go %d ms, ratio %.2f; ", c, t / 1000, t / 1000 / b, a, a / b
-                printf "other %d ms; %d KiB, other %d; %d versions kept\n", b, m, n, k
+                printf "other %d ms; longest %.1f ms; %d KiB, other %d; %d versions kept\n", b, l / 1000, m, n, k
             }'
     done
 }
@@ -81,9 +85,19 @@ note_pace() {
         END { printf "%d %d\n", pace, pace * taken / all }' "$work/$1.said" >>"$work/$1.pace"
 }
 
-# The greatest pace of the runs of a name, and with the letting go.
-pace() { awk '$1 > most { most = $1 } END { print most }' "$work/$1.pace"; }
-pace_of_all() { awk '$2 > most { most = $2 } END { print most }' "$work/$1.pace"; }
+# The median of a column of the runs of a name: the first is their pace, the second that with the letting go.
+median() { awk -v n="$2" '{ print $n }' "$work/$1.pace" | sort -n | awk '{ all[NR] = $1 } END { print all[int((NR + 1) / 2)] }'; }
+
+# The sum of the paces of so many programs at once, each with one lane.
+side_by_side() {
+    local number
+    for number in $(seq "$2"); do
+        "$ours" "$1" 65536 1 <"$input" >"$work/side.$number" &
+    done
+    wait
+    cat "$work"/side.* | awk '$1 == "messages_per_second" { sum += $2 } END { print sum, sum }' >>"$work/$1.side.pace"
+    rm "$work"/side.*
+}
 
 lanes=${LANES:-64}
 input=$work/stream
@@ -95,11 +109,14 @@ for client in quiet asks keeps; do
             run "$client.$number" "$client" 65536 "$number"
             note_pace "$client.$number"
         done
+        side_by_side "$client" "$(nproc)"
     done
-    awk -v c="$client" -v n="$lanes" -v a="$(pace "$client.1")" -v b="$(pace "$client.$lanes")" \
-        -v d="$(pace_of_all "$client.1")" -v e="$(pace_of_all "$client.$lanes")" -v m="$(peak "$client.$lanes")" \
+    awk -v c="$client" -v n="$lanes" -v a="$(median "$client.1" 1)" -v b="$(median "$client.$lanes" 1)" \
+        -v d="$(median "$client.1" 2)" -v e="$(median "$client.$lanes" 2)" -v m="$(peak "$client.$lanes")" \
+        -v p="$(nproc)" -v s="$(median "$client.side" 1)" \
         'BEGIN {
             printf "  %s one lane %d messages a second, %d lanes %d, ratio %.2f; ", c, a, n, b, b / a
-            printf "with the letting go %d and %d, ratio %.2f; %d KiB\n", d, e, e / d, m
+            printf "with the letting go %d and %d, ratio %.2f; %d KiB; ", d, e, e / d, m
+            printf "%d programs of one lane %d, ratio %.2f\n", p, s, s / a
         }'
 done

@@ -13,6 +13,9 @@
 #   get        the same as lane, and LOOKS look-ups (1,000,000) of an NLRI that has a route
 #   longest    the same, and LOOKS longest matches of an address
 #   walk       the same, and WALKS walks (20) over all routes
+#   longest pause
+#              the longest time by the clock from the bytes of a read until the tables with all that they brought are
+#              published (`lane_bench quiet`, least of the rounds): that of a merge with the oldest rows
 #
 # A ratio is that of least processor times: below 1 `lane` is faster than OTHER, and `keep` than `lane`. Bytes
 # a route are of peak memory, by the `time` of GNU, without what the program takes for an empty stream. The
@@ -25,6 +28,7 @@ prefixes=${2:-1000000}
 rounds=5
 . "$(dirname "$0")/measure.sh"
 
+published=$(built lane_bench)
 looks=${LOOKS:-1000000}
 walks=${WALKS:-20}
 
@@ -47,6 +51,8 @@ measure() {
         run "$order.longest" lane_seek 0 "$looks"
         run "$order.none" lane_walk 0
         run "$order.walk" lane_walk "$walks"
+        spend "$order.pause" "$published" quiet 65536 1
+        said "$order.pause" longest >>"$work/$order.pauses"
     done
     # All leave as many routes, and each look-up finds one that stands.
     local routes
@@ -65,6 +71,7 @@ measure() {
         'BEGIN { printf "  keep %d ms, ratio %.2f; %d versions kept, %d KiB, ratio %.2f\n", b, b / a, k, d, d / c }'
     echo "  get $(each "$order.seek" "$order.get" "$looks" 1000) us, longest $(each "$order.seek" "$order.longest" "$looks" 1000) us ($(said "$order.longest" matched) matched)"
     echo "  walk $(each "$order.none" "$order.walk" $((routes * walks)) 1000000) ns a row"
+    echo "  longest pause $(least "$order.pauses") us"
 }
 
 input=/dev/null

@@ -9,7 +9,7 @@ ghost use Rattle.feed_worker.specs.Walking.{Gives, HasPublished, HasRoom, Publis
 
 use bmp_message::{BodyReading, Entries, Progress, StreamWalk};
 use bmp_specs::Cause;
-use cut_publisher::{FeedPass, Naming, Publisher, publish};
+use cut_publisher::{FeedPass, Naming, Publisher, publish_unnoted};
 use rib_model::Entry;
 use router_tables::RouterTables;
 use std::alloc::Global;
@@ -35,9 +35,8 @@ pub(crate) fn publish_entries<J: Naming, R: Wait>(
     let tables = Arc::new(alloc, pass.value().with(entries)?)?;
     // The tables before are let go here, once no cut holds them: not under the lock, and by no other lane.
     let last = pass.last();
-    match publish(rt, alloc, publisher, pass, entries, tables) {
-        Ok(note) => {
-            drop(note);
+    match publish_unnoted(rt, alloc, publisher, pass, entries, tables) {
+        Ok(()) => {
             drop(last);
             Ok(())
         }

@@ -1,5 +1,6 @@
 //! Lanes that take their streams at once, each in a thread of its own where one can be made.
 ghost use Rattle.std.specs.Prelude.{◌≡◌, ◌<◌};
+ghost use Rattle.std.specs.Thread.{IsSync};
 ghost use Rattle.cut_publisher.specs.Opening.{AreFeedsOf};
 
 use crate::watch::{Client, Watch};
@@ -14,12 +15,12 @@ use std::rt::Clock;
 use std::sync::Wait;
 use std::thread;
 use std::thread::Threads;
-use std::time::Instant;
+use std::time::{Duration, Instant};
 use wire_io::ByteList;
 
 /// What lanes come to: how many entries they published and how many of these were messages, how many turns their
-/// clients had, the greatest revision that one of these saw last, and how many versions they kept; and when the last of
-/// them had published its connection.
+/// clients had, the greatest revision that one of these saw last, and how many versions they kept; the longest time that
+/// one of them took for a read; and when the last of them had published its connection.
 #[derive(Clone, Copy)]
 pub struct Outcome {
     pub entries: u64,
@@ -27,6 +28,7 @@ pub struct Outcome {
     pub turns: u64,
     pub revision: u64,
     pub kept: u64,
+    pub longest: Duration,
     pub published: Option<Instant>,
 }
 
@@ -38,6 +40,7 @@ impl Outcome {
         turns: 0,
         revision: 0,
         kept: 0,
+        longest: Duration::ZERO,
         published: None,
     };
 
@@ -49,6 +52,7 @@ impl Outcome {
             turns: self.turns.saturating_add(other.turns),
             revision: self.revision.max(other.revision),
             kept: self.kept.saturating_add(other.kept),
+            longest: self.longest.max(other.longest),
             published: self.published.max(other.published),
         }
     }
@@ -114,6 +118,7 @@ fn take<'a, J: Naming, R: Wait + Clock>(
     }
     let watch = port.into_port();
     let (turns, revision, kept) = watch.seen();
+    let longest = watch.longest();
     let published = watch.closed();
     drop(watch);
     Some(Outcome {
@@ -123,6 +128,7 @@ fn take<'a, J: Naming, R: Wait + Clock>(
         turns,
         revision,
         kept: kept as u64,
+        longest,
         published,
     })
 }
@@ -144,8 +150,26 @@ impl<'a, J: Naming, R: Wait + Clock> Lane<'a, J, R> {
     }
 }
 
-/// Takes the connections of all lanes at once. None for want of memory.
+/// Takes the connections of all lanes at once, each in a thread beside the one that calls, as a station's lanes are. None
+/// for want of memory.
 pub fn serve_all<J: Naming + Send + Sync, R: Threads + Wait + Clock + Sync>(
+    rt: &R,
+    alloc: Global,
+    publisher: &Publisher<RouterTables, J>,
+    lanes: Vec<Lane<J, R>>,
+) -> Option<Outcome> {
+    let (outcome, ()) = thread::join(
+        rt,
+        move || -> Option<Outcome>
+            requires { IsSync R.row }
+        { serve_lanes(rt, alloc, publisher, lanes) },
+        || (),
+    );
+    outcome
+}
+
+// Takes the connections of all lanes at once.
+fn serve_lanes<J: Naming + Send + Sync, R: Threads + Wait + Clock + Sync>(
     rt: &R,
     alloc: Global,
     publisher: &Publisher<RouterTables, J>,

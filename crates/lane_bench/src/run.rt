@@ -50,13 +50,14 @@ fn no_memory() -> io::Error {
 /// the revision that it saw last, and how many versions it kept.
 ///
 /// Where the number of lanes is given, from 1 to 64, each of them takes the input so at once with the others, beside a
-/// client of its own. Then the numbers are those of all, and the greatest revision; and it prints two times, in
+/// client of its own. Then the numbers are those of all, and the greatest revision; and it prints three times, in
 /// microseconds, and by the second of them how many messages the lanes published in a second.
 ///
-/// | Time | From the start of the lanes until |
-/// |---|---|
-/// | `microseconds` | all are done: each has published that its connection closed, and let go of its tables |
-/// | `taken` | the last of them has published all messages of its connection |
+/// | Time | From | Until |
+/// |---|---|---|
+/// | `microseconds` | the start of the lanes | all are done: each has published that its connection closed, and let go of its tables |
+/// | `taken` | the start of the lanes | the last of them has published all messages of its connection |
+/// | `longest` | the bytes of a read | all that they brought is published: of all reads the longest such time |
 pub fn run<I: Read + Drop, R: Threads + Wait + Clock + Print + Sync>(
     rt: &R,
     alloc: Global,
@@ -74,7 +75,7 @@ pub fn run<I: Read + Drop, R: Threads + Wait + Clock + Print + Sync>(
     println!(rt; "revision {}", outcome.revision)?;
     println!(rt; "kept {}", outcome.kept)?;
     if lanes.is_some() {
-        print_times(rt, outcome.messages, times)?;
+        print_times(rt, outcome.messages, outcome.longest, times)?;
     }
     Ok(())
 }
@@ -86,12 +87,13 @@ struct Times {
     taken: Duration,
 }
 
-// How long the lanes took, and how many messages they published in a second.
-fn print_times<R: Print>(rt: &R, messages: u64, times: Times) -> io::Result<()> {
+// How long the lanes took, for their reads too, and how many messages they published in a second.
+fn print_times<R: Print>(rt: &R, messages: u64, longest: Duration, times: Times) -> io::Result<()> {
     let taken = micros(times.taken);
     let pace = messages.saturating_mul(1_000_000) / taken.max(1);
     println!(rt; "microseconds {}", micros(times.done))?;
     println!(rt; "taken {taken}")?;
+    println!(rt; "longest {}", micros(longest))?;
     println!(rt; "messages_per_second {pace}")
 }
 

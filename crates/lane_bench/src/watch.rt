@@ -8,7 +8,7 @@ use router_tables::RouterTables;
 use station_doors::{Port, SurePort};
 use std::alloc::Global;
 use std::rt::Clock;
-use std::time::Instant;
+use std::time::{Duration, Instant};
 use wire_io::Failed;
 
 /// One of so many versions is kept.
@@ -26,8 +26,8 @@ pub enum Client {
     Keeps,
 }
 
-/// A port of a lane that is watched: before each read, thus after each publication, its client has its turn. Where the
-/// connection is closed it looks at the clock.
+/// A port of a lane that is watched: before each read, thus after each publication, its client has its turn. It looks at
+/// the clock after a read and before the next, and where the connection is closed.
 #[derive(Drop)]
 pub struct Watch<'a, R> {
     rt: &'a R,
@@ -36,6 +36,8 @@ pub struct Watch<'a, R> {
     asker: AskPass<RouterTables>,
     turns: u64,
     kept: Vec<RouterTables>,
+    given: Option<Instant>,
+    longest: Duration,
     closed: Option<Instant>,
 }
 
@@ -55,6 +57,8 @@ impl<'a, R: Clock> Watch<'a, R> {
             asker,
             turns: 0,
             kept: Vec::new(alloc),
+            given: None,
+            longest: Duration::ZERO,
             closed: None,
         }
     }
@@ -68,6 +72,24 @@ impl<'a, R: Clock> Watch<'a, R> {
     /// closed. None before, or where the clock failed.
     pub fn closed(&self) -> Option<Instant> {
         self.closed
+    }
+
+    /// The longest time that the lane took for a read: from its bytes until all that they brought was published, with the
+    /// merges of its tables.
+    pub fn longest(&self) -> Duration {
+        self.longest
+    }
+
+    // What the last read gave is published.
+    fn end_pause(&mut self)
+        ensures { self.new.port ≡ self.old.port }
+    {
+        if let Some(given) = self.given
+            && let Ok(time) = given.elapsed(self.rt)
+        {
+            self.longest = self.longest.max(time);
+        }
+        self.given = None;
     }
 
     // The client's turn. Where no memory is left it keeps nothing.
@@ -115,11 +137,15 @@ impl<'a, R: Clock> Port for Watch<'a, R> {
         ensures reads { Reads self.old.port.shows self.new.port.shows result buf.new }
         ensures planned { AsPlanned self.old.port.shows.plan self.old.port.reads self.new.port.reads result }
     {
+        self.end_pause();
         self.turn();
-        self.port.read(buf)
+        let result = self.port.read(buf);
+        self.given = Instant::now(self.rt).ok();
+        result
     }
 
     fn close(&mut self) {
+        self.end_pause();
         self.closed = Instant::now(self.rt).ok();
         self.port.close();
     }

@@ -6,8 +6,8 @@ use Rattle.rib_model.specs.Entries.{entry_value, entry_values}
 use Rattle.router_tables.specs.Tables.{TablesValue, StandsFor}
 use Rattle.feed_worker.proofs.publishing.publish_entries.Goals as goal
 
-pub publish-requires-clause-value : goal.publish-requires-clause-value
-publish-requires-clause-value g c =
+pub publish_unnoted-requires-clause-value : goal.publish_unnoted-requires-clause-value
+publish_unnoted-requires-clause-value g c =
     let before = c.args.pass.now.entries in
     let more = c.args.entries.now in
     subst (λ (t : TablesValue). StandsFor t (entry_values (before ++ more))) (sym c.in_ok-tables.ensures.ok)
