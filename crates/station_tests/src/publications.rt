@@ -6,7 +6,9 @@ mod numbers;
 mod threads;
 
 use cut_publisher::*;
-use numbers::{Numbers, ended, lane_is, put_ask, put_feed, take_ask, take_feed, tell};
+use numbers::{
+    Numbers, ended, lane_is, put_ask, put_feed, take_ask, take_feed, tell, tell_unnoted,
+};
 use std::alloc::Global;
 use std::marker::Brand;
 use std::process::Abort;
@@ -69,7 +71,7 @@ fn two_lanes_told<J: Naming, R: Wait + Abort>(
     assert_eq!(rt; first.cut().rev(), 1);
     lane_is(rt, first.cut(), 0, &[]);
     lane_is(rt, first.cut(), 1, &[7]);
-    let _ = tell(rt, alloc, publisher, &mut zero, &[5, 6])?;
+    tell_unnoted(rt, alloc, publisher, &mut zero, &[5, 6])?;
     put_feed::<J>(feeds, zero)?;
     put_feed::<J>(feeds, one)?;
     put_ask::<J>(asks, first)?;

@@ -101,6 +101,27 @@ pub fn tell<J: Naming, R: Wait>(
     }
 }
 
+// The same without a note.
+pub fn tell_unnoted<J: Naming, R: Wait>(
+    rt: &R,
+    alloc: Global,
+    publisher: &Publisher<Numbers, J>,
+    pass: &mut FeedPass<Numbers>,
+    numbers: &[u64],
+) -> Result<(), NoMemory>
+    requires { pass.old.station ≡ J.site }
+    ensures { pass.new.station ≡ J.site }
+{
+    if pass.count() > 1000 || numbers.len() > 1000 {
+        return Err(NoMemory);
+    }
+    let value = pass.value().with(alloc, numbers)?;
+    match publish_unnoted(rt, alloc, publisher, pass, numbers, value) {
+        Ok(()) => Ok(()),
+        Err(_) => Err(NoMemory),
+    }
+}
+
 // Finishes the station.
 pub fn ended<J: Naming, R: Wait>(
     rt: &R,
