@@ -1,6 +1,5 @@
 //! Lanes that take their streams at once, each in a thread of its own where one can be made.
 ghost use Rattle.std.specs.Prelude.{◌≡◌, ◌<◌};
-ghost use Rattle.std.specs.Thread.{IsSync};
 ghost use Rattle.cut_publisher.specs.Opening.{AreFeedsOf};
 
 use crate::watch::{Client, Watch};
@@ -158,13 +157,7 @@ pub fn serve_all<J: Naming + Send + Sync, R: Threads + Wait + Clock + Sync>(
     publisher: &Publisher<RouterTables, J>,
     lanes: Vec<Lane<J, R>>,
 ) -> Option<Outcome> {
-    let (outcome, ()) = thread::join(
-        rt,
-        move || -> Option<Outcome>
-            requires { IsSync R.row }
-        { serve_lanes(rt, alloc, publisher, lanes) },
-        || (),
-    );
+    let (outcome, ()) = thread::join(rt, move || serve_lanes(rt, alloc, publisher, lanes), || ());
     outcome
 }
 
