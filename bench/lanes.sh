@@ -30,11 +30,11 @@
 # Bytes are of peak memory, by the `time` of GNU.
 #
 # Then the stream of a lane of a drill with MESSAGES messages (100,000) is taken by one lane, and by LANES lanes (64) at
-# once, each with a copy of it and a client of its own. The pace of lanes is how many messages they publish in a second of
-# the clock, the median of the runs, from the start of the lanes until the last of them closes its connection; and with
-# the letting go, until all lanes have let go of their tables too. Reading the stream is in neither. They too are those of a
-# quiet machine. What the machine itself has to give stands below: as many programs of one lane at once as there are
-# processors, and the sum of their paces.
+# once, each with a copy of it, a thread and a client of its own. The pace of lanes is how many messages they publish in
+# a second of the clock, the median of the runs, from the start of the lanes until the last of them closes its
+# connection; and with the letting go, until all lanes have let go of their tables too. Reading the stream is in
+# neither. They too are those of a quiet machine. What the machine itself has to give stands beside them: as many
+# programs of one lane at once as there are processors, and the sum of their paces.
 set -euo pipefail
 
 other=${1:?usage: bench/lanes.sh OTHER [PREFIXES]}
