@@ -30,11 +30,11 @@
 # Bytes are of peak memory, by the `time` of GNU.
 #
 # Then the stream of a lane of a drill with MESSAGES messages (100,000) is taken by one lane, and by LANES lanes (64) at
-# once, each with a copy of it, a thread and a client of its own. The pace of lanes is how many messages they publish in
-# a second of the clock, the median of the runs, from the start of the lanes until the last of them closes its
-# connection; and with the letting go, until all lanes have let go of their tables too. Reading the stream is in
-# neither. They too are those of a quiet machine. What the machine itself has to give stands beside them: as many
-# programs of one lane at once as there are processors, and the sum of their paces.
+# once, each with a copy of it, a thread and a client of its own, in three times as many rounds. The pace of lanes is how
+# many messages they publish in a second of the clock, the mean of the runs, from the start of the lanes until the last
+# of them closes its connection; and with the letting go, until all lanes have let go of their tables too. Reading the
+# stream is in neither. They too are those of a quiet machine. What the machine itself has to give stands beside them: as
+# many programs of one lane at once as there are processors, the sum of their paces, and which part of it the lanes have.
 set -euo pipefail
 
 other=${1:?usage: bench/lanes.sh OTHER [PREFIXES]}
@@ -85,8 +85,8 @@ note_pace() {
         END { printf "%d %d\n", pace, pace * taken / all }' "$work/$1.said" >>"$work/$1.pace"
 }
 
-# The median of a column of the runs of a name: the first is their pace, the second that with the letting go.
-median() { awk -v n="$2" '{ print $n }' "$work/$1.pace" | sort -n | awk '{ all[NR] = $1 } END { print all[int((NR + 1) / 2)] }'; }
+# The mean of a column of the runs of a name: the first is their pace, the second that with the letting go.
+mean() { awk -v n="$2" '{ sum += $n } END { printf "%.0f", sum / NR }' "$work/$1.pace"; }
 
 # The sum of the paces of so many programs at once, each with one lane.
 side_by_side() {
@@ -104,19 +104,19 @@ input=$work/stream
 "$streams" stream 7 0 "${MESSAGES:-100000}" >"$input"
 echo "$lanes lanes at once, $(stat -c %s "$input") bytes each, $(nproc) processors"
 for client in quiet asks keeps; do
-    for _ in $(seq "$rounds"); do
+    for _ in $(seq $((3 * rounds))); do
         for number in 1 "$lanes"; do
             run "$client.$number" "$client" 65536 "$number"
             note_pace "$client.$number"
         done
         side_by_side "$client" "$(nproc)"
     done
-    awk -v c="$client" -v n="$lanes" -v a="$(median "$client.1" 1)" -v b="$(median "$client.$lanes" 1)" \
-        -v d="$(median "$client.1" 2)" -v e="$(median "$client.$lanes" 2)" -v m="$(peak "$client.$lanes")" \
-        -v p="$(nproc)" -v s="$(median "$client.side" 1)" \
+    awk -v c="$client" -v n="$lanes" -v a="$(mean "$client.1" 1)" -v b="$(mean "$client.$lanes" 1)" \
+        -v d="$(mean "$client.1" 2)" -v e="$(mean "$client.$lanes" 2)" -v m="$(peak "$client.$lanes")" \
+        -v p="$(nproc)" -v s="$(mean "$client.side" 1)" \
         'BEGIN {
             printf "  %s one lane %d messages a second, %d lanes %d, ratio %.2f; ", c, a, n, b, b / a
             printf "with the letting go %d and %d, ratio %.2f; %d KiB; ", d, e, e / d, m
-            printf "%d programs of one lane %d, ratio %.2f\n", p, s, s / a
+            printf "%d programs of one lane %d, ratio %.2f, of which the lanes have %.2f\n", p, s, s / a, b / s
         }'
 done

@@ -44,8 +44,8 @@ measure() {
     "$(dirname "$0")/reorder" "$order" <"$work/generated" >"$input"
     for _ in $(seq "$rounds"); do
         run "$order.lane" lane
-        spend "$order.other" "$other" replay count
         run "$order.keep" lane_keep
+        spend "$order.other" "$other" replay count
         run "$order.seek" lane_seek 0 0
         run "$order.get" lane_seek "$looks" 0
         run "$order.longest" lane_seek 0 "$looks"
