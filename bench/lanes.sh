@@ -24,8 +24,8 @@
 #               the processor time of our whole run, which holds both
 #   other       the processor time of OTHER's whole run, with its reading, and with the letting go of its table if it does
 #               that: a program may end without
-#   longest     the longest time by the clock from the bytes of a read until all that they brought is published: that of a
-#               merge with the oldest rows
+#   longest     the longest time by the clock from the bytes of a read until all that they brought is published, with the
+#               merges of the tables
 #
 # Bytes are of peak memory, by the `time` of GNU.
 #

@@ -15,7 +15,7 @@
 #   walk       the same, and WALKS walks (20) over all routes
 #   longest pause
 #              the longest time by the clock from the bytes of a read until the tables with all that they brought are
-#              published (`lane_bench quiet`, least of the rounds): that of a merge with the oldest rows
+#              published (`lane_bench quiet`, least of the rounds), with their merges
 #
 # A ratio is that of least processor times: below 1 `lane` is faster than OTHER, and `keep` than `lane`. Bytes
 # a route are of peak memory, by the `time` of GNU, without what the program takes for an empty stream. The

@@ -84,12 +84,11 @@ impl<'a, R: Clock> Watch<'a, R> {
     fn end_pause(&mut self)
         ensures { self.new.port ≡ self.old.port }
     {
-        if let Some(given) = self.given
+        if let Some(given) = self.given.take()
             && let Ok(time) = given.elapsed(self.rt)
         {
             self.longest = self.longest.max(time);
         }
-        self.given = None;
     }
 
     // The client's turn. Where no memory is left it keeps nothing.

@@ -3,6 +3,7 @@
 
 #[cfg(test)]
 mod doors;
+mod numbers;
 #[cfg(test)]
 mod publications;
 #[cfg(test)]

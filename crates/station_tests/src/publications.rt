@@ -2,13 +2,12 @@
 ghost use Rattle.std.specs.Prelude.{◌≡◌};
 ghost use Rattle.cut_publisher.specs.Opening.{IsOpened, AreAsksOf, AreFeedsOf};
 
-mod numbers;
+mod cuts;
 mod threads;
 
+use crate::numbers::{Numbers, ended, put_ask, put_feed, take_ask, take_feed, tell, tell_unnoted};
 use cut_publisher::*;
-use numbers::{
-    Numbers, ended, lane_is, put_ask, put_feed, take_ask, take_feed, tell, tell_unnoted,
-};
+use cuts::lane_is;
 use std::alloc::Global;
 use std::marker::Brand;
 use std::process::Abort;

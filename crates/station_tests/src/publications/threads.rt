@@ -2,9 +2,8 @@
 ghost use Rattle.std.specs.Prelude.{◌≡◌};
 ghost use Rattle.cut_publisher.specs.Opening.{IsOpened, AreAsksOf, AreFeedsOf};
 
-use super::numbers::{
-    Numbers, ended, lane_is, put_ask, put_feed, same_cut, take_ask, take_feed, tell,
-};
+use super::cuts::{lane_is, same_cut};
+use crate::numbers::{Numbers, ended, put_ask, put_feed, take_ask, take_feed, tell};
 use cut_publisher::*;
 use std::alloc::Global;
 use std::marker::Brand;
