@@ -1,5 +1,5 @@
 -- The connections of a lane, one after another.
-use Rattle.std.specs.Prelude.{◌≡◌, ℕ, ◌<◌, Bool, List, [], ◌∷◌, ◌++◌, length, map, MatchBool, nat_lt, Option, Some, IfSome, OnErr, Result, Ok, Err, true, false}
+use Rattle.std.specs.Prelude.{◌≡◌, ◌⊎◌, ℕ, ◌+◌, ◌<◌, ◌≤◌, ◌^◌, Bool, List, [], ◌∷◌, ◌++◌, length, map, MatchBool, nat_lt, Option, Some, IfSome, OnErr, Result, Ok, Err, true, false}
 use Rattle.bmp_specs.specs.Life.{IsLife}
 use Rattle.bmp_specs.specs.Meaning.{Meaning}
 use Rattle.bmp_specs.specs.Values.{EntryValue}
@@ -74,14 +74,29 @@ IsLifeOf meaning input entries = IsLife meaning input.bytes input.last entries
 abbrev pub IsBegunOf : Meaning → Given → List EntryValue → Type 0
 IsBegunOf meaning input entries = IsBegun meaning input.bytes entries
 
--- Up to so many connections were served, each with its whole life: as many, or fewer, where `next_connection` then gave
--- no connection.
+-- the most entries of a pass with which a lane begins a round
+abbrev pub most_entries : ℕ
+most_entries = 2 ^ 56
+
+-- each of these was opened by a pass with no more entries than that
+abbrev pub HaveRoom : ℕ → List Connection → Type 0
+HaveRoom count [] = Unit {0}
+HaveRoom count (c ∷ cs) = (count ≤ most_entries) × HaveRoom (count + length c.life) cs
+
+-- No further connection was opened: `next_connection` gave none, or it wasn't called, since the pass has too many entries
+-- for a further round.
+abbrev pub Stops : Aside → Aside → Fed Entry → Type 0
+Stops after new pass = Refuses after new ⊎ ((most_entries < length pass.entries) × (new ≡ after))
+
+-- Up to so many connections were served, each with its whole life: as many, or fewer, where no further one was then
+-- opened.
 pub record ServesAll (meaning : Meaning) (rounds : ℕ) (old new : Aside) (pass pass' : Fed Entry) : Type 0 where
   pub connections : List Connection
   pub after : Aside
   pub serves : Serves meaning old after connections
+  pub room : HaveRoom (length pass.entries) connections
   pub grows : Grows pass pass' (lives_of connections)
-  pub stop : MatchBool (nat_lt (length connections) rounds) (Refuses after new) ((length connections ≡ rounds) × (new ≡ after))
+  pub stop : MatchBool (nat_lt (length connections) rounds) (Stops after new pass') ((length connections ≡ rounds) × (new ≡ after))
 
 -- Want of memory came in the last of the connections, of whose life a beginning was published. It was closed, and no
 -- further one was opened.
@@ -91,6 +106,7 @@ pub record ServesSome (meaning : Meaning) (rounds : ℕ) (old new : Aside) (pass
   pub serves : Serves meaning old after connections
   pub few : length connections < rounds
   pub last : Connection
+  pub room : HaveRoom (length pass.entries) (connections ++ last ∷ [])
   pub visits : Visits meaning after last
   pub begun : IsBegun meaning last.input.bytes last.life
   pub closed : new ≡ last.closed
@@ -105,3 +121,9 @@ ServesFeed meaning rounds old new pass pass' NoMemory = ServesSome meaning round
 abbrev pub PortsTellConnections : Meaning → Type 0
 PortsTellConnections meaning = (connections : List Connection) (old new : Aside) (given : List Given)
     → Serves meaning old new connections → old.given ≡ Some given → new.given ≡ Some (given ++ map input_of connections)
+
+-- A pass that had no entry never has too many for a further round while it serves up to 4,096: a lane of so many rounds
+-- stops early only where `next_connection` gave no connection.
+abbrev pub FewRoundsFit : Meaning → Type 0
+FewRoundsFit meaning = (rounds : ℕ) (old new : Aside) (pass pass' : Fed Entry) → rounds ≤ 4096 → pass.entries ≡ [] → (s : ServesAll meaning rounds old new pass pass')
+    → MatchBool (nat_lt (length s.connections) rounds) (Refuses s.after new) ((length s.connections ≡ rounds) × (new ≡ s.after))

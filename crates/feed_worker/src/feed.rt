@@ -14,10 +14,13 @@ use std::alloc::Global;
 use std::sync::Wait;
 use wire_io::NoMemory;
 
+/// The most entries of a pass with which a round begins, 2^56. A connection adds fewer than 2^44.
+const MOST_ENTRIES: u64 = 0x0100_0000_0000_0000;
+
 /// How the work of a lane ended.
 #[derive(Clone, Copy, Debug, PartialEq, Eq)]
 pub enum LaneEnd {
-    /// As many connections were served as it was to serve, or there was no further one.
+    /// As many connections were served as it was to serve, or no further one was opened.
     Over,
 
     /// Want of memory.
@@ -58,8 +61,9 @@ fn serve_connection<B: BodyReading + Drop, P: Port + Drop, J: Naming, R: Wait>(
 }
 
 /// Serves up to so many connections of the port, one after another: takes each as `B` reads it, publishes its opening,
-/// its messages and its closing, and closes it. `Over` exactly where as many were served, or `next_connection` then
-/// gave no further one: there was none, or it failed. After want of memory the pass published a beginning of the last
+/// its messages and its closing, and closes it. `Over` exactly where as many were served, or no further one was opened:
+/// there was none, or it failed, or the pass has more than 2^56 entries, which up to 4,096 rounds of a pass that had none
+/// don't come to. After want of memory the pass published a beginning of the last
 /// connection's life, which is closed too, and no further one is opened.
 pub fn serve_feed<B: BodyReading + Drop, P: Port + Drop, J: Naming, R: Wait>(
     rt: &R,
@@ -69,13 +73,14 @@ pub fn serve_feed<B: BodyReading + Drop, P: Port + Drop, J: Naming, R: Wait>(
     port: &mut LanePort<P>,
     rounds: u32,
 ) -> LaneEnd
-    requires station { pass.old.station ≡ J.site }
-    requires room { length pass.old.entries ≤ 2 ^ 56 }
-    requires rounds { rounds ≤ 4096 }
+    requires { pass.old.station ≡ J.site }
     ensures { ServesFeed B.meaning rounds (P.aside port.old) (P.aside port.new) pass.old pass.new result }
 {
     let mut served = 0;
     while served < rounds {
+        if pass.count() > MOST_ENTRIES {
+            return LaneEnd::Over;
+        }
         if !opens(port) {
             return LaneEnd::Over;
         }

@@ -1,9 +1,14 @@
 //! What follows of the connections that were served, for those who gather them.
-ghost use Rattle.feed_worker.specs.Feed.{PortsTellConnections};
+ghost use Rattle.feed_worker.specs.Feed.{FewRoundsFit, PortsTellConnections};
 
 use bmp_message::BodyReading;
 
 /// A port that tells the connections that it gave tells what was read of each that was served.
 pub fn ports_tell_connections<B: BodyReading>()
     ensures { PortsTellConnections B.meaning }
+{}
+
+/// A lane that had published nothing and serves up to 4,096 connections ends early only where its port gave none.
+pub fn few_rounds_fit<B: BodyReading>()
+    ensures { FewRoundsFit B.meaning }
 {}

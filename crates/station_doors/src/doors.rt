@@ -6,7 +6,7 @@ ghost use Rattle.wire_io.specs.Faults.{HasCause};
 ghost use Rattle.station_doors.specs.Doors.{Opens, Reads, Closes, AsPlanned, noted_writes, read_size, YardValue, IsLane, askers_of, Listens, HandsOut, HandsOutLink, TakesBack, TakesLinkBack, KeepsEnding, one_more};
 ghost use Rattle.station_doors.specs.declared.listening.Listening.{Listening};
 
-use ip_prefix::Addr;
+use crate::Listening;
 use wire_io::{Failed, Sink};
 
 /// The place of one router, which gives one connection after another.
@@ -103,17 +103,10 @@ pub trait Yard {
     /// How many of its calls that answer a `Result` were made.
     ghost calls: { Self → ℕ };
 
-    /// Listens for so many routers and clients: lane n at `feed_port + n`, asker n at `ask_port + n`.
-    fn listen(
-        &mut self,
-        address: &Addr,
-        feed_port: u16,
-        feeds: u32,
-        ask_port: u16,
-        askers: u32,
-    ) -> Result<(), Failed>
+    /// Listens for so many routers and clients, where and how these values say.
+    fn listen(&mut self, at: &Listening) -> Result<(), Failed>
         ensures told { Listens (calls self.old) (told self.old) (told self.new) result }
-        ensures listened { listened self.new ≡ Some (record { address = address.now; feed_port = feed_port; feeds = feeds; ask_port = ask_port; askers = askers }) }
+        ensures listened { listened self.new ≡ Some at.now }
         ensures calls { calls self.new ≡ one_more (calls self.old) }
         ensures cause { HasCause (faults self.old) (faults self.new) result }
         ensures endings { endings self.new ≡ endings self.old }

@@ -4,16 +4,17 @@ ghost use Rattle.station_doors.specs.Doors.{one_more, askers_of};
 
 use crate::sockets::{MOST, listen_at, take_listener};
 use crate::{HostLink, HostPort, Listening, Yard};
-use ip_prefix::Addr;
 use std::alloc::Global;
 use std::io::Read;
 use std::net::{Net, TcpListener, TcpStream};
+use std::time::Clock;
 use wire_io::{Failed, NoMemory};
 
 /// The real yard: standard input, and TCP listeners. It tells nothing of content.
 ///
-/// Where it was asked to listen, lane n listens at `feed_port + n` and asker n at `ask_port + n`. Else port 0 gives
-/// what the reader gives, as one connection.
+/// Where it was asked to listen, lane n listens at `feed_port + n` and asker n at `ask_port + n`; where the ports are
+/// shared, all lanes at one listener and all askers at another, and the system says which of them gets a connection. Else
+/// port 0 gives what the reader gives, as one connection.
 #[derive(Drop)]
 pub struct HostYard<'a, R, N> {
     input: Option<R>,
@@ -21,12 +22,18 @@ pub struct HostYard<'a, R, N> {
     feeds: Vec<Option<TcpListener>>,
     askers: Vec<Option<TcpListener>>,
     listened: Option<Listening>,
+    idle: Option<u32>,
+    ask_idle: Option<u32>,
     calls: u64,
     faults: u64,
     endings: u64,
 }
 
-impl<'a, R: Read + Drop, N: Net<Listener = TcpListener, Stream = TcpStream>> HostYard<'a, R, N> {
+impl<
+    'a,
+    R: Read + Drop,
+    N: Net<Listener = TcpListener, Stream = TcpStream> + Clock + Sync,
+> HostYard<'a, R, N> {
     /// A yard over this input and this network, of which no call was made. It takes the memory for all its listeners
     /// at once.
     pub fn new(alloc: Global, input: R, net: &'a N) -> Result<HostYard<'a, R, N>, NoMemory>
@@ -43,6 +50,8 @@ impl<'a, R: Read + Drop, N: Net<Listener = TcpListener, Stream = TcpStream>> Hos
             feeds,
             askers,
             listened: None,
+            idle: None,
+            ask_idle: None,
             calls: 0,
             faults: 0,
             endings: 0,
@@ -50,11 +59,14 @@ impl<'a, R: Read + Drop, N: Net<Listener = TcpListener, Stream = TcpStream>> Hos
     }
 }
 
-impl<'a, R: Read + Drop + Send, N: Net<Listener = TcpListener, Stream = TcpStream>> Yard
-    for HostYard<'a, R, N> {
-    type Port = HostPort<R>;
+impl<
+    'a,
+    R: Read + Drop + Send,
+    N: Net<Listener = TcpListener, Stream = TcpStream> + Clock + Sync,
+> Yard for HostYard<'a, R, N> {
+    type Port = HostPort<'a, R, N>;
 
-    type Link = HostLink;
+    type Link = HostLink<'a, N>;
 
     type Ending = ();
 
@@ -66,25 +78,26 @@ impl<'a, R: Read + Drop + Send, N: Net<Listener = TcpListener, Stream = TcpStrea
 
     ghost calls = { λ y. y.calls };
 
-    fn listen(
-        &mut self,
-        address: &Addr,
-        feed_port: u16,
-        feeds: u32,
-        ask_port: u16,
-        askers: u32,
-    ) -> Result<(), Failed> {
+    fn listen(&mut self, at: &Listening) -> Result<(), Failed> {
         self.calls = self.calls.saturating_add(1);
-        self.listened = Some(Listening {
-            address: *address,
-            feeds,
-            askers,
-            feed_port,
-            ask_port,
-        });
-        if listen_at(self.net, address, feed_port, feeds, &mut self.feeds)
-            && listen_at(self.net, address, ask_port, askers, &mut self.askers)
-        {
+        self.listened = Some(*at);
+        self.idle = at.idle;
+        self.ask_idle = at.ask_idle;
+        if listen_at(
+            self.net,
+            &at.address,
+            at.feed_port,
+            at.feeds,
+            at.shared,
+            &mut self.feeds,
+        ) && listen_at(
+            self.net,
+            &at.address,
+            at.ask_port,
+            at.askers,
+            at.shared,
+            &mut self.askers,
+        ) {
             Ok(())
         } else {
             self.feeds.clear();
@@ -94,7 +107,7 @@ impl<'a, R: Read + Drop + Send, N: Net<Listener = TcpListener, Stream = TcpStrea
         }
     }
 
-    fn port(&mut self, lane: u32) -> Result<HostPort<R>, Failed>
+    fn port(&mut self, lane: u32) -> Result<HostPort<'a, R, N>, Failed>
         ensures once { self.old.listened ≡ None → (IsOk result ↔ IsSome self.old.input) }
         ensures reader { self.old.listened ≡ None → IfOk result (λ port. self.old.input ≡ port.input) }
         ensures input { self.old.listened ≡ None → self.new.input ≡ None }
@@ -111,13 +124,13 @@ impl<'a, R: Read + Drop + Send, N: Net<Listener = TcpListener, Stream = TcpStrea
             (self.input.take(), None)
         };
         if input.is_some() || listener.is_some() {
-            return Ok(HostPort::over(input, listener));
+            return Ok(HostPort::over(self.net, input, listener, self.idle));
         }
         self.faults = self.faults.saturating_add(1);
         Err(Failed)
     }
 
-    fn link(&mut self, number: u32) -> Result<HostLink, Failed>
+    fn link(&mut self, number: u32) -> Result<HostLink<'a, N>, Failed>
         requires { number < askers_of self.old.listened }
         ensures asker { IfOk result (λ link. slice_get self.old.askers.items number ≡ Some (Some link.listener)) }
         ensures listened { self.new.listened ≡ self.old.listened }
@@ -127,7 +140,7 @@ impl<'a, R: Read + Drop + Send, N: Net<Listener = TcpListener, Stream = TcpStrea
     {
         self.calls = self.calls.saturating_add(1);
         match take_listener(&mut self.askers, number) {
-            Some(listener) => Ok(HostLink::over(listener)),
+            Some(listener) => Ok(HostLink::over(self.net, listener, self.ask_idle)),
             None => {
                 self.faults = self.faults.saturating_add(1);
                 Err(Failed)
@@ -135,9 +148,9 @@ impl<'a, R: Read + Drop + Send, N: Net<Listener = TcpListener, Stream = TcpStrea
         }
     }
 
-    fn take_port(&mut self, _lane: u32, _port: HostPort<R>) {}
+    fn take_port(&mut self, _lane: u32, _port: HostPort<'a, R, N>) {}
 
-    fn take_link(&mut self, _number: u32, _link: HostLink) {}
+    fn take_link(&mut self, _number: u32, _link: HostLink<'a, N>) {}
 
     fn take_ending(&mut self, _ending: ()) {
         self.endings = self.endings.saturating_add(1);

@@ -3,29 +3,33 @@ ghost use Rattle.wire_io.specs.Faults.{HasCause};
 
 use crate::Link;
 use crate::counts::Counts;
-use crate::sockets::accept_next;
-use std::io::{Read, Write};
+use crate::sockets::{accept_next, read_stream, write_stream};
 use std::net::{TcpListener, TcpStream};
+use std::time::Clock;
 use wire_io::{Failed, Sink};
 
 /// A link over a listener. It tells nothing of content. A write to a client that went away is a fault, as any
-/// other write that fails.
+/// other write that fails, and a read or a write that waits for more than `idle` seconds.
 #[derive(Drop)]
-pub struct HostLink {
+pub struct HostLink<'a, N> {
+    clock: &'a N,
     listener: TcpListener,
+    idle: Option<u32>,
     stream: Option<TcpStream>,
     counts: Counts,
     faults: u64,
 }
 
-impl HostLink {
+impl<'a, N: Clock> HostLink<'a, N> {
     // A link over this listener, of which no call was made.
-    pub(crate) fn over(listener: TcpListener) -> HostLink
+    pub(crate) fn over(clock: &'a N, listener: TcpListener, idle: Option<u32>) -> HostLink<'a, N>
         ensures listener { result.listener ≡ listener }
         ensures calm { result.faults ≡ 0 }
     {
         HostLink {
+            clock,
             listener,
+            idle,
             stream: None,
             counts: Counts::new(),
             faults: 0,
@@ -38,7 +42,7 @@ fn read_from(stream: &mut Option<TcpStream>, buf: &mut [u8]) -> Result<usize, Fa
     ensures { IfOk result (λ n. n ≤ length buf.new) }
 {
     match stream {
-        Some(stream) => stream.read(buf).map_err(|_| Failed),
+        Some(stream) => read_stream(stream, buf),
         None => Err(Failed),
     }
 }
@@ -48,27 +52,17 @@ fn write_to(stream: &mut Option<TcpStream>, piece: &[u8]) -> Option<usize>
     ensures { IfSome result (λ n. (0 < n) × (n ≤ length piece.now)) }
 {
     match stream {
-        Some(stream) => match stream.write(piece) {
-            Ok(count) if 0 < count => Some(count),
-            _ => None,
-        },
+        Some(stream) => write_stream(stream, piece),
         None => None,
     }
 }
 
-impl Sink for HostLink {
+impl<'a, N: Clock> Sink for HostLink<'a, N> {
     ghost faults = { λ k. k.faults };
 
     ghost aside = { λ k. k.counts };
 
-    fn write(&mut self, piece: &[u8]) -> Result<usize, Failed>
-        requires { 0 < length piece.now }
-        ensures some { IfOk result (λ n. 0 < n) }
-        ensures bound { IfOk result (λ n. n ≤ length piece.now) }
-        ensures aside { self.new.counts ≡ self.old.counts }
-        ensures counted { OnErr result (self.new.faults ≡ min (self.old.faults + 1) (2 ^ 64 - 1)) }
-        ensures cause { HasCause self.old.faults self.new.faults result }
-    {
+    fn write(&mut self, piece: &[u8]) -> Result<usize, Failed> {
         match write_to(&mut self.stream, piece) {
             Some(count) => Ok(count),
             None => {
@@ -79,9 +73,9 @@ impl Sink for HostLink {
     }
 }
 
-impl Link for HostLink {
+impl<'a, N: Clock + Sync> Link for HostLink<'a, N> {
     fn next_connection(&mut self) -> Result<bool, Failed> {
-        self.stream = accept_next(&self.listener);
+        self.stream = accept_next(self.clock, &self.listener, self.idle);
         let came = if self.stream.is_some() {
             Some(true)
         } else {

@@ -4,30 +4,41 @@ ghost use Rattle.station_doors.specs.Counts.{rest_of};
 
 use crate::Port;
 use crate::counts::Counts;
-use crate::sockets::accept_next;
+use crate::sockets::{accept_next, read_stream};
 use std::io::Read;
 use std::net::{TcpListener, TcpStream};
+use std::time::Clock;
 use wire_io::Failed;
 
 /// A port over a reader, which has one connection, or over a listener, which has one after another. Over a reader it
-/// tells what the reader tells, over a listener nothing of content.
+/// tells what the reader tells, over a listener nothing of content. A connection of a listener that says nothing for
+/// `idle` seconds is a fault of the read that waits.
 #[derive(Drop)]
-pub struct HostPort<R> {
+pub struct HostPort<'a, R, N> {
+    clock: &'a N,
     input: Option<R>,
     listener: Option<TcpListener>,
+    idle: Option<u32>,
     stream: Option<TcpStream>,
     counts: Counts,
 }
 
-impl<R: Drop> HostPort<R> {
+impl<'a, R: Drop, N: Clock> HostPort<'a, R, N> {
     // A port over one of these, of which no call was made.
-    pub(crate) fn over(input: Option<R>, listener: Option<TcpListener>) -> HostPort<R>
+    pub(crate) fn over(
+        clock: &'a N,
+        input: Option<R>,
+        listener: Option<TcpListener>,
+        idle: Option<u32>,
+    ) -> HostPort<'a, R, N>
         ensures input { result.input ≡ input }
         ensures listener { result.listener ≡ listener }
     {
         HostPort {
+            clock,
             input,
             listener,
+            idle,
             stream: None,
             counts: Counts::new(),
         }
@@ -35,14 +46,16 @@ impl<R: Drop> HostPort<R> {
 }
 
 // The connection that comes next: true with one, false where there is none. None where that failed.
-fn come(
+fn come<N: Clock>(
+    clock: &N,
+    idle: Option<u32>,
     listener: &Option<TcpListener>,
     stream: &mut Option<TcpStream>,
     is_first: bool,
 ) -> Option<bool> {
     match listener {
         Some(listener) => {
-            *stream = accept_next(listener);
+            *stream = accept_next(clock, listener, idle);
             if stream.is_some() { Some(true) } else { None }
         }
         None => Some(is_first),
@@ -62,17 +75,23 @@ fn read_from<R: Read>(
         return input.read(buf).map_err(|_| Failed);
     }
     match stream {
-        Some(stream) => stream.read(buf).map_err(|_| Failed),
+        Some(stream) => read_stream(stream, buf),
         None => Err(Failed),
     }
 }
 
-impl<R: Read + Drop> Port for HostPort<R> {
+impl<'a, R: Read + Drop, N: Clock + Sync> Port for HostPort<'a, R, N> {
     ghost aside = { λ p. record p.counts { rest = rest_of R.remaining p.input } };
 
     fn next_connection(&mut self) -> Result<bool, Failed> {
         let is_first = self.counts.is_unused();
-        let came = come(&self.listener, &mut self.stream, is_first);
+        let came = come(
+            self.clock,
+            self.idle,
+            &self.listener,
+            &mut self.stream,
+            is_first,
+        );
         self.counts.open(came)
     }
 

@@ -4,7 +4,6 @@ ghost use Rattle.std.specs.Vec.{vec_capacity};
 ghost use Rattle.station_doors.specs.Doors.{without};
 
 use crate::{Listening, MemLink, MemPort, Port, Yard};
-use ip_prefix::Addr;
 use std::alloc::Global;
 use std::marker::Model;
 use wire_io::{Failed, List, NoMemory};
@@ -174,23 +173,10 @@ impl<E: Drop> Yard for MemYard<E> {
 
     ghost calls = { λ y. y.calls };
 
-    fn listen(
-        &mut self,
-        address: &Addr,
-        feed_port: u16,
-        feeds: u32,
-        ask_port: u16,
-        askers: u32,
-    ) -> Result<(), Failed> {
+    fn listen(&mut self, at: &Listening) -> Result<(), Failed> {
         let call = self.calls;
         self.calls = call.saturating_add(1);
-        self.listened = Some(Listening {
-            address: *address,
-            feeds,
-            askers,
-            feed_port,
-            ask_port,
-        });
+        self.listened = Some(*at);
         if self.fails.contains(&call) {
             self.faults = self.faults.saturating_add(1);
             return Err(Failed);

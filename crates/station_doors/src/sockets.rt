@@ -1,8 +1,11 @@
-ghost use Rattle.std.specs.Prelude.{◌≡◌, Some, slice_get, IfSome};
+ghost use Rattle.std.specs.Prelude.{◌≡◌, ◌<◌, ◌≤◌, Some, length, slice_get, IfOk, IfSome};
 
 use ip_prefix::{Addr, Family};
-use std::io::{ErrorKind, Read};
+use std::io::{self, ErrorKind, Read, Write};
 use std::net::{IpAddr, Net, SocketAddr, TcpListener, TcpStream};
+use std::thread::sleep;
+use std::time::{Clock, Duration};
+use wire_io::Failed;
 
 /// The most routers, and the most clients, that are listened for.
 pub(crate) const MOST: u32 = 64;
@@ -16,12 +19,36 @@ pub(crate) fn ip_of(address: &Addr) -> IpAddr {
     }
 }
 
-// Listens at so many ports from the first one on, of which each has a place. False where one of them can't be had.
+// The listener of this number: at the port so far behind the first one, or, where they share one, another handle of the
+// first listener.
+fn listener_of<N: Net<Listener = TcpListener, Stream = TcpStream>>(
+    net: &N,
+    address: &Addr,
+    first: u16,
+    number: u32,
+    shared: bool,
+    places: &[Option<TcpListener>],
+) -> Option<TcpListener> {
+    if shared {
+        if let Some(Some(listener)) = places.first() {
+            return listener.try_clone().ok();
+        }
+    }
+    let port = first as u64 + number as u64;
+    if port > 65_535 {
+        return None;
+    }
+    net.bind(SocketAddr::new(ip_of(address), port as u16)).ok()
+}
+
+// Listens for so many, each of which has a place: at the ports from the first one on, or at the first one alone. False
+// where one of them can't be had.
 pub(crate) fn listen_at<N: Net<Listener = TcpListener, Stream = TcpStream>>(
     net: &N,
     address: &Addr,
     first: u16,
     count: u32,
+    shared: bool,
     places: &mut Vec<Option<TcpListener>>,
 ) -> bool {
     places.clear();
@@ -29,17 +56,13 @@ pub(crate) fn listen_at<N: Net<Listener = TcpListener, Stream = TcpStream>>(
         return false;
     }
     for number in 0..count {
-        let port = first as u32 + number;
-        if port > 65_535 {
-            return false;
-        }
-        match net.bind(SocketAddr::new(ip_of(address), port as u16)) {
-            Ok(listener) => {
+        match listener_of(net, address, first, number, shared, places.as_slice()) {
+            Some(listener) => {
                 if places.push(Some(listener)).is_err() {
                     return false;
                 }
             }
-            Err(_) => return false,
+            None => return false,
         }
     }
     true
@@ -72,16 +95,77 @@ fn is_passing(kind: ErrorKind) -> bool {
     )
 }
 
-// Waits for the next connection, whose writes go out at once. None where that failed for a cause that lasts.
-pub(crate) fn accept_next(listener: &TcpListener) -> Option<TcpStream> {
+// Whether the system has no place for a further connection now: too many files are open, or memory is short. It may have
+// one later.
+fn is_crowded(error: &io::Error) -> bool {
+    matches!(error.raw_os_error(), Some(12 | 23 | 24 | 105))
+}
+
+// Gives the stream its times, and lets its writes go out at once.
+fn prepare(stream: &TcpStream, idle: Option<u32>) -> io::Result<()> {
+    let time = idle.map(|seconds| Duration::from_secs(seconds as u64));
+    stream.set_read_timeout(time)?;
+    stream.set_write_timeout(time)?;
+    stream.set_nodelay(true)
+}
+
+// Waits for the next connection, whose reads and writes wait for so many seconds at most. One that is gone before it can
+// be made ready is passed over, and where the system has no place for one, it is tried again a second later. None where it
+// failed for a cause that lasts.
+pub(crate) fn accept_next<C: Clock>(
+    clock: &C,
+    listener: &TcpListener,
+    idle: Option<u32>,
+) -> Option<TcpStream> {
     for stream in listener.incoming() {
         match stream {
             Ok(stream) => {
-                let _ = stream.set_nodelay(true);
-                return Some(stream);
+                if prepare(&stream, idle).is_ok() {
+                    return Some(stream);
+                }
             }
             Err(error) => {
-                if !is_passing(error.kind()) {
+                if is_crowded(&error) {
+                    sleep(clock, Duration::from_secs(1));
+                } else if !is_passing(error.kind()) {
+                    return None;
+                }
+            }
+        }
+    }
+    None
+}
+
+// So often a call is made again that a signal broke off.
+const MOST_TRIES: u32 = 1_000_000;
+
+// Reads from the stream.
+pub(crate) fn read_stream(stream: &mut TcpStream, buf: &mut [u8]) -> Result<usize, Failed>
+    ensures { IfOk result (λ n. n ≤ length buf.new) }
+{
+    for _ in 0..MOST_TRIES {
+        match stream.read(buf) {
+            Ok(count) => return Ok(count),
+            Err(error) => {
+                if error.kind() != ErrorKind::Interrupted {
+                    return Err(Failed);
+                }
+            }
+        }
+    }
+    Err(Failed)
+}
+
+// Writes to the stream. None where that failed, or took nothing.
+pub(crate) fn write_stream(stream: &mut TcpStream, piece: &[u8]) -> Option<usize>
+    ensures { IfSome result (λ n. (0 < n) × (n ≤ length piece.now)) }
+{
+    for _ in 0..MOST_TRIES {
+        match stream.write(piece) {
+            Ok(0) => return None,
+            Ok(count) => return Some(count),
+            Err(error) => {
+                if error.kind() != ErrorKind::Interrupted {
                     return None;
                 }
             }

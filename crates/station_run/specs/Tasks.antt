@@ -1,5 +1,5 @@
--- The works of lanes and askers: when each can be begun, and what it is afterwards.
-use Rattle.std.specs.Prelude.{ℕ, ◌≤◌, ◌^◌, List, length, Option}
+-- The works of lanes and askers, each of which can be begun at any time, and what it is afterwards.
+use Rattle.std.specs.Prelude.{ℕ, List, Option}
 use Rattle.bmp_specs.specs.Meaning.{Meaning}
 use Rattle.cut_publisher.specs.History.{Site}
 use Rattle.wire_io.specs.Aside.{Aside}
@@ -9,11 +9,6 @@ use Rattle.station_run.specs.declared.tasks.LaneWork.{LaneWork}
 use Rattle.station_run.specs.declared.tasks.AskWork.{AskWork}
 use Rattle.station_run.specs.declared.tasks.Task.{Task}
 use Rattle.station_run.specs.declared.tasks.Task.TheVariants.{Lane, Ask}
-
--- a lane has room for all that it may publish
-pub record LaneIsReady {B P : Type 0} (w : LaneWork B P) : Type 0 where
-  pub room : length w.pass.entries ≤ 2 ^ 56
-  pub rounds : w.rounds ≤ 4096
 
 -- the connections of the port were served, and published by the pass
 pub record LaneIsDone {B P : Type 0} (meaning : Meaning) (shows : P → Aside) (w v : LaneWork B P) : Type 0 where
@@ -27,10 +22,6 @@ pub record AskIsDone {K : Type 0} (shows : K → Aside) (told : K → Option (Li
 abbrev pub station_of : {B P K : Type 0} → Task B P K → Site
 station_of (Lane w) = w.pass.station
 station_of (Ask w) = w.pass.station
-
-abbrev pub IsReady : {B P K : Type 0} → Task B P K → Type 0
-IsReady (Lane w) = LaneIsReady w
-IsReady (Ask w) = Unit {0}
 
 -- it is done, and of the same kind
 abbrev pub IsDone : {B P K : Type 0} → Meaning → (P → Aside) → (K → Aside) → (K → Option (List ℕ)) → (K → ℕ) → Task B P K → Task B P K → Type 0

@@ -36,7 +36,7 @@ fn ask_all<Y: Yard>(
     ensures endings { Y.endings yard.new ≡ Y.endings yard.old }
     ensures ending { Y.last_ending yard.new ≡ Y.last_ending yard.old }
 {
-    let Ok(()) = yard.listen(&at.address, at.feed_port, at.feeds, at.ask_port, at.askers) else {
+    let Ok(()) = yard.listen(at) else {
         return Err(Failed);
     };
     for lane in 0..at.feeds {

@@ -6,7 +6,7 @@ ghost use Rattle.cut_publisher.specs.History.{Asker};
 ghost use Rattle.rib_model.specs.declared.entry.Entry.{Entry};
 ghost use Rattle.station_run.specs.Handed.{link_shows, numbered, numbered_links};
 ghost use Rattle.station_run.specs.Served.{HaveServed};
-ghost use Rattle.station_run.specs.Tasks.{IsDone, IsReady, station_of};
+ghost use Rattle.station_run.specs.Tasks.{IsDone, station_of};
 ghost use Rattle.station_run.specs.Works.{AreDone, AreReady};
 
 use crate::outcome::Outcome;
@@ -29,7 +29,7 @@ fn do_all<
     J: Naming + Send + Sync,
     R: Threads + Wait + Sync,
 >(rt: &R, alloc: Global, publisher: &Publisher<RouterTables, J>, tasks: &mut Vec<Task<B, P, K>>)
-    requires { AreReady station_of IsReady J.site tasks.old.items }
+    requires { AreReady station_of (λ _. Unit {0}) J.site tasks.old.items }
     ensures { AreDone (IsDone B.meaning P.aside K.aside K.told K.faults) tasks.old.items tasks.new.items }
 {
     let _ = run_all(rt, alloc, publisher, tasks.as_mut_slice());
@@ -59,7 +59,6 @@ pub fn serve_doors<
     requires ports { length ports.old.items ≤ vec_capacity ports.old }
     requires links { length links.old.items ≤ vec_capacity links.old }
     requires tasks { (tasks.items ≡ []) × (length ports.old.items + length links.old.items ≤ vec_capacity tasks) }
-    requires rounds { rounds ≤ 4096 }
     ensures { HaveServed B.meaning rounds J.site (numbered P.aside 0 ports.old.items) (numbered P.aside 0 ports.new.items) (numbered_links (link_shows K.aside K.told K.faults) 0 links.old.items) (numbered_links (link_shows K.aside K.told K.faults) 0 links.new.items) result.1 feeds.new asks.new result.0 }
 {
     pair(feeds, asks, ports, links, rounds, &mut tasks);

@@ -41,11 +41,11 @@ pub enum Task<B: BodyReading + Drop, P: Port + Drop, K: Link + Drop> {
 }
 
 impl<B: BodyReading + Drop, P: Port + Drop, K: Link + Drop> Work<RouterTables> for Task<B, P, K> {
-    ghost use Rattle.station_run.specs.Tasks.{station_of, IsReady, IsDone};
+    ghost use Rattle.station_run.specs.Tasks.{station_of, IsDone};
 
     ghost station = { station_of };
 
-    ghost ready = { IsReady };
+    ghost ready = { λ _. Unit {0} };
 
     ghost done = { IsDone B.meaning P.aside K.aside K.told K.faults };
 
@@ -66,7 +66,7 @@ impl<B: BodyReading + Drop, P: Port + Drop, K: Link + Drop> Work<RouterTables> f
 }
 
 impl<B: BodyReading + Drop, P: Port + Drop> LaneWork<B, P> {
-    ghost use Rattle.station_run.specs.Tasks.{LaneIsReady, LaneIsDone};
+    ghost use Rattle.station_run.specs.Tasks.{LaneIsDone};
 
     // Serves the connections of the lane.
     fn serve<J: Naming, R: Wait>(
@@ -75,8 +75,7 @@ impl<B: BodyReading + Drop, P: Port + Drop> LaneWork<B, P> {
         alloc: Global,
         publisher: &Publisher<RouterTables, J>,
     ) -> Result<(), NoMemory>
-        requires station { self.old.pass.station ≡ J.site }
-        requires ready { LaneIsReady self.old }
+        requires { self.old.pass.station ≡ J.site }
         ensures { LaneIsDone B.meaning P.aside self.old self.new }
     {
         self.end = serve_feed::<B, P, J, R>(

@@ -3,7 +3,7 @@ ghost use Rattle.station_doors.specs.MemYard.{IsUntouched, IsIdle};
 
 use ip_prefix::Addr;
 use station_doors::{
-    HostYard, Link, LinkList, MemLink, MemYard, Port, PortList, SureLink, SurePort, Yard,
+    HostYard, Link, LinkList, Listening, MemLink, MemYard, Port, PortList, SureLink, SurePort, Yard,
 };
 use std::alloc::Global;
 use std::io;
@@ -18,6 +18,22 @@ const LOOPBACK: [u8; 4] = [127, 0, 0, 1];
 // A port of the loopback address that nobody listens at.
 fn free_port<N: Net<Listener = TcpListener, Stream = TcpStream>>(net: &N) -> io::Result<u16> {
     Ok(TcpListener::bind(net, "127.0.0.1:0")?.local_addr()?.port())
+}
+
+// Where so many of each are listened for, at shared ports, which give nobody up.
+fn place(feed_port: u16, ask_port: u16, count: u32) -> Listening
+    ensures { (result.feeds ≡ count) × (result.askers ≡ count) }
+{
+    Listening {
+        address: Addr::v4(LOOPBACK),
+        feeds: count,
+        askers: count,
+        feed_port,
+        ask_port,
+        shared: true,
+        idle: None,
+        ask_idle: None,
+    }
 }
 
 // A client of this port, whose reads end after ten seconds.
@@ -48,7 +64,7 @@ fn take_next<P: Port>(port: &mut P, buf: &mut [u8]) -> Result<(usize, usize), Fa
 fn lane_takes_one_router_after_another(rt: HostRuntime) -> Result<(), Fail> {
     let (feed_port, ask_port) = (free_port(&rt)?, free_port(&rt)?);
     let mut yard = HostYard::new(rt.alloc(), rt.stdin(), &rt)?;
-    let listens = yard.listen(&Addr::v4(LOOPBACK), feed_port, 1, ask_port, 1);
+    let listens = yard.listen(&place(feed_port, ask_port, 1));
     assert_eq!(rt; listens, Ok(()));
     let mut port = match yard.port(0) {
         Ok(port) => port,
@@ -73,7 +89,7 @@ fn lane_takes_one_router_after_another(rt: HostRuntime) -> Result<(), Fail> {
 fn asker_takes_one_client_after_another(rt: HostRuntime) -> Result<(), Fail> {
     let (feed_port, ask_port) = (free_port(&rt)?, free_port(&rt)?);
     let mut yard = HostYard::new(rt.alloc(), rt.stdin(), &rt)?;
-    let listens = yard.listen(&Addr::v4(LOOPBACK), feed_port, 1, ask_port, 1);
+    let listens = yard.listen(&place(feed_port, ask_port, 1));
     assert_eq!(rt; listens, Ok(()));
     let mut link = match yard.link(0) {
         Ok(link) => link,
@@ -148,12 +164,40 @@ fn talk<K: Link>(link: &mut K, buf: &mut [u8]) -> Result<(usize, bool, usize), F
     Ok((count, is_lost, all))
 }
 
+// Two lanes at one port take a router each, and a router that says nothing for a second is given up.
+#[test]
+fn shared_port_serves_two_and_gives_silence_up(rt: HostRuntime) -> Result<(), Fail> {
+    let (feed_port, ask_port) = (free_port(&rt)?, free_port(&rt)?);
+    let mut yard = HostYard::new(rt.alloc(), rt.stdin(), &rt)?;
+    let mut at = place(feed_port, ask_port, 2);
+    at.idle = Some(1);
+    assert_eq!(rt; yard.listen(&at), Ok(()));
+    let (mut one, mut two) = match (yard.port(0), yard.port(1)) {
+        (Ok(one), Ok(two)) => (one, two),
+        _ => return Err(Fail::from(NoMemory)),
+    };
+    let mut first = client(&rt, feed_port)?;
+    let _second = client(&rt, feed_port)?;
+    first.write_all(b"first")?;
+    assert_eq!(rt; one.next_connection(), Ok(true));
+    assert_eq!(rt; two.next_connection(), Ok(true));
+    let mut buf = vec![in rt.alloc(); 0u8; 65_536]?;
+    assert_eq!(rt; one.read(&mut buf), Ok(5));
+    assert_eq!(rt; one.read(&mut buf), Err(Failed));
+    assert_eq!(rt; two.read(&mut buf), Err(Failed));
+    one.close();
+    two.close();
+    yard.take_port(0, one);
+    yard.take_port(1, two);
+    Ok(())
+}
+
 #[test]
 fn yard_in_memory_shows_what_came_back(rt: HostRuntime) -> Result<(), Fail> {
     let alloc = rt.alloc();
     let links = one_link(alloc, "cut\n")?;
     let mut yard: MemYard<u8> = MemYard::new(alloc, no_ports(alloc), links, &[])?;
-    assert_eq!(rt; yard.listen(&Addr::v4(LOOPBACK), 1000, 1, 2000, 1), Ok(()));
+    assert_eq!(rt; yard.listen(&place(1000, 2000, 1)), Ok(()));
     let mut link = match yard.link(0) {
         Ok(link) => link,
         Err(Failed) => return Err(Fail::from(NoMemory)),

@@ -27,6 +27,9 @@ fn two_and_two() -> Listening
         askers: 2,
         feed_port: 5000,
         ask_port: 6000,
+        shared: false,
+        idle: None,
+        ask_idle: None,
     }
 }
 

@@ -35,7 +35,7 @@ fn read(alloc: Global, line: &str, address: &str) -> Result<Option<Numbers>, Fai
     Ok(Some((numbers, lenient, named)))
 }
 
-const ROWS: u32 = 7;
+const ROWS: u32 = 10;
 
 // Words, the address that they name, their numbers, and whether bodies are read leniently.
 fn worked(row: u32) -> (&'static str, &'static str, [u32; 5], bool) {
@@ -76,6 +76,24 @@ fn worked(row: u32) -> (&'static str, &'static str, [u32; 5], bool) {
             [64, 1, 1, 65, 1],
             false,
         ),
+        6 => (
+            "serve --feeds 64 --askers 64 --ports shared --feed-port 5 --ask-port 6 --rounds forever",
+            "127.0.0.1",
+            [64, 64, 5, 6, u32::MAX],
+            false,
+        ),
+        7 => (
+            "serve --feeds 1 --askers 1 --feed-port 5 --lenient --ask-port 6 --idle 86400 --rounds 9 --ask-idle=1",
+            "127.0.0.1",
+            [1, 1, 5, 6, 9],
+            true,
+        ),
+        8 => (
+            "serve --feeds 1 --askers 1 --ports=each --feed-port 5 --ask-port 6 --rounds=forever --lenient",
+            "127.0.0.1",
+            [1, 1, 5, 6, u32::MAX],
+            true,
+        ),
         _ => (
             "serve --feeds 1 --askers=64 --feed-port=65 --ask-port=1 --rounds 2",
             "127.0.0.1",
@@ -100,8 +118,27 @@ fn options_are_read(rt: HostRuntime) -> Result<(), Fail> {
 // Words that are none of `serve` are tried by the program's rows too, and more of them.
 #[test]
 fn a_number_out_of_range_is_usage(rt: HostRuntime) -> Result<(), Fail> {
-    let line = "serve --feeds=65 --askers=1 --feed-port=20179 --ask-port=20290 --rounds=1";
-    let found = read(rt.alloc(), line, "127.0.0.1")?;
-    assert!(rt; found == None);
+    let rest = "--askers=1 --feed-port=20179 --ask-port=20290";
+    for other in [
+        "--feeds=65 --rounds=1",
+        "--feeds=1 --rounds=0",
+        "--feeds=1 --rounds=4097",
+        "--feeds=1 --rounds=4294967295",
+        "--feeds=1 --rounds=Forever",
+        "--feeds=1 --rounds=forever --rounds=forever",
+        "--feeds=1 --rounds=1 --ports shared --ports shared",
+        "--feeds=1 --rounds=1 --ports=both",
+        "--feeds=1 --rounds=1 --idle 0",
+        "--feeds=1 --rounds=1 --ask-idle 86401",
+        "--feeds=1 --rounds=1 --idle",
+        "--feeds=1 --rounds=1 --lenient --lenient",
+        "--feeds=1 --rounds --lenient 1",
+        "--feeds=1 --rounds=1 --lenient=yes",
+        "--feeds=1 --rounds=1 --lenient=",
+    ] {
+        let line = format!(in rt.alloc(); "serve {rest} {other}")?;
+        let found = read(rt.alloc(), line.as_str(), "127.0.0.1")?;
+        assert!(rt; found == None, "{other}");
+    }
     Ok(())
 }

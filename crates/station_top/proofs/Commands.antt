@@ -1,5 +1,6 @@
 -- Which words are a query behind `replay`, and which are no command.
-use Rattle.std.proofs.Common.{◌≡◌, ◌≢◌, ℕ, ◌-◌, ◌<◌, List, [], ◌∷◌, length, map, get_or, take, drop, codes, Option, Some, None, IfSome, IfNone, refl, sym, ap, ◌∙◌, subst, arith}
+use Rattle.std.proofs.Common.{◌≡◌, ◌≢◌, ℕ, ◌-◌, ◌<◌, Bool, true, false, List, [], ◌∷◌, length, map, get_or, take, drop, codes, Option, Some, None, IfSome, IfNone, refl, sym, ap, ◌∙◌, subst, arith, inl, inr}
+use Rattle.std.specs.Prelude.{◌⊎◌}
 use Rattle.std.specs.List.{join_with_byte}
 use Rattle.std.proofs.lemmas.List.{take_rest}
 use Rattle.bmp_specs.specs.Query.{QueryValue, quit, space, IsQuery}
@@ -8,11 +9,11 @@ use Rattle.query_lang.specs.declared.query.Query.{Query}
 use Rattle.query_lang.specs.declared.query.Query.TheVariants.{Routers, Cut, Peers, Marks, Table, Count, Exact, Longest, Within, Origin, Stats, Changes, Quit}
 use Rattle.station_top.specs.DrillWords.{IsDrill}
 use Rattle.station_top.specs.ServeWords.{IsServe}
-use Rattle.station_top.specs.Words.{IsAsking, IsCommand}
+use Rattle.station_top.specs.Words.{IsAsking, IsCommand, IsPlain, IsReplay}
 use Rattle.station_top.specs.declared.drill_words.DrillWords.{DrillWords}
 use Rattle.station_top.specs.declared.serve_words.ServeWords.{ServeWords}
 use Rattle.station_top.specs.declared.words.Command.{Command}
-use Rattle.station_top.specs.declared.words.Command.TheVariants.{Replay, Check, Serve, Drill}
+use Rattle.station_top.specs.declared.words.Command.TheVariants.{Replay, Check, Serve, Drill, Help, Version}
 
 -- no other query is the end of a session
 pub not_quit : (query : Query) → ¬ (query ≡ Quit) → query_value query ≢ quit
@@ -47,46 +48,109 @@ first_word text (word ∷ words) first some is =
     let rest : take (length (word ∷ words) - 1) (drop 1 (word ∷ words)) ≡ words = take_rest (word ∷ words) 1 in
     ap (λ w. text w ∷ map text words) same ∙ ap (λ others. text first ∷ map text others) (sym rest)
 
-pub no_replay : (first : List ℕ) (asked : List (List ℕ)) → first ≡ codes "replay" → ((query : QueryValue) → IsAsking (join_with_byte space asked) query → ⊥) → (command : Command) → IsCommand command (first ∷ asked) → ⊥
-no_replay first asked is none (Replay query) r =
-    let same : r.asked ≡ asked = cc r.spelled in
-    none (query_value query) (subst (λ (words : List (List ℕ)). IsAsking (join_with_byte space words) (query_value query)) same r.is_asking)
-no_replay first asked is none (Serve serve) (options, e, given) =
-    let other : codes "replay" ≡ codes "serve" = cc (is, e) in
-    absurd (omega (arith, ap length other))
-no_replay first asked is none Check e =
-    let other : codes "replay" ≡ codes "check" = cc (is, e) in
-    absurd (omega (arith, ap length other))
-no_replay first asked is none (Drill drill) (numbers, e, given) =
-    let other : codes "replay" ≡ codes "drill" = cc (is, e) in
-    absurd (omega (arith, ap length other))
+-- the plain words are the same, however they are taken
+pub same_plain : (b d : Bool) (given plain more : List (List ℕ)) → IsPlain b given plain → IsPlain d given more → (plain ≡ more) × (b ≡ d)
+same_plain true true given plain more is also = (let both : codes "--lenient" ∷ plain ≡ codes "--lenient" ∷ more = sym is ∙ also in cc both, refl)
+same_plain true false given plain more is also = absurd (also.1 plain is)
+same_plain false true given plain more is also = absurd (is.1 more also)
+same_plain false false given plain more is also = (is.0 ∙ sym also.0, refl)
 
-pub no_serve : (first : List ℕ) (options : List (List ℕ)) → first ≡ codes "serve" → ((serve : ServeWords) → IsServe serve options → ⊥) → (command : Command) → IsCommand command (first ∷ options) → ⊥
-no_serve first options is none (Serve serve) (given, e, are) =
-    let same : given ≡ options = cc e in
-    none serve (subst (λ (words : List (List ℕ)). IsServe serve words) same are)
-no_serve first options is none (Replay query) r =
-    let spelled = r.spelled in
-    let other : codes "serve" ≡ codes "replay" = cc (is, spelled) in
-    absurd (omega (arith, ap length other))
-no_serve first options is none Check e =
-    let other : codes "serve" ≡ codes "check" = cc (is, e) in
-    absurd (omega (arith, ap (λ (l : List ℕ). get_or l 0 0) other))
-no_serve first options is none (Drill drill) (numbers, e, given) =
-    let other : codes "serve" ≡ codes "drill" = cc (is, e) in
-    absurd (omega (arith, ap (λ (l : List ℕ). get_or l 0 0) other))
+pub no_plain : (b : Bool) (given plain : List (List ℕ)) → IsPlain b given plain → plain ≢ [] → (d : Bool) → IsPlain d given [] → ⊥
+no_plain b given plain is some d also = some (same_plain b d given plain [] is also).0
 
-pub no_drill : (first : List ℕ) (numbers : List (List ℕ)) → first ≡ codes "drill" → ((drill : DrillWords) → IsDrill drill numbers → ⊥) → (command : Command) → IsCommand command (first ∷ numbers) → ⊥
-no_drill first numbers is none (Drill drill) (given, e, are) =
-    let same : given ≡ numbers = cc e in
-    none drill (subst (λ (words : List (List ℕ)). IsDrill drill words) same are)
-no_drill first numbers is none (Replay query) r =
-    let spelled = r.spelled in
-    let other : codes "drill" ≡ codes "replay" = cc (is, spelled) in
-    absurd (omega (arith, ap length other))
-no_drill first numbers is none (Serve serve) (options, e, given) =
-    let other : codes "drill" ≡ codes "serve" = cc (is, e) in
-    absurd (omega (arith, ap (λ (l : List ℕ). get_or l 0 0) other))
-no_drill first numbers is none Check e =
-    let other : codes "drill" ≡ codes "check" = cc (is, e) in
-    absurd (omega (arith, ap (λ (l : List ℕ). get_or l 0 0) other))
+pub no_asking : (b : Bool) (given asked : List (List ℕ)) → IsPlain b given asked → ((query : QueryValue) → IsAsking (join_with_byte space asked) query → ⊥) → (query : QueryValue) (d : Bool) → IsReplay query d given → ⊥
+no_asking b given asked is none query d (others, plain, asks) =
+    let same = (same_plain b d given asked others is plain).0 in
+    none query (subst (λ (words : List (List ℕ)). IsAsking (join_with_byte space words) query) (sym same) asks)
+
+-- the first letter of a command's name
+letter : (first name : List ℕ) (n : ℕ) → first ≡ name → get_or name 0 0 ≡ n → get_or first 0 0 ≡ n
+letter first name n is at = ap (λ (l : List ℕ). get_or l 0 0) is ∙ at
+
+help_letter : (first : List ℕ) → (first ≡ codes "--help") ⊎ (first ≡ codes "-h") → get_or first 0 0 ≡ 45
+help_letter first (inl is) = letter first (codes "--help") 45 is refl
+help_letter first (inr is) = letter first (codes "-h") 45 is refl
+
+version_letter : (first : List ℕ) → (first ≡ codes "--version") ⊎ (first ≡ codes "-V") → get_or first 0 0 ≡ 45
+version_letter first (inl is) = letter first (codes "--version") 45 is refl
+version_letter first (inr is) = letter first (codes "-V") 45 is refl
+
+-- the first letter tells the command
+abbrev pub LetterOf : Command → ℕ
+LetterOf (Replay query) = 114
+LetterOf Check = 99
+LetterOf (Serve serve) = 115
+LetterOf (Drill drill) = 100
+LetterOf Help = 45
+LetterOf Version = 45
+
+has_letter : (command : Command) (lenient : Bool) (first : List ℕ) (given : List (List ℕ)) → IsCommand command lenient first given → get_or first 0 0 ≡ LetterOf command
+has_letter (Replay query) lenient first given is = letter first (codes "replay") 114 is.0 refl
+has_letter Check lenient first given is = letter first (codes "check") 99 is.0 refl
+has_letter (Serve serve) lenient first given is = letter first (codes "serve") 115 is.0 refl
+has_letter (Drill drill) lenient first given is = letter first (codes "drill") 100 is.0 refl
+has_letter Help lenient first given is = help_letter first is.0
+has_letter Version lenient first given is = version_letter first is.0
+
+module _ (first : List ℕ) (given : List (List ℕ)) where
+  pub no_replay : first ≡ codes "replay" → ((query : QueryValue) (lenient : Bool) → IsReplay query lenient given → ⊥) → (command : Command) (lenient : Bool) → IsCommand command lenient first given → ⊥
+  no_replay named none command lenient is = go command is (letter first (codes "replay") 114 named refl) (has_letter command lenient first given is)
+    where
+      go : (command : Command) → IsCommand command lenient first given → get_or first 0 0 ≡ 114 → get_or first 0 0 ≡ LetterOf command → ⊥
+      go (Replay query) is one two = none (query_value query) lenient is.1
+      go Check is one two = absurd (omega (arith, one, two))
+      go (Serve serve) is one two = absurd (omega (arith, one, two))
+      go (Drill drill) is one two = absurd (omega (arith, one, two))
+      go Help is one two = absurd (omega (arith, one, two))
+      go Version is one two = absurd (omega (arith, one, two))
+
+  pub no_serve : first ≡ codes "serve" → ((serve : ServeWords) (lenient : Bool) → IsServe serve lenient given → ⊥) → (command : Command) (lenient : Bool) → IsCommand command lenient first given → ⊥
+  no_serve named none command lenient is = go command is (letter first (codes "serve") 115 named refl) (has_letter command lenient first given is)
+    where
+      go : (command : Command) → IsCommand command lenient first given → get_or first 0 0 ≡ 115 → get_or first 0 0 ≡ LetterOf command → ⊥
+      go (Serve serve) is one two = none serve lenient is.1
+      go (Replay query) is one two = absurd (omega (arith, one, two))
+      go Check is one two = absurd (omega (arith, one, two))
+      go (Drill drill) is one two = absurd (omega (arith, one, two))
+      go Help is one two = absurd (omega (arith, one, two))
+      go Version is one two = absurd (omega (arith, one, two))
+
+  pub no_check : first ≡ codes "check" → ((lenient : Bool) → IsPlain lenient given [] → ⊥) → (command : Command) (lenient : Bool) → IsCommand command lenient first given → ⊥
+  no_check named none command lenient is = go command is (letter first (codes "check") 99 named refl) (has_letter command lenient first given is)
+    where
+      go : (command : Command) → IsCommand command lenient first given → get_or first 0 0 ≡ 99 → get_or first 0 0 ≡ LetterOf command → ⊥
+      go Check is one two = none lenient is.1
+      go (Replay query) is one two = absurd (omega (arith, one, two))
+      go (Serve serve) is one two = absurd (omega (arith, one, two))
+      go (Drill drill) is one two = absurd (omega (arith, one, two))
+      go Help is one two = absurd (omega (arith, one, two))
+      go Version is one two = absurd (omega (arith, one, two))
+
+  pub no_drill : first ≡ codes "drill" → ((drill : DrillWords) → IsDrill drill given → ⊥) → (command : Command) (lenient : Bool) → IsCommand command lenient first given → ⊥
+  no_drill named none command lenient is = go command is (letter first (codes "drill") 100 named refl) (has_letter command lenient first given is)
+    where
+      go : (command : Command) → IsCommand command lenient first given → get_or first 0 0 ≡ 100 → get_or first 0 0 ≡ LetterOf command → ⊥
+      go (Drill drill) is one two = none drill is.1
+      go (Replay query) is one two = absurd (omega (arith, one, two))
+      go Check is one two = absurd (omega (arith, one, two))
+      go (Serve serve) is one two = absurd (omega (arith, one, two))
+      go Help is one two = absurd (omega (arith, one, two))
+      go Version is one two = absurd (omega (arith, one, two))
+
+  -- no other command is left
+  module _ (replay : first ≢ codes "replay") (serve : first ≢ codes "serve") (check : first ≢ codes "check") (drill : first ≢ codes "drill") where
+    pub no_more : given ≢ [] → (command : Command) (lenient : Bool) → IsCommand command lenient first given → ⊥
+    no_more some (Replay query) lenient is = replay is.0
+    no_more some Check lenient is = check is.0
+    no_more some (Serve words) lenient is = serve is.0
+    no_more some (Drill words) lenient is = drill is.0
+    no_more some Help lenient is = some is.1
+    no_more some Version lenient is = some is.1
+
+    pub no_other : ((first ≡ codes "--help") ⊎ (first ≡ codes "-h") → ⊥) → ((first ≡ codes "--version") ⊎ (first ≡ codes "-V") → ⊥) → (command : Command) (lenient : Bool) → IsCommand command lenient first given → ⊥
+    no_other help version (Replay query) lenient is = replay is.0
+    no_other help version Check lenient is = check is.0
+    no_other help version (Serve words) lenient is = serve is.0
+    no_other help version (Drill words) lenient is = drill is.0
+    no_other help version Help lenient is = help is.0
+    no_other help version Version lenient is = version is.0

@@ -19,10 +19,11 @@ use Rattle.wire_io.proofs.Joins.{join, appends_none, keeps_appends}
 use Rattle.bmp_message.specs.Effects.{GivesMessages}
 use Rattle.station_doors.specs.Doors.{YardValue, HandsOut, TakesBack, one_more, untouched}
 use Rattle.query_eval.specs.Replies.{PutsReply}
-use Rattle.station_top.specs.Station.{LendsWhereTold, IsWritten, IsTaken, FromYard, IsReplyTo, IsStopped, TakesOneInput, Runs, refused, replied, starved, unready, called, Concludes, CallConcludes, Answers, replied_to, served, drilled, DrillMeans, drilled_whole, drill_starved, DrillConcludes, AnswersFault}
+use Rattle.station_top.specs.Station.{Explains, explained, LendsWhereTold, IsWritten, IsTaken, FromYard, IsReplyTo, IsStopped, TakesOneInput, Runs, refused, replied, starved, unready, called, Concludes, CallConcludes, Answers, replied_to, served, drilled, DrillMeans, drilled_whole, drill_starved, DrillConcludes, AnswersFault}
 use Rattle.station_top.specs.Status.{status_of, status_served}
 use Rattle.station_top.specs.Take.{TakesInput, BreaksOff}
-use Rattle.station_top.specs.Words.{IsCall, MayBeLenient}
+use Rattle.station_top.specs.Words.{IsCall}
+use Rattle.station_top.specs.Explain.{help_text, version_line}
 use Rattle.station_run.specs.Serve.{AnswersFault as EndsFault}
 use Rattle.station_run.specs.declared.outcome.Outcome.{Outcome}
 use Rattle.station_run.specs.declared.outcome.Outcome.TheVariants as outcome
@@ -31,7 +32,7 @@ use Rattle.station_top.specs.declared.drill_words.DrillWords.{DrillWords}
 use Rattle.station_top.specs.declared.serve_words.ServeWords.{ServeWords}
 use Rattle.station_top.specs.declared.words.Call.{Call}
 use Rattle.station_top.specs.declared.words.Command.{Command}
-use Rattle.station_top.specs.declared.words.Command.TheVariants.{Replay, Check, Serve, Drill}
+use Rattle.station_top.specs.declared.words.Command.TheVariants.{Replay, Check, Serve, Drill, Help, Version}
 use Rattle.station_top.specs.declared.status.Status.{Status}
 use Rattle.station_top.specs.declared.status.Status.TheVariants.{Done, Stopped, Usage, ReadFault, WriteFault, NoMemory, YardFault}
 use Rattle.station_top.specs.declared.take.Taken.{Taken}
@@ -144,11 +145,6 @@ concludes_unread meaning Stands Replies old new number told Usage from = absurd 
 concludes_unread meaning Stands Replies old new number told ReadFault from = absurd from
 concludes_unread meaning Stands Replies old new number told WriteFault from = absurd from
 
--- a command that is never lenient
-not_lenient : {P : Type 0} → ⊥ ⊎ P → P
-not_lenient (inl none) = absurd none
-not_lenient (inr p) = p
-
 -- the words are a call
 pub answers_called : (Serves : Meaning → ServeWords → Outcome → Type 0) (call : Call) (words : List (List ℕ)) (old new : Option YardValue) (number calls : ℕ) (told0 told1 : Option (List ℕ)) (status : Status) → IsCall call words → CallConcludes (Serves (meaning_of call.lenient)) call.command (meaning_of call.lenient) old new number calls told0 told1 status
     → Answers Serves words old new number calls told0 told1 status
@@ -162,9 +158,10 @@ answers_called Serves call words old new number calls told0 told1 status is c = 
     go Check same (counted, k) = takes Check same tt counted k
     go (Serve serve) same (outcome, comes, ends) = served serve call.lenient outcome (subst (λ (m : Command). IsCall (record { command = m; lenient = call.lenient }) words) same is) comes ends
     go (Drill drill) same (still, uncalled, k) =
-        let strict : call.lenient ≡ false = not_lenient (subst (λ (m : Command). MayBeLenient m ⊎ (call.lenient ≡ false)) same is.may_be_lenient) in
         let of_drill : IsCall (record { command = Drill drill; lenient = call.lenient }) words = subst (λ (m : Command). IsCall (record { command = m; lenient = call.lenient }) words) same is in
-        drilled drill (subst (λ (b : Bool). IsCall (record { command = Drill drill; lenient = b }) words) strict of_drill) still uncalled k
+        drilled drill (subst (λ (b : Bool). IsCall (record { command = Drill drill; lenient = b }) words) of_drill.is_command.2 of_drill) still uncalled k
+    go Help same (still, uncalled, k) = explained call help_text is (subst (λ (m : Command). Explains m help_text) (sym same) refl) still uncalled k
+    go Version same (still, uncalled, k) = explained call version_line is (subst (λ (m : Command). Explains m version_line) (sym same) refl) still uncalled k
 
 -- a fault of a station that served is answered exactly where one was counted
 write_only : (o : Outcome) → status_served o ≡ WriteFault → o ≡ outcome.WriteFault

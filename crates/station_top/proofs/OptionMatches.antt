@@ -8,25 +8,34 @@ use Rattle.clap.specs.Walk.{Row, Rule, Text, first_of, has_row, idle, nothing_he
 use Rattle.clap.specs.Simple.{matches_of, is_simple}
 use Rattle.clap.specs.Faults.{fault_of, is_simple_and_free, settle_fault, walk_fault, entered_fault}
 use Rattle.station_top.specs.ServeOptions.{IsTold, dashed, option_names, serve_app}
-use Rattle.station_top.specs.ServeWords.{Setting, AreSettings, IsInFront, IsOption, values_of}
-use Rattle.station_top.proofs.OptionWalk.{IsAmongNames, Pairs, Passes, Uses, at, hold, ready, rules, row, first_empty, read, is_dashes, walk_end}
+use Rattle.station_top.specs.ServeWords.{Setting, AreSettings, IsInFront, IsOption, flag, flag_alone, one_word, two_words, values_of}
+use Rattle.station_top.proofs.OptionWalk.{IsAmongNames, flag_name, ready_flag, Pairs, Passes, Uses, at, hold, ready, rules, row, first_empty, read, is_dashes, walk_end}
 
 abbrev pub settings_of : Pairs → List Setting
 settings_of = map (λ s. (dashed s.0, s.1))
 
 -- each name that the command has is an option
 pub is_option : (name : Text) → IsAmongNames name option_names → IsOption (dashed name)
-is_option name (inl e) = inl (ap dashed (sym e))
-is_option name (inr (inl e)) = inr (inl (ap dashed (sym e)))
-is_option name (inr (inr (inl e))) = inr (inr (inl (ap dashed (sym e))))
-is_option name (inr (inr (inr (inl e)))) = inr (inr (inr (inl (ap dashed (sym e)))))
-is_option name (inr (inr (inr (inr (inl e))))) = inr (inr (inr (inr (inl (ap dashed (sym e))))))
-is_option name (inr (inr (inr (inr (inr (inl e)))))) = inr (inr (inr (inr (inr (ap dashed (sym e))))))
-is_option name (inr (inr (inr (inr (inr (inr none)))))) = elim none [ ]
+is_option name (inl (e)) = inl (ap dashed (sym e))
+is_option name (inr (inl (e))) = inr (inl (ap dashed (sym e)))
+is_option name (inr (inr (inl (e)))) = inr (inr (inl (ap dashed (sym e))))
+is_option name (inr (inr (inr (inl (e))))) = inr (inr (inr (inl (ap dashed (sym e)))))
+is_option name (inr (inr (inr (inr (inl (e)))))) = inr (inr (inr (inr (inl (ap dashed (sym e))))))
+is_option name (inr (inr (inr (inr (inr (inl (e))))))) = inr (inr (inr (inr (inr (inl (ap dashed (sym e)))))))
+is_option name (inr (inr (inr (inr (inr (inr (inl (e)))))))) = inr (inr (inr (inr (inr (inr (inl (ap dashed (sym e))))))))
+is_option name (inr (inr (inr (inr (inr (inr (inr (inl (e))))))))) = inr (inr (inr (inr (inr (inr (inr (inl (ap dashed (sym e)))))))))
+is_option name (inr (inr (inr (inr (inr (inr (inr (inr (inl (e)))))))))) = inr (inr (inr (inr (inr (inr (inr (inr (ap dashed (sym e)))))))))
+is_option name (inr (inr (inr (inr (inr (inr (inr (inr (inr none))))))))) = elim none [ ]
 
 pub are_settings : (ss : Pairs) (words : List Text) (rows end : List Row) → Uses option_names ss words rows end → AreSettings (settings_of ss) words
 are_settings [] words rows end (none, same) = none
-are_settings (s ∷ ss) words rows end (others, among, free, spelled, uses) = (others, record { is_option = is_option s.0 among; spelled = spelled }, are_settings ss others (rows ++ row s.0 s.1 ∷ []) end uses)
+are_settings (s ∷ ss) words rows end (others, free, inl (among, inl is), uses) = (others, two_words (is_option s.0 among) is, are_settings ss others (rows ++ row s.0 s.1 ∷ []) end uses)
+are_settings (s ∷ ss) words rows end (others, free, inl (among, inr is), uses) = (others, one_word (is_option s.0 among) is, are_settings ss others (rows ++ row s.0 s.1 ∷ []) end uses)
+are_settings (s ∷ ss) words rows end (others, free, inr (named, valued, is), uses) = (
+  others,
+  flag_alone (ap (λ (t : Text). (dashed t, s.1)) named ∙ ap (λ (v : Text). (flag, v)) valued) (is ∙ ap (λ (t : Text). dashed t ∷ others) named),
+  are_settings ss others (rows ++ row s.0 s.1 ∷ []) end uses,
+)
 
 -- ---- the rows
 
@@ -60,7 +69,7 @@ only_new name (x ∷ xs) new none = go (bytes_eq x.id name) refl (λ h. only_new
 -- an option that has a row is given no more
 pub row_stays : (name : Text) (r : Row) (ss : Pairs) (words : List Text) (rows end : List Row) → Uses option_names ss words rows end → row_at name rows ≡ Some r → (row_at name end ≡ Some r) × (values_of (dashed name) (settings_of ss) ≡ [])
 row_stays name r [] words rows end (none, same) some = (ap (row_at name) same ∙ some, refl)
-row_stays name r (s ∷ ss) words rows end (others, among, free, spelled, uses) some = go (bytes_eq s.0 name) refl (row_stays name r ss others (rows ++ row s.0 s.1 ∷ []) end uses (still_there name rows r (row s.0 s.1) some))
+row_stays name r (s ∷ ss) words rows end (others, free, stands, uses) some = go (bytes_eq s.0 name) refl (row_stays name r ss others (rows ++ row s.0 s.1 ∷ []) end uses (still_there name rows r (row s.0 s.1) some))
   where
     go : (b : Bool) → bytes_eq s.0 name ≡ b → (row_at name end ≡ Some r) × (values_of (dashed name) (settings_of ss) ≡ []) → (row_at name end ≡ Some r) × (values_of (dashed name) (settings_of (s ∷ ss)) ≡ [])
     go true is rest =
@@ -70,7 +79,7 @@ row_stays name r (s ∷ ss) words rows end (others, among, free, spelled, uses) 
 
 pub told_of : (name : Text) (ss : Pairs) (words : List Text) (rows end : List Row) → Uses option_names ss words rows end → row_at name rows ≡ None → IsTold (values_of (dashed name) (settings_of ss)) (first_of name end)
 told_of name [] words rows end (none, same) gone = rw (same, gone) refl
-told_of name (s ∷ ss) words rows end (others, among, free, spelled, uses) gone = go (bytes_eq s.0 name) refl (λ h. told_of name ss others (rows ++ row s.0 s.1 ∷ []) end uses h)
+told_of name (s ∷ ss) words rows end (others, free, stands, uses) gone = go (bytes_eq s.0 name) refl (λ h. told_of name ss others (rows ++ row s.0 s.1 ∷ []) end uses h)
   where
     go : (b : Bool) → bytes_eq s.0 name ≡ b → (row_at name (rows ++ row s.0 s.1 ∷ []) ≡ None → IsTold (values_of (dashed name) (settings_of ss)) (first_of name end)) → IsTold (values_of (dashed name) (settings_of (s ∷ ss))) (first_of name end)
     go true is rest =
@@ -91,7 +100,11 @@ default_keeps n rows = go (has_row n.0 rows) refl
     go false is = rw is refl
 
 no_defaults : (ns : List (List ℕ × Bool)) (rows : List Row) → fold with_default rows (rules ns) ≡ rows
-no_defaults [] rows = refl
+no_defaults [] rows = go (has_row flag_name rows) refl
+  where
+    go : (b : Bool) → has_row flag_name rows ≡ b → with_default rows ready_flag ≡ rows
+    go true is = rw is refl
+    go false is = rw is refl
 no_defaults (n ∷ ns) rows = ap (λ (l : List Row). fold with_default l (rules ns)) (default_keeps n rows) ∙ no_defaults ns rows
 
 pub is_simple_app : is_simple_and_free serve_app ≡ true

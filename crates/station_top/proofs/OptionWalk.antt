@@ -15,17 +15,24 @@ use Rattle.clap.specs.declared.builder.value_parser.ValueParser.TheVariants as v
 use Rattle.clap.specs.declared.builder.value_parser.Reading.TheVariants as reading
 use Rattle.clap.specs.declared.parser.matches.ValueSource.TheVariants.{CommandLine}
 use Rattle.clap.specs.Lexer.{has_byte, long_of, long_of_rest, short_of}
-use Rattle.station_top.specs.ServeOptions.{option_rule}
+use Rattle.station_top.specs.ServeOptions.{option_rule, flag_rule}
 
 -- an option as building leaves it
 abbrev pub ready : List ℕ × Bool → Rule
 ready named = filled (option_rule named)
 
-abbrev pub rules : List (List ℕ × Bool) → List Rule
-rules names = map ready names
+-- the flag
+abbrev pub flag_name : Text
+flag_name = codes "lenient"
 
--- positions are given to no option
-pub filled_options : (names : List (List ℕ × Bool)) → filled_from 1 (map option_rule names) ≡ rules names
+abbrev pub ready_flag : Rule
+ready_flag = filled flag_rule
+
+abbrev pub rules : List (List ℕ × Bool) → List Rule
+rules names = map ready names ++ ready_flag ∷ []
+
+-- positions are given to none
+pub filled_options : (names : List (List ℕ × Bool)) → filled_from 1 (map option_rule names ++ flag_rule ∷ []) ≡ rules names
 filled_options [] = refl
 filled_options (n ∷ ns) = ap (λ (l : List Rule). ready n ∷ l) (filled_options ns)
 
@@ -43,30 +50,40 @@ IsAmongNames name [] = ⊥
 IsAmongNames name (n ∷ ns) = (n.0 ≡ name) ⊎ IsAmongNames name ns
 
 abbrev pub Looked : List (List ℕ × Bool) → Text → Option Rule → Type 0
-Looked names name None = IsAmongNames name names → ⊥
-Looked names name (Some rule) = IsAmongNames name names × ((n : List ℕ × Bool) × (n.0 ≡ name) × (rule ≡ ready n))
+Looked names name None = (IsAmongNames name names → ⊥) × (name ≢ flag_name)
+Looked names name (Some rule) = (IsAmongNames name names × ((n : List ℕ × Bool) × (n.0 ≡ name) × (rule ≡ ready n))) ⊎ ((IsAmongNames name names → ⊥) × (name ≡ flag_name) × (rule ≡ ready_flag))
+
+not_among : (n : List ℕ × Bool) (ns : List (List ℕ × Bool)) (name : Text) → n.0 ≢ name → (IsAmongNames name ns → ⊥) → IsAmongNames name (n ∷ ns) → ⊥
+not_among n ns name other none (inl e) = other e
+not_among n ns name other none (inr rest) = none rest
 
 looked_more : (n : List ℕ × Bool) (ns : List (List ℕ × Bool)) (name : Text) (r : Option Rule) → n.0 ≢ name → Looked ns name r → Looked (n ∷ ns) name r
-looked_more n ns name None other l = λ among. elim among [
-  | inl e ↦ other e
-  | inr rest ↦ l rest
-]
-looked_more n ns name (Some rule) other l = (inr l.0, l.1)
+looked_more n ns name None other (none, apart) = (not_among n ns name other none, apart)
+looked_more n ns name (Some rule) other (inl (among, is)) = inl (inr among, is)
+looked_more n ns name (Some rule) other (inr (none, same, is)) = inr (not_among n ns name other none, same, is)
 
 pub by_id : (names : List (List ℕ × Bool)) (name : Text) → Looked names name (arg_by_id (rules names) name)
-by_id [] name = λ among. among
+by_id [] name = go (bytes_eq flag_name name) refl
+  where
+    go : (b : Bool) → bytes_eq flag_name name ≡ b → Looked [] name (arg_by_id (rules []) name)
+    go true e = rw e (inr ((λ among. among), sym ((bytes_eq-Decides flag_name name).0 e), refl))
+    go false e = rw e ((λ among. among), (λ same. cc (sym e ∙ (bytes_eq-Decides flag_name name).1 (sym same))))
 by_id (n ∷ ns) name = go (bytes_eq n.0 name) refl (by_id ns name)
   where
     go : (b : Bool) → bytes_eq n.0 name ≡ b → Looked ns name (arg_by_id (rules ns) name) → Looked (n ∷ ns) name (arg_by_id (rules (n ∷ ns)) name)
-    go true e rest = rw e (inl ((bytes_eq-Decides n.0 name).0 e), (n, (bytes_eq-Decides n.0 name).0 e, refl))
+    go true e rest = rw e (inl (inl ((bytes_eq-Decides n.0 name).0 e), (n, (bytes_eq-Decides n.0 name).0 e, refl)))
     go false e rest = rw e (looked_more n ns name _ (λ same. cc (sym e ∙ (bytes_eq-Decides n.0 name).1 same)) rest)
 
 pub by_long : (names : List (List ℕ × Bool)) (name : Text) → Looked names name (arg_by_long (rules names) name)
-by_long [] name = λ among. among
+by_long [] name = go (bytes_eq flag_name name) refl
+  where
+    go : (b : Bool) → bytes_eq flag_name name ≡ b → Looked [] name (arg_by_long (rules []) name)
+    go true e = rw e (inr ((λ among. among), sym ((bytes_eq-Decides flag_name name).0 e), refl))
+    go false e = rw e ((λ among. among), (λ same. cc (sym e ∙ (bytes_eq-Decides flag_name name).1 (sym same))))
 by_long (n ∷ ns) name = go (bytes_eq n.0 name) refl (by_long ns name)
   where
     go : (b : Bool) → bytes_eq n.0 name ≡ b → Looked ns name (arg_by_long (rules ns) name) → Looked (n ∷ ns) name (arg_by_long (rules (n ∷ ns)) name)
-    go true e rest = rw e (inl ((bytes_eq-Decides n.0 name).0 e), (n, (bytes_eq-Decides n.0 name).0 e, refl))
+    go true e rest = rw e (inl (inl ((bytes_eq-Decides n.0 name).0 e), (n, (bytes_eq-Decides n.0 name).0 e, refl)))
     go false e rest = rw e (looked_more n ns name _ (λ same. cc (sym e ∙ (bytes_eq-Decides n.0 name).1 same)) rest)
 
 -- the row of a value
@@ -99,6 +116,22 @@ use_once n value rows passes = go (has_row n.0 rows) refl
 
 pub use_empty : (n : List ℕ × Bool) (rows : List Row) → use_fault false (ready n) [] rows ≡ kind.InvalidValue ∷ []
 use_empty n rows = refl
+
+-- the same of the flag
+pub flag_used : (rows : List Row) → has_row flag_name rows ≡ false → used ready_flag [] rows ≡ rows ++ row flag_name [] ∷ []
+flag_used rows none =
+    let gone : without flag_name rows ≡ rows = none_changed flag_name (λ _. []) [] rows none ∙ append-nil rows in
+    ap (λ (l : List Row). with_values flag_name reading.AsWritten CommandLine ([] ∷ []) l) gone ∙ none_changed flag_name (more_values CommandLine ([] ∷ [])) _ rows none
+
+pub flag_passes : (rows : List Row) → has_row flag_name rows ≡ false → use_fault false ready_flag [] rows ≡ []
+flag_passes rows none = rw none refl
+
+pub flag_once : (rows : List Row) → use_fault false ready_flag [] rows ≡ [] → has_row flag_name rows ≡ false
+flag_once rows passes = go (has_row flag_name rows) refl
+  where
+    go : (b : Bool) → has_row flag_name rows ≡ b → has_row flag_name rows ≡ false
+    go true e = let p = rw e at passes in cc p
+    go false e = e
 
 -- ---- one word
 
@@ -137,8 +170,9 @@ pub unsettled : (ns : List (List ℕ × Bool)) (n : List ℕ × Bool) (rows : Li
 unsettled ns n rows among = go (arg_by_id (rules ns) n.0) refl (by_id ns n.0)
   where
     go : (r : Option Rule) → arg_by_id (rules ns) n.0 ≡ r → Looked ns n.0 r → settle_fault (rules ns) false (hold rows (Some (n.0, []))) ≡ [] → ⊥
-    go None e l = absurd (l among)
-    go (Some rule) e (a, (m, same, is)) = λ passes. let p = rw (e, is) at passes in cc p
+    go None e l = absurd (l.0 among)
+    go (Some rule) e (inr (out, same, is)) = absurd (out among)
+    go (Some rule) e (inl (a, (m, same, is))) = λ passes. let p = rw (e, is) at passes in cc p
 
 -- a word that an option waits for is its value
 pub waiting_plain : (ns : List (List ℕ × Bool)) (n : List ℕ × Bool) (word : Text) (rows : List Row) → is_dashes word ≡ false → long_of word ≡ None → short_of word ≡ None → IsAmongNames n.0 ns →
@@ -147,8 +181,9 @@ unfolding walked
 waiting_plain ns n word rows dashes long short among = go (arg_by_id (rules ns) n.0) refl (by_id ns n.0)
   where
     go : (r : Option Rule) → arg_by_id (rules ns) n.0 ≡ r → Looked ns n.0 r → walked (rules ns) [] (at (hold rows (Some (n.0, []))) (option n.0)) word ≡ at (hold rows (Some (n.0, word ∷ []))) idle
-    go None e l = absurd (l among)
-    go (Some rule) e (a, (m, same, is)) = rw (dashes, long, short, e, is, (bytes_eq-Decides n.0 m.0).1 (sym same)) refl
+    go None e l = absurd (l.0 among)
+    go (Some rule) e (inr (out, same, is)) = absurd (out among)
+    go (Some rule) e (inl (a, (m, same, is))) = rw (dashes, long, short, e, is, (bytes_eq-Decides n.0 m.0).1 (sym same)) refl
 
 pub no_flags : (word : Text) → short_of word ≡ Some [] → ⊥
 no_flags [] e = cc e
@@ -174,8 +209,9 @@ waiting_short ns n word (f ∷ fs) rows dashes long short among passes = go (sli
   where
     go : (x : Option ℕ) → slice_get (chars (f ∷ fs)) 0 ≡ x → (r : Option Rule) → arg_by_id (rules ns) n.0 ≡ r → Looked ns n.0 r → walked (rules ns) [] (at (hold rows (Some (n.0, []))) (option n.0)) word ≡ at (hold rows (Some (n.0, word ∷ []))) idle
     go (Some x) is r e l = let h = rw (dashes, long, short, is, by_short ns x) at passes in cc h
-    go None is None e l = absurd (l among)
-    go None is (Some rule) e (a, (m, same, made)) = rw (dashes, long, short, is, e, made, (bytes_eq-Decides n.0 m.0).1 (sym same)) refl
+    go None is None e l = absurd (l.0 among)
+    go None is (Some rule) e (inr (out, same, made)) = absurd (out among)
+    go None is (Some rule) e (inl (a, (m, same, made))) = rw (dashes, long, short, is, e, made, (bytes_eq-Decides n.0 m.0).1 (sym same)) refl
 
 -- a plain word and a short option are unknown where nothing waits
 pub idle_plain : (ns : List (List ℕ × Bool)) (word : Text) (rows : List Row) (pending : Option (Text × List Text)) → is_dashes word ≡ false → long_of word ≡ None → short_of word ≡ None →
@@ -213,6 +249,17 @@ pub long_alone : (ns : List (List ℕ × Bool)) (n : List ℕ × Bool) (word nam
 unfolding walked
 long_alone ns n word name rows pending dashes long some = (rw (dashes, long, some) refl, rw (dashes, long, some) refl)
 
+pub long_flag : (ns : List (List ℕ × Bool)) (word : Text) (rows : List Row) (pending : Option (Text × List Text)) → is_dashes word ≡ false → long_of word ≡ Some (flag_name, None) → arg_by_long (rules ns) flag_name ≡ Some ready_flag →
+    (turn_fault (shape ns) [] (at (hold rows pending) idle) word ≡ or_else (or_else (settle_fault (rules ns) false (hold rows pending)) (use_fault false ready_flag [] (settled_by ns rows pending))) [])
+    × (walked (rules ns) [] (at (hold rows pending) idle) word ≡ at (hold (used ready_flag [] (settled_by ns rows pending)) None) idle)
+unfolding walked
+long_flag ns word rows pending dashes long some = (rw (dashes, long, some) refl, rw (dashes, long, some) refl)
+
+-- the flag has no value
+pub flag_valued : (ns : List (List ℕ × Bool)) (word name value : Text) (rows : List Row) (pending : Option (Text × List Text)) → is_dashes word ≡ false → long_of word ≡ Some (name, Some value) → arg_by_long (rules ns) name ≡ Some ready_flag →
+    turn_fault (shape ns) [] (at (hold rows pending) idle) word ≡ kind.TooManyValues ∷ []
+flag_valued ns word name value rows pending dashes long some = rw (dashes, long, some) refl
+
 -- a long option can't follow one that waits
 pub waiting_long : (ns : List (List ℕ × Bool)) (n : List ℕ × Bool) (word name : Text) (value : Option Text) (rows : List Row) → is_dashes word ≡ false → long_of word ≡ Some (name, value) → IsAmongNames n.0 ns →
     turn_fault (shape ns) [] (at (hold rows (Some (n.0, []))) (option n.0)) word ≡ [] → ⊥
@@ -220,10 +267,16 @@ waiting_long ns n word name value rows dashes long among passes = go value refl 
   where
     go : (v : Option Text) → value ≡ v → (r : Option Rule) → arg_by_long (rules ns) name ≡ r → Looked ns name r → ⊥
     go v is None e l = let h = rw (dashes, long, e) at passes in cc h
-    go None is (Some rule) e (a, (m, same, made)) =
+    go None is (Some rule) e (inl (a, (m, same, made))) =
         let h = rw (dashes, long, is, e, made) at passes in
         unsettled ns n rows among (first_empty _ _ h).0
-    go (Some v) is (Some rule) e (a, (m, same, made)) =
+    go None is (Some rule) e (inr (out, same, made)) =
+        let h = rw (dashes, long, is, e, made) at passes in
+        unsettled ns n rows among (first_empty _ _ (first_empty _ _ h).0).0
+    go (Some v) is (Some rule) e (inr (out, same, made)) =
+        let h = rw (dashes, long, is, e, made) at passes in
+        cc h
+    go (Some v) is (Some rule) e (inl (a, (m, same, made))) =
         let h = rw (dashes, long, is, e, made) at passes in
         unsettled ns n rows among (first_empty _ _ (first_empty _ _ h).0).0
 
@@ -300,11 +353,14 @@ long_spelled (x ∷ y ∷ ys) name value e = go (x == 45) (y == 45) refl refl
 abbrev pub Pairs : Type 0
 Pairs = List (Text × Text)
 
--- the words are these options with their values, none of which had a row, and these are the rows then
+-- the setting in front of the words: an option with its value, or the flag
+abbrev pub Stands : List (List ℕ × Bool) → Text × Text → List Text → List Text → Type 0
+Stands ns s words others = (IsAmongNames s.0 ns × ((words ≡ dashed s.0 ∷ s.1 ∷ others) ⊎ (words ≡ (dashed s.0 ++ 61 ∷ s.1) ∷ others))) ⊎ ((s.0 ≡ flag_name) × (s.1 ≡ []) × (words ≡ dashed s.0 ∷ others))
+
+-- the words are these settings, none of which had a row, and these are the rows then
 abbrev pub Uses : List (List ℕ × Bool) → Pairs → List Text → List Row → List Row → Type 0
 Uses ns [] words rows end = (words ≡ []) × (end ≡ rows)
-Uses ns (s ∷ ss) words rows end = (others : List Text) × IsAmongNames s.0 ns × (has_row s.0 rows ≡ false)
-    × ((words ≡ dashed s.0 ∷ s.1 ∷ others) ⊎ (words ≡ (dashed s.0 ++ 61 ∷ s.1) ∷ others)) × Uses ns ss others (rows ++ row s.0 s.1 ∷ []) end
+Uses ns (s ∷ ss) words rows end = (others : List Text) × (has_row s.0 rows ≡ false) × Stands ns s words others × Uses ns ss others (rows ++ row s.0 s.1 ∷ []) end
 
 abbrev pub walk_end : List (List ℕ × Bool) → Walk → List Text → Held
 walk_end ns w words = (fold (walked (rules ns) []) w words).held
@@ -345,7 +401,7 @@ step_value ns n word value rest rows pending dashes long found among passes read
     let next = e.1 ∙ ap (λ (l : List Row). at (hold l None) idle) (used_once n value current none) in
     let r = reads (current ++ row n.0 value ∷ []) None (subst (λ (w : Walk). Passes ns w rest) next p.1) in
     let ss = r.1.0 in
-    (both.0, ((n.0, value) ∷ ss, (rest, among, none, inr (ap (λ (l : Text). l ∷ rest) (long_spelled word n.0 (Some value) long)), subst (λ (w : Walk). Uses ns ss rest (current ++ row n.0 value ∷ []) (settled (rules ns) (walk_end ns w rest)).rows) (sym next) r.1.1)))
+    (both.0, ((n.0, value) ∷ ss, (rest, none, inl (among, inr (ap (λ (l : Text). l ∷ rest) (long_spelled word n.0 (Some value) long))), subst (λ (w : Walk). Uses ns ss rest (current ++ row n.0 value ∷ []) (settled (rules ns) (walk_end ns w rest)).rows) (sym next) r.1.1)))
 
 -- the word behind an option that waits is its value
 waits_for : (ns : List (List ℕ × Bool)) (n : List ℕ × Bool) (word : Text) (rows : List Row) → is_dashes word ≡ false → IsAmongNames n.0 ns → turn_fault (shape ns) [] (at (hold rows (Some (n.0, []))) (option n.0)) word ≡ [] →
@@ -363,8 +419,9 @@ pending_value : (ns : List (List ℕ × Bool)) (n : List ℕ × Bool) (value : T
 pending_value ns n value rows among = go (arg_by_id (rules ns) n.0) refl (by_id ns n.0)
   where
     go : (r : Option Rule) → arg_by_id (rules ns) n.0 ≡ r → Looked ns n.0 r → settle_fault (rules ns) false (hold rows (Some (n.0, value ∷ []))) ≡ [] → (has_row n.0 rows ≡ false) × (settled_by ns rows (Some (n.0, value ∷ [])) ≡ rows ++ row n.0 value ∷ [])
-    go None e l = absurd (l among)
-    go (Some rule) e (a, (m, same, made)) = λ passes.
+    go None e l = absurd (l.0 among)
+    go (Some rule) e (inr (out, same, made)) = absurd (out among)
+    go (Some rule) e (inl (a, (m, same, made))) = λ passes.
         let p : use_fault false (ready m) (value ∷ []) rows ≡ [] = rw (e, made) at passes in
         let none = use_once m value rows p in
         (subst (λ (t : Text). has_row t rows ≡ false) same none, rw (e, made) (used_once m value rows none ∙ ap (λ (t : Text). rows ++ row t value ∷ []) same))
@@ -385,23 +442,39 @@ step_alone ns n word value rest rows pending dashes plain long found among passe
     let whole = ap (λ (w : Walk). walked (rules ns) [] w value) e.1 ∙ next in
     let words : word ∷ value ∷ rest ≡ dashed n.0 ∷ value ∷ rest = ap (λ (l : Text). l ∷ value ∷ rest) (long_spelled word n.0 None long) in
     let uses = subst (λ (l : List Row). Uses ns ss rest l (settled (rules ns) (walk_end ns (at (hold current (Some (n.0, value ∷ []))) idle) rest)).rows) used.1 r.1.1 in
-    (settles, ((n.0, value) ∷ ss, (rest, among, used.0, inl words, subst (λ (w : Walk). Uses ns ss rest (current ++ row n.0 value ∷ []) (settled (rules ns) (walk_end ns w rest)).rows) (sym whole) uses)))
+    (settles, ((n.0, value) ∷ ss, (rest, used.0, inl (among, inl words), subst (λ (w : Walk). Uses ns ss rest (current ++ row n.0 value ∷ []) (settled (rules ns) (walk_end ns w rest)).rows) (sym whole) uses)))
 
--- the word is a long option of the command
-opens : (ns : List (List ℕ × Bool)) (word : Text) (rest : List Text) (rows : List Row) (pending : Option (Text × List Text)) → is_dashes word ≡ false → Passes ns (at (hold rows pending) idle) (word ∷ rest)
-    → (n : List ℕ × Bool) × (value : Option Text) × (long_of word ≡ Some (n.0, value)) × (arg_by_long (rules ns) n.0 ≡ Some (ready n)) × IsAmongNames n.0 ns
+step_flag : (ns : List (List ℕ × Bool)) (word : Text) (rest : List Text) (rows : List Row) (pending : Option (Text × List Text)) → is_dashes word ≡ false → long_of word ≡ Some (flag_name, None) → arg_by_long (rules ns) flag_name ≡ Some ready_flag
+    → Passes ns (at (hold rows pending) idle) (word ∷ rest) → IsReadAfter ns rest → Reads ns rows pending (word ∷ rest)
+step_flag ns word rest rows pending dashes long found passes reads =
+    let current = settled_by ns rows pending in
+    let p = pass_next ns (at (hold rows pending) idle) word rest passes in
+    let e = long_flag ns word rows pending dashes long found in
+    let both = first_empty _ _ (first_empty _ _ (sym e.0 ∙ p.0)).0 in
+    let none = flag_once current both.1 in
+    let next = e.1 ∙ ap (λ (l : List Row). at (hold l None) idle) (flag_used current none) in
+    let r = reads (current ++ row flag_name [] ∷ []) None (subst (λ (w : Walk). Passes ns w rest) next p.1) in
+    let ss = r.1.0 in
+    (both.0, ((flag_name, []) ∷ ss, (rest, none, inr (refl, refl, ap (λ (l : Text). l ∷ rest) (long_spelled word flag_name None long)), subst (λ (w : Walk). Uses ns ss rest (current ++ row flag_name [] ∷ []) (settled (rules ns) (walk_end ns w rest)).rows) (sym next) r.1.1)))
+
+-- the word is an option of the command, or its flag
+abbrev Opened : List (List ℕ × Bool) → Text → Type 0
+Opened ns word = ((n : List ℕ × Bool) × (value : Option Text) × (long_of word ≡ Some (n.0, value)) × (arg_by_long (rules ns) n.0 ≡ Some (ready n)) × IsAmongNames n.0 ns)
+    ⊎ ((long_of word ≡ Some (flag_name, None)) × (arg_by_long (rules ns) flag_name ≡ Some ready_flag))
+
+opens : (ns : List (List ℕ × Bool)) (word : Text) (rest : List Text) (rows : List Row) (pending : Option (Text × List Text)) → is_dashes word ≡ false → Passes ns (at (hold rows pending) idle) (word ∷ rest) → Opened ns word
 opens ns word rest rows pending dashes passes = go (long_of word) refl (short_of word) refl
   where
     turn : turn_fault (shape ns) [] (at (hold rows pending) idle) word ≡ []
     turn = (pass_next ns (at (hold rows pending) idle) word rest passes).0
 
-    known : (name : Text) (value : Option Text) → long_of word ≡ Some (name, value) → (r : Option Rule) → arg_by_long (rules ns) name ≡ r → Looked ns name r
-        → (n : List ℕ × Bool) × (value : Option Text) × (long_of word ≡ Some (n.0, value)) × (arg_by_long (rules ns) n.0 ≡ Some (ready n)) × IsAmongNames n.0 ns
+    known : (name : Text) (value : Option Text) → long_of word ≡ Some (name, value) → (r : Option Rule) → arg_by_long (rules ns) name ≡ r → Looked ns name r → Opened ns word
     known name value long None e l = absurd (cc (sym (long_unknown ns word name value rows pending idle dashes long e) ∙ turn))
-    known name value long (Some rule) e (among, (m, same, made)) = (m, value, long ∙ ap (λ (t : Text). Some (t, value)) (sym same), ap (arg_by_long (rules ns)) same ∙ e ∙ ap (λ (r : Rule). Some r) made, subst (λ (t : Text). IsAmongNames t ns) (sym same) among)
+    known name value long (Some rule) e (inl (among, (m, same, made))) = inl (m, value, long ∙ ap (λ (t : Text). Some (t, value)) (sym same), ap (arg_by_long (rules ns)) same ∙ e ∙ ap (λ (r : Rule). Some r) made, subst (λ (t : Text). IsAmongNames t ns) (sym same) among)
+    known name None long (Some rule) e (inr (out, same, made)) = inr (long ∙ ap (λ (t : Text). Some (t, None)) same, ap (arg_by_long (rules ns)) (sym same) ∙ e ∙ ap (λ (r : Rule). Some r) made)
+    known name (Some value) long (Some rule) e (inr (out, same, made)) = absurd (cc (sym (flag_valued ns word name value rows pending dashes long (e ∙ ap (λ (r : Rule). Some r) made)) ∙ turn))
 
-    go : (l : Option (Text × Option Text)) → long_of word ≡ l → (s : Option Text) → short_of word ≡ s
-        → (n : List ℕ × Bool) × (value : Option Text) × (long_of word ≡ Some (n.0, value)) × (arg_by_long (rules ns) n.0 ≡ Some (ready n)) × IsAmongNames n.0 ns
+    go : (l : Option (Text × Option Text)) → long_of word ≡ l → (s : Option Text) → short_of word ≡ s → Opened ns word
     go (Some (name, value)) long s short = known name value long (arg_by_long (rules ns) name) refl (by_long ns name)
     go None long None short = absurd (cc (sym (idle_plain ns word rows pending dashes long short) ∙ turn))
     go None long (Some flags) short = absurd (cc (sym (idle_short ns word flags rows pending dashes long short) ∙ turn))
@@ -421,14 +494,16 @@ read ns (word ∷ []) plain = λ rows pending passes. go rows pending passes (op
     empty : IsReadAfter ns []
     empty = λ rows pending passes. (passes.1, ([], (refl, refl)))
 
-    go : (rows : List Row) (pending : Option (Text × List Text)) → Passes ns (at (hold rows pending) idle) (word ∷ []) → (n : List ℕ × Bool) × (value : Option Text) × (long_of word ≡ Some (n.0, value)) × (arg_by_long (rules ns) n.0 ≡ Some (ready n)) × IsAmongNames n.0 ns → Reads ns rows pending (word ∷ [])
-    go rows pending passes (n, Some value, long, found, among) = step_value ns n word value [] rows pending (no_dashes word [] plain).0 long found among passes empty
-    go rows pending passes (n, None, long, found, among) = absurd (last_waits ns n word rows pending (no_dashes word [] plain).0 long found among passes)
+    go : (rows : List Row) (pending : Option (Text × List Text)) → Passes ns (at (hold rows pending) idle) (word ∷ []) → Opened ns word → Reads ns rows pending (word ∷ [])
+    go rows pending passes (inr (long, found)) = step_flag ns word [] rows pending (no_dashes word [] plain).0 long found passes empty
+    go rows pending passes (inl (n, Some value, long, found, among)) = step_value ns n word value [] rows pending (no_dashes word [] plain).0 long found among passes empty
+    go rows pending passes (inl (n, None, long, found, among)) = absurd (last_waits ns n word rows pending (no_dashes word [] plain).0 long found among passes)
 read ns (word ∷ value ∷ rest) plain = λ rows pending passes. go (read ns (value ∷ rest) (no_dashes word (value ∷ rest) plain).1) (read ns rest (no_dashes value rest (no_dashes word (value ∷ rest) plain).1).1) rows pending passes (opens ns word (value ∷ rest) rows pending (no_dashes word (value ∷ rest) plain).0 passes)
   where
-    go : IsReadAfter ns (value ∷ rest) → IsReadAfter ns rest → (rows : List Row) (pending : Option (Text × List Text)) → Passes ns (at (hold rows pending) idle) (word ∷ value ∷ rest) → (n : List ℕ × Bool) × (v : Option Text) × (long_of word ≡ Some (n.0, v)) × (arg_by_long (rules ns) n.0 ≡ Some (ready n)) × IsAmongNames n.0 ns → Reads ns rows pending (word ∷ value ∷ rest)
-    go one two rows pending passes (n, Some v, long, found, among) = step_value ns n word v (value ∷ rest) rows pending (no_dashes word (value ∷ rest) plain).0 long found among passes one
-    go one two rows pending passes (n, None, long, found, among) = step_alone ns n word value rest rows pending (no_dashes word (value ∷ rest) plain).0 (no_dashes value rest (no_dashes word (value ∷ rest) plain).1).0 long found among passes two
+    go : IsReadAfter ns (value ∷ rest) → IsReadAfter ns rest → (rows : List Row) (pending : Option (Text × List Text)) → Passes ns (at (hold rows pending) idle) (word ∷ value ∷ rest) → Opened ns word → Reads ns rows pending (word ∷ value ∷ rest)
+    go one two rows pending passes (inr (long, found)) = step_flag ns word (value ∷ rest) rows pending (no_dashes word (value ∷ rest) plain).0 long found passes one
+    go one two rows pending passes (inl (n, Some v, long, found, among)) = step_value ns n word v (value ∷ rest) rows pending (no_dashes word (value ∷ rest) plain).0 long found among passes one
+    go one two rows pending passes (inl (n, None, long, found, among)) = step_alone ns n word value rest rows pending (no_dashes word (value ∷ rest) plain).0 (no_dashes value rest (no_dashes word (value ∷ rest) plain).1).0 long found among passes two
 
 -- ---- words that are taken
 
@@ -456,16 +531,18 @@ found_long : (ns : List (List ℕ × Bool)) (name : Text) → IsAmongNames name 
 found_long ns name among = go (arg_by_long (rules ns) name) refl (by_long ns name)
   where
     go : (r : Option Rule) → arg_by_long (rules ns) name ≡ r → Looked ns name r → (n : List ℕ × Bool) × (n.0 ≡ name) × (arg_by_long (rules ns) name ≡ Some (ready n))
-    go None e l = absurd (l among)
-    go (Some rule) e (a, (m, same, made)) = (m, same, e ∙ ap (λ (r : Rule). Some r) made)
+    go None e l = absurd (l.0 among)
+    go (Some rule) e (inr (out, same, made)) = absurd (out among)
+    go (Some rule) e (inl (a, (m, same, made))) = (m, same, e ∙ ap (λ (r : Rule). Some r) made)
 
 pending_passes : (ns : List (List ℕ × Bool)) (name value : Text) (rows : List Row) → IsAmongNames name ns → has_row name rows ≡ false →
     (settle_fault (rules ns) false (hold rows (Some (name, value ∷ []))) ≡ []) × (settled_by ns rows (Some (name, value ∷ [])) ≡ rows ++ row name value ∷ [])
 pending_passes ns name value rows among none = go (arg_by_id (rules ns) name) refl (by_id ns name)
   where
     go : (r : Option Rule) → arg_by_id (rules ns) name ≡ r → Looked ns name r → (settle_fault (rules ns) false (hold rows (Some (name, value ∷ []))) ≡ []) × (settled_by ns rows (Some (name, value ∷ [])) ≡ rows ++ row name value ∷ [])
-    go None e l = absurd (l among)
-    go (Some rule) e (a, (m, same, made)) =
+    go None e l = absurd (l.0 among)
+    go (Some rule) e (inr (out, same, made)) = absurd (out among)
+    go (Some rule) e (inl (a, (m, same, made))) =
         let free : has_row m.0 rows ≡ false = subst (λ (t : Text). has_row t rows ≡ false) (sym same) none in
         (rw (e, made) (use_passes m value rows free), rw (e, made) (used_once m value rows free ∙ ap (λ (t : Text). rows ++ row t value ∷ []) same))
 
@@ -512,11 +589,33 @@ take_alone ns name value ss others rows end pending spelled plain among settles 
     let two = taken_back ns end waits _ value others (waits_plain ns f.0 value current plain) (waiting_plain ns f.0 value current plain.dashes plain.long plain.short here) last in
     taken_back ns end (at (hold rows pending) idle) waits (dashed name) (value ∷ others) turn e.1 two
 
-pub taken : (ns : List (List ℕ × Bool)) → AreSpelled ns → (ss : Pairs) → ArePlain ss → IsTakenAfter ns ss
+-- the flag is found, since no option has its name
+found_flag : (ns : List (List ℕ × Bool)) → (IsAmongNames flag_name ns → ⊥) → arg_by_long (rules ns) flag_name ≡ Some ready_flag
+found_flag ns other = go (arg_by_long (rules ns) flag_name) refl (by_long ns flag_name)
+  where
+    go : (r : Option Rule) → arg_by_long (rules ns) flag_name ≡ r → Looked ns flag_name r → arg_by_long (rules ns) flag_name ≡ Some ready_flag
+    go None e l = absurd (l.1 refl)
+    go (Some rule) e (inl (among, found)) = absurd (other among)
+    go (Some rule) e (inr (out, same, made)) = e ∙ ap (λ (r : Rule). Some r) made
+
+take_flag : (ns : List (List ℕ × Bool)) (ss : Pairs) (others : List Text) (rows end : List Row) (pending : Option (Text × List Text)) → (IsAmongNames flag_name ns → ⊥) → settle_fault (rules ns) false (hold rows pending) ≡ [] → has_row flag_name (settled_by ns rows pending) ≡ false → Uses ns ss others (settled_by ns rows pending ++ row flag_name [] ∷ []) end → IsTakenAfter ns ss → Taken ns end (at (hold rows pending) idle) (dashed flag_name ∷ others)
+take_flag ns ss others rows end pending other settles none uses taken =
+    let current = settled_by ns rows pending in
+    let e = long_flag ns (dashed flag_name) rows pending refl refl (found_flag ns other) in
+    let turn = e.0 ∙ ap (λ (k : Kinds). or_else (or_else k (use_fault false ready_flag [] current)) []) settles ∙ ap (λ (k : Kinds). or_else k []) (flag_passes current none) in
+    let next = e.1 ∙ ap (λ (l : List Row). at (hold l None) idle) (flag_used current none) in
+    taken_back ns end (at (hold rows pending) idle) _ (dashed flag_name) others turn next (taken others (current ++ row flag_name [] ∷ []) end None refl uses)
+
+pub taken : (ns : List (List ℕ × Bool)) → (IsAmongNames flag_name ns → ⊥) → AreSpelled ns → (ss : Pairs) → ArePlain ss → IsTakenAfter ns ss
 unfolding walk_fault
-taken ns spelled [] plain = λ words rows end pending settles (none, same). rw none ((refl, settles), sym same)
-taken ns spelled ((name, value) ∷ ss) plain = λ words rows end pending settles uses. go (taken ns spelled ss plain.1) words rows end pending settles uses
+taken ns other spelled [] plain = λ words rows end pending settles (none, same). rw none ((refl, settles), sym same)
+taken ns other spelled ((name, value) ∷ ss) plain = λ words rows end pending settles uses. go (taken ns other spelled ss plain.1) words rows end pending settles uses
   where
     go : IsTakenAfter ns ss → IsTakenAfter ns ((name, value) ∷ ss)
-    go rest words rows end pending settles (others, among, none, inl is, uses) = rw is (take_alone ns name value ss others rows end pending (spelled name among) plain.0 among settles none uses rest)
-    go rest words rows end pending settles (others, among, none, inr is, uses) = rw is (take_value ns name value ss others rows end pending (spelled name among) among settles none uses rest)
+    go rest words rows end pending settles (others, none, inl (among, inl is), uses) = rw is (take_alone ns name value ss others rows end pending (spelled name among) plain.0 among settles none uses rest)
+    go rest words rows end pending settles (others, none, inl (among, inr is), uses) = rw is (take_value ns name value ss others rows end pending (spelled name among) among settles none uses rest)
+    go rest words rows end pending settles (others, none, inr (named, valued, is), uses) =
+        let free : has_row flag_name (settled_by ns rows pending) ≡ false = subst (λ (t : Text). has_row t (settled_by ns rows pending) ≡ false) named none in
+        let then : Uses ns ss others (settled_by ns rows pending ++ row flag_name [] ∷ []) end = subst (λ (v : Text). Uses ns ss others (settled_by ns rows pending ++ row flag_name v ∷ []) end) valued (subst (λ (t : Text). Uses ns ss others (settled_by ns rows pending ++ row t value ∷ []) end) named uses) in
+        let words_are : words ≡ dashed flag_name ∷ others = is ∙ ap (λ (t : Text). dashed t ∷ others) named in
+        rw words_are (take_flag ns ss others rows end pending other settles free then rest)

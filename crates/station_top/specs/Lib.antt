@@ -10,3 +10,4 @@ pub mod ServeWords
 pub mod ServeOptions
 pub mod DrillWords
 pub mod Drill
+pub mod Explain

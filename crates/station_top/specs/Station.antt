@@ -18,6 +18,7 @@ use Rattle.station_doors.specs.Doors.{YardValue, one_more}
 use Rattle.station_run.specs.declared.outcome.Outcome.{Outcome}
 use Rattle.station_top.specs.Input.{HasCome}
 use Rattle.station_top.specs.Drill.{IsDrillText}
+use Rattle.station_top.specs.Explain.{help_text, version_line}
 use Rattle.station_top.specs.DrillWords.{MayDrill}
 use Rattle.station_top.specs.ServeWords.{MayServe}
 use Rattle.station_top.specs.Take.{BreaksOff, Comes}
@@ -30,7 +31,7 @@ use Rattle.station_top.specs.declared.status.Status.TheVariants.{Done, Stopped, 
 use Rattle.station_top.specs.declared.take.Taken.{Taken}
 use Rattle.station_top.specs.declared.words.Call.{Call}
 use Rattle.station_top.specs.declared.words.Command.{Command}
-use Rattle.station_top.specs.declared.words.Command.TheVariants.{Replay, Check, Serve, Drill}
+use Rattle.station_top.specs.declared.words.Command.TheVariants.{Replay, Check, Serve, Drill, Help, Version}
 
 -- the bytes are the reply of a command on these entries
 abbrev pub IsReplyTo : Command → List EntryValue → List ℕ → Type 0
@@ -38,6 +39,17 @@ IsReplyTo (Replay query) entries bytes = IsReply (query_value query) (entries �
 IsReplyTo Check entries bytes = bytes ≡ check_lines entries
 IsReplyTo (Serve serve) entries bytes = ⊥
 IsReplyTo (Drill drill) entries bytes = ⊥
+IsReplyTo Help entries bytes = ⊥
+IsReplyTo Version entries bytes = ⊥
+
+-- the text is the one that the command asks for
+abbrev pub Explains : Command → List ℕ → Type 0
+Explains (Replay query) text = ⊥
+Explains Check text = ⊥
+Explains (Serve serve) text = ⊥
+Explains (Drill drill) text = ⊥
+Explains Help text = text ≡ help_text
+Explains Version text = text ≡ version_line
 
 -- the command is asked with something that has a reply, or with numbers that a station takes
 abbrev pub MayAsk : Command → Type 0
@@ -45,6 +57,8 @@ MayAsk (Replay query) = query_value query ≢ quit
 MayAsk Check = Unit {0}
 MayAsk (Serve serve) = MayServe serve
 MayAsk (Drill drill) = MayDrill drill
+MayAsk Help = Unit {0}
+MayAsk Version = Unit {0}
 
 -- the command takes the one input connection
 abbrev pub TakesOneInput : Command → Type 0
@@ -52,6 +66,8 @@ TakesOneInput (Replay query) = Unit {0}
 TakesOneInput Check = Unit {0}
 TakesOneInput (Serve serve) = ⊥
 TakesOneInput (Drill drill) = ⊥
+TakesOneInput Help = ⊥
+TakesOneInput Version = ⊥
 
 -- the bytes are a reply, and then the line of the cause
 abbrev pub IsStopped : (List ℕ → Type 0) → Cause → List ℕ → Type 0
@@ -136,6 +152,8 @@ CallConcludes Serves (Replay query) meaning old new number calls told0 told1 sta
 CallConcludes Serves Check meaning old new number calls told0 told1 status = (calls ≡ one_more number) × Concludes meaning (IsReplyTo Check) old new number told0 told1 status
 CallConcludes Serves (Serve serve) meaning old new number calls told0 told1 status = (outcome : Outcome) × Serves serve outcome × (status ≡ status_served outcome)
 CallConcludes Serves (Drill drill) meaning old new number calls told0 told1 status = (new ≡ old) × (calls ≡ number) × DrillConcludes drill told0 told1 status
+CallConcludes Serves Help meaning old new number calls told0 told1 status = (new ≡ old) × (calls ≡ number) × IsWritten told0 told1 help_text Done status
+CallConcludes Serves Version meaning old new number calls told0 told1 status = (new ≡ old) × (calls ≡ number) × IsWritten told0 told1 version_line Done status
 
 -- what a call answers, and what it wrote
 pub data Answers (Serves : Meaning → ServeWords → Outcome → Type 0) (words : List (List ℕ)) (old new : Option YardValue) (number calls : ℕ) (told0 told1 : Option (List ℕ)) (status : Status) : Type 0 where
@@ -145,6 +163,8 @@ pub data Answers (Serves : Meaning → ServeWords → Outcome → Type 0) (words
   served : (serve : ServeWords) (lenient : Bool) (outcome : Outcome) → IsCall (record { command = Serve serve; lenient = lenient }) words → Serves (meaning_of lenient) serve outcome → status ≡ status_served outcome → Answers Serves words old new number calls told0 told1 status
   -- they are a call of `drill`, and the yard is asked for nothing
   drilled : (drill : DrillWords) → IsCall (record { command = Drill drill; lenient = false }) words → new ≡ old → calls ≡ number → DrillConcludes drill told0 told1 status → Answers Serves words old new number calls told0 told1 status
+  -- they ask for the help text or the version, and the yard is asked for nothing
+  explained : (call : Call) (text : List ℕ) → IsCall call words → Explains call.command text → new ≡ old → calls ≡ number → IsWritten told0 told1 text Done status → Answers Serves words old new number calls told0 told1 status
 
 -- the status is this one exactly where the count rose
 pub record AnswersFault (before now : ℕ) (status fault : Status) : Type 0 where

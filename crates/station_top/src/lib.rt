@@ -21,6 +21,7 @@ mod account;
 mod counts;
 mod drill;
 mod drill_words;
+mod explain;
 mod replay;
 mod serve_words;
 mod status;

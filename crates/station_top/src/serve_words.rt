@@ -1,17 +1,20 @@
-//! The options of `serve`, in any order and form.
+//! The settings of `serve`, in any order and form.
 
-ghost use Rattle.std.specs.Prelude.{◌≡◌, ◌≢◌, ◌↔◌, ◌≤◌, ℕ, List, Err, map, IsTrue, IfSome, IfNone, IfOk, false, true};
+ghost use Rattle.std.specs.Prelude.{◌≡◌, ◌≢◌, ◌↔◌, ◌≤◌, ℕ, Bool, List, Option, Err, None, codes, map, IsTrue, IfSome, IfNone, IfOk, false, true};
 ghost use Rattle.std.specs.List.{list_any};
 ghost use Rattle.std.specs.String.{string_bytes};
+ghost use Rattle.bmp_specs.specs.AddressText.{IsAddressText};
+ghost use Rattle.bmp_specs.specs.NumberText.{IsNumberText};
 ghost use Rattle.bmp_specs.specs.Values.{AddressValue};
 ghost use Rattle.clap.specs.Words.{app_of, rule_of};
-ghost use Rattle.station_top.specs.ServeOptions.{AreMatches, dashed, is_dashes, option_rule, serve_app};
-ghost use Rattle.station_top.specs.ServeWords.{HasNumber, HasAddress, IsServe, MayServe};
+ghost use Rattle.station_top.specs.ServeOptions.{AreMatches, dashed, flag_rule, is_dashes, option_rule, serve_app};
+ghost use Rattle.station_top.specs.ServeWords.{Gives, Has, IsPorts, IsRounds, IsSeconds, IsServe, MayGive, MayServe, flag, loopback, ports_for};
 ghost use Rattle.station_top.specs.declared.serve_words.ServeWords.{ServeWords as AnyServe};
 
 use crate::words::WordsFault;
+use clap::builder::ValueRange;
 use clap::error::ErrorKind;
-use clap::{Arg, ArgMatches, Command};
+use clap::{Arg, ArgAction, ArgMatches, Command};
 use ip_prefix::{Addr, parse_addr, parse_number};
 use station_doors::Listening;
 use std::alloc::{AllocError, Global};
@@ -22,7 +25,7 @@ pub struct ServeWords {
     /// Where it listens, for so many routers and clients.
     pub at: Listening,
 
-    /// So many connections are taken of each of them.
+    /// So many connections are taken of each of them. Of `forever` it is the greatest number.
     pub rounds: u32,
 }
 
@@ -38,7 +41,11 @@ fn serve_command<'a>(alloc: Global) -> Result<Command<'a>, AllocError>
         .arg(required(alloc, "feed-port"))?
         .arg(required(alloc, "ask-port"))?
         .arg(required(alloc, "rounds"))?
-        .arg(optional(alloc, "address"))
+        .arg(optional(alloc, "address"))?
+        .arg(optional(alloc, "ports"))?
+        .arg(optional(alloc, "idle"))?
+        .arg(optional(alloc, "ask-idle"))?
+        .arg(lenient(alloc))
 }
 
 // An option with a value, as `--name value` or `--name=value`.
@@ -54,6 +61,18 @@ fn required<'a>(alloc: Global, name: &'a str) -> Arg<'a>
     ensures local { result.global ≡ false }
 {
     Arg::new(alloc, name).long(name).required(true)
+}
+
+// The flag `--lenient`. It takes no value; where it stands, the empty one is found.
+fn lenient<'a>(alloc: Global) -> Arg<'a>
+    ensures rule { rule_of result ≡ flag_rule }
+    ensures local { result.global ≡ false }
+{
+    Arg::new(alloc, "lenient")
+        .long("lenient")
+        .action(ArgAction::Set)
+        .num_args(ValueRange::EMPTY)
+        .default_missing_value("")
 }
 
 // Whether a `--` stands among the words, which would end the options.
@@ -73,10 +92,10 @@ fn fault_by(kind: ErrorKind) -> WordsFault
     }
 }
 
-// The options in the words, each given once. `Usage` exactly where they are no words of `serve`.
+// The settings in the words, each given once. `Usage` exactly where they are no words of `serve`.
 fn read_options<'a>(alloc: Global, words: &'a [String]) -> Result<ArgMatches<'a>, WordsFault>
     ensures ok { IfOk result (λ matches. AreMatches (map string_bytes words.entry.now) matches) }
-    ensures usage { result ≡ Err WordsFault.Usage → (serve : AnyServe) → IsServe serve (map string_bytes words.entry.now) → ⊥ }
+    ensures usage { result ≡ Err WordsFault.Usage → (serve : AnyServe) (lenient : Bool) → IsServe serve lenient (map string_bytes words.entry.now) → ⊥ }
 {
     if has_dashes(words) {
         return Err(WordsFault::Usage);
@@ -92,9 +111,9 @@ fn read_options<'a>(alloc: Global, words: &'a [String]) -> Result<ArgMatches<'a>
 
 // The number that the words give for an option, which is given once.
 fn find_number(matches: &ArgMatches<'_>, name: &str) -> Option<u32>
-    ensures some { (words : List (List ℕ)) → AreMatches words matches.now → IfSome result (λ n. HasNumber (dashed name.now) words n) }
-    ensures only { (words : List (List ℕ)) → AreMatches words matches.now → IfSome result (λ n. (m : ℕ) → HasNumber (dashed name.now) words m → m ≡ n) }
-    ensures none { (words : List (List ℕ)) → AreMatches words matches.now → IfNone result ((n : ℕ) → HasNumber (dashed name.now) words n → ⊥) }
+    ensures some { (words : List (List ℕ)) → AreMatches words matches.now → IfSome result (λ n. Has (Gives (dashed name.now) (λ value. IsNumberText value n)) words) }
+    ensures only { (words : List (List ℕ)) → AreMatches words matches.now → IfSome result (λ n. (m : ℕ) → Has (Gives (dashed name.now) (λ value. IsNumberText value m)) words → m ≡ n) }
+    ensures none { (words : List (List ℕ)) → AreMatches words matches.now → IfNone result ((n : ℕ) → Has (Gives (dashed name.now) (λ value. IsNumberText value n)) words → ⊥) }
 {
     match matches.get_str(name) {
         Some(value) => parse_number(value.as_bytes()),
@@ -102,11 +121,54 @@ fn find_number(matches: &ArgMatches<'_>, name: &str) -> Option<u32>
     }
 }
 
+fn is_forever(value: &str) -> bool
+    ensures { IsTrue result ↔ (value.now ≡ codes "forever") }
+{
+    value == "forever"
+}
+
+// Whether there may be so many rounds.
+fn may_be_rounds(number: u32) -> bool
+    ensures { IsTrue result ↔ ((1 ≤ number) × (number ≤ 4096)) }
+{
+    (1..=4096).contains(&number)
+}
+
+// The rounds that a value stands for.
+fn rounds_of(value: &str) -> Option<u32>
+    ensures some { IfSome result (λ rounds. IsRounds value.now rounds) }
+    ensures none { IfNone result ((rounds : ℕ) → IsRounds value.now rounds → ⊥) }
+{
+    if is_forever(value) {
+        return Some(u32::MAX);
+    }
+    match parse_number(value.as_bytes()) {
+        Some(number) => if may_be_rounds(number) {
+            Some(number)
+        } else {
+            None
+        },
+        None => None,
+    }
+}
+
+// The rounds that the words give, once.
+fn find_rounds(matches: &ArgMatches<'_>) -> Option<u32>
+    ensures some { (words : List (List ℕ)) → AreMatches words matches.now → IfSome result (λ n. Has (Gives (dashed (codes "rounds")) (λ value. IsRounds value n)) words) }
+    ensures only { (words : List (List ℕ)) → AreMatches words matches.now → IfSome result (λ n. (m : ℕ) → Has (Gives (dashed (codes "rounds")) (λ value. IsRounds value m)) words → m ≡ n) }
+    ensures none { (words : List (List ℕ)) → AreMatches words matches.now → IfNone result ((n : ℕ) → Has (Gives (dashed (codes "rounds")) (λ value. IsRounds value n)) words → ⊥) }
+{
+    match matches.get_str("rounds") {
+        Some(value) => rounds_of(value),
+        None => None,
+    }
+}
+
 // The address that the words give, where they give it once, or 127.0.0.1 where they give none.
 fn find_address(matches: &ArgMatches<'_>) -> Option<Addr>
-    ensures some { (words : List (List ℕ)) → AreMatches words matches.now → IfSome result (λ address. HasAddress words address) }
-    ensures only { (words : List (List ℕ)) → AreMatches words matches.now → IfSome result (λ address. (other : AddressValue) → HasAddress words other → other ≡ address) }
-    ensures none { (words : List (List ℕ)) → AreMatches words matches.now → IfNone result ((address : AddressValue) → HasAddress words address → ⊥) }
+    ensures some { (words : List (List ℕ)) → AreMatches words matches.now → IfSome result (λ address. Has (MayGive (dashed (codes "address")) (λ value. IsAddressText value address) (address ≡ loopback)) words) }
+    ensures only { (words : List (List ℕ)) → AreMatches words matches.now → IfSome result (λ address. (other : AddressValue) → Has (MayGive (dashed (codes "address")) (λ value. IsAddressText value other) (other ≡ loopback)) words → other ≡ address) }
+    ensures none { (words : List (List ℕ)) → AreMatches words matches.now → IfNone result ((address : AddressValue) → Has (MayGive (dashed (codes "address")) (λ value. IsAddressText value address) (address ≡ loopback)) words → ⊥) }
 {
     match matches.get_str("address") {
         Some(value) => parse_addr(value.as_bytes()),
@@ -114,7 +176,74 @@ fn find_address(matches: &ArgMatches<'_>) -> Option<Addr>
     }
 }
 
-// A port of these numbers, where it is one.
+// Whether the ports are shared, by a value.
+fn ports_of(value: &str) -> Option<bool>
+    ensures some { IfSome result (λ shared. IsPorts value.now shared) }
+    ensures none { IfNone result ((shared : Bool) → IsPorts value.now shared → ⊥) }
+{
+    if value == "shared" {
+        return Some(true);
+    }
+    if value == "each" {
+        return Some(false);
+    }
+    None
+}
+
+// Whether the ports are shared, by the words.
+fn find_ports(matches: &ArgMatches<'_>) -> Option<bool>
+    ensures some { (words : List (List ℕ)) → AreMatches words matches.now → IfSome result (λ shared. Has (MayGive (dashed (codes "ports")) (λ value. IsPorts value shared) (shared ≡ false)) words) }
+    ensures only { (words : List (List ℕ)) → AreMatches words matches.now → IfSome result (λ shared. (other : Bool) → Has (MayGive (dashed (codes "ports")) (λ value. IsPorts value other) (other ≡ false)) words → other ≡ shared) }
+    ensures none { (words : List (List ℕ)) → AreMatches words matches.now → IfNone result ((shared : Bool) → Has (MayGive (dashed (codes "ports")) (λ value. IsPorts value shared) (shared ≡ false)) words → ⊥) }
+{
+    match matches.get_str("ports") {
+        Some(value) => ports_of(value),
+        None => Some(false),
+    }
+}
+
+// Whether it may be so many seconds.
+fn may_be_seconds(number: u32) -> bool
+    ensures { IsTrue result ↔ ((1 ≤ number) × (number ≤ 86400)) }
+{
+    (1..=86_400).contains(&number)
+}
+
+// The time that a value stands for.
+fn seconds_of(value: &str) -> Option<Option<u32>>
+    ensures some { IfSome result (λ time. IsSeconds value.now time) }
+    ensures none { IfNone result ((time : Option ℕ) → IsSeconds value.now time → ⊥) }
+{
+    match parse_number(value.as_bytes()) {
+        Some(number) => if may_be_seconds(number) {
+            Some(Some(number))
+        } else {
+            None
+        },
+        None => None,
+    }
+}
+
+// The time that the words give for this name, if they give one.
+fn find_seconds(matches: &ArgMatches<'_>, name: &str) -> Option<Option<u32>>
+    ensures some { (words : List (List ℕ)) → AreMatches words matches.now → IfSome result (λ time. Has (MayGive (dashed name.now) (λ value. IsSeconds value time) (time ≡ None)) words) }
+    ensures only { (words : List (List ℕ)) → AreMatches words matches.now → IfSome result (λ time. (other : Option ℕ) → Has (MayGive (dashed name.now) (λ value. IsSeconds value other) (other ≡ None)) words → other ≡ time) }
+    ensures none { (words : List (List ℕ)) → AreMatches words matches.now → IfNone result ((time : Option ℕ) → Has (MayGive (dashed name.now) (λ value. IsSeconds value time) (time ≡ None)) words → ⊥) }
+{
+    match matches.get_str(name) {
+        Some(value) => seconds_of(value),
+        None => Some(None),
+    }
+}
+
+// Whether the words have the flag.
+fn find_lenient(matches: &ArgMatches<'_>) -> bool
+    ensures { (words : List (List ℕ)) → AreMatches words matches.now → Has (MayGive flag (λ value. result ≡ true) (result ≡ false)) words }
+{
+    matches.get_str("lenient").is_some()
+}
+
+// The port of this number, where it is one.
 fn port_of(number: u32) -> Option<u16>
     ensures some { IfSome result (λ port. port ≡ number) }
     ensures none { IfNone result (65536 ≤ number) }
@@ -125,8 +254,15 @@ fn port_of(number: u32) -> Option<u16>
     Some(number as u16)
 }
 
+// How many ports so many lanes or askers have.
+fn width(shared: bool, count: u32) -> u32
+    ensures { result ≡ ports_for shared count }
+{
+    if shared { 1 } else { count }
+}
+
 // Whether the numbers are within what a station takes, and the ports of the lanes and of the askers are ports and don't
-// meet. A count past 64 is none of them, so its ports needn't be told.
+// meet.
 fn may_serve(serve: &ServeWords) -> bool
     ensures { IsTrue result ↔ MayServe serve.now }
 {
@@ -135,24 +271,25 @@ fn may_serve(serve: &ServeWords) -> bool
         askers,
         feed_port,
         ask_port,
+        shared,
         ..
     } = serve.at;
-    let feed_end = feed_port as u32 + feeds.min(64);
-    let ask_end = ask_port as u32 + askers.min(64);
-    (1..=64).contains(&feeds)
-        && (1..=64).contains(&askers)
-        && (1..=4096).contains(&serve.rounds)
-        && feed_port >= 1
+    if !((1..=64).contains(&feeds) && (1..=64).contains(&askers)) {
+        return false;
+    }
+    let feed_end = feed_port as u32 + width(shared, feeds);
+    let ask_end = ask_port as u32 + width(shared, askers);
+    feed_port >= 1
         && ask_port >= 1
         && feed_end <= 65536
         && ask_end <= 65536
         && (feed_end <= ask_port as u32 || ask_end <= feed_port as u32)
 }
 
-// What the options ask for.
+// Where the settings ask to listen, and for how many rounds.
 fn serve_of(matches: &ArgMatches<'_>) -> Option<ServeWords>
-    ensures some { (words : List (List ℕ)) → AreMatches words matches.now → IfSome result (λ serve. IsServe serve words) }
-    ensures none { (words : List (List ℕ)) → AreMatches words matches.now → IfNone result ((serve : AnyServe) → IsServe serve words → ⊥) }
+    ensures some { (words : List (List ℕ)) → AreMatches words matches.now → (lenient : Bool) → Has (MayGive flag (λ value. lenient ≡ true) (lenient ≡ false)) words → IfSome result (λ serve. IsServe serve lenient words) }
+    ensures none { (words : List (List ℕ)) → AreMatches words matches.now → IfNone result ((serve : AnyServe) (lenient : Bool) → IsServe serve lenient words → ⊥) }
 {
     let Some(feeds) = find_number(matches, "feeds") else {
         return None;
@@ -166,10 +303,19 @@ fn serve_of(matches: &ArgMatches<'_>) -> Option<ServeWords>
     let Some(ask_number) = find_number(matches, "ask-port") else {
         return None;
     };
-    let Some(rounds) = find_number(matches, "rounds") else {
+    let Some(rounds) = find_rounds(matches) else {
         return None;
     };
     let Some(address) = find_address(matches) else {
+        return None;
+    };
+    let Some(shared) = find_ports(matches) else {
+        return None;
+    };
+    let Some(idle) = find_seconds(matches, "idle") else {
+        return None;
+    };
+    let Some(ask_idle) = find_seconds(matches, "ask-idle") else {
         return None;
     };
     let Some(feed_port) = port_of(feed_number) else {
@@ -185,6 +331,9 @@ fn serve_of(matches: &ArgMatches<'_>) -> Option<ServeWords>
             askers,
             feed_port,
             ask_port,
+            shared,
+            idle,
+            ask_idle,
         },
         rounds,
     };
@@ -192,15 +341,16 @@ fn serve_of(matches: &ArgMatches<'_>) -> Option<ServeWords>
 }
 
 /// What the words after `serve` ask for: `--feeds N --askers M --feed-port P --ask-port Q --rounds K`, in any order, and
-/// optionally `--address A`, which is 127.0.0.1 where it is missing. Each option is given once, as `--name value` or as
-/// `--name=value`. `Usage` exactly where the words are no such options.
-pub fn read_serve(alloc: Global, words: &[String]) -> Result<ServeWords, WordsFault>
-    ensures ok { IfOk result (λ serve. IsServe serve (map string_bytes words.now)) }
-    ensures usage { result ≡ Err WordsFault.Usage → (serve : AnyServe) → IsServe serve (map string_bytes words.now) → ⊥ }
+/// optionally `--address A`, `--ports each` or `shared`, `--idle S`, `--ask-idle S` and `--lenient`. Each is given once, as
+/// `--name value` or as `--name=value`, and `--lenient` alone. It answers too whether that one is given. `Usage` exactly
+/// where the words are no such settings.
+pub fn read_serve(alloc: Global, words: &[String]) -> Result<(ServeWords, bool), WordsFault>
+    ensures ok { IfOk result (λ read. IsServe read.0 read.1 (map string_bytes words.now)) }
+    ensures usage { result ≡ Err WordsFault.Usage → (serve : AnyServe) (lenient : Bool) → IsServe serve lenient (map string_bytes words.now) → ⊥ }
 {
     match read_options(alloc, words) {
         Ok(matches) => match serve_of(&matches) {
-            Some(serve) => Ok(serve),
+            Some(serve) => Ok((serve, find_lenient(&matches))),
             None => Err(WordsFault::Usage),
         },
         Err(fault) => Err(fault),

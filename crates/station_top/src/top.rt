@@ -11,13 +11,14 @@ ghost use Rattle.station_run.specs.Serve.{AnswersFault as EndsFault, Comes};
 ghost use Rattle.station_top.specs.Status.{status_of, status_served};
 ghost use Rattle.station_top.specs.DrillWords.{MayDrill};
 ghost use Rattle.station_top.specs.ServeWords.{MayServe};
-ghost use Rattle.station_top.specs.Station.{Answers, CallConcludes, Concludes, DrillConcludes, FromYard, AnswersFault, IsStopped, MayAsk};
+ghost use Rattle.station_top.specs.Station.{Answers, CallConcludes, Concludes, DrillConcludes, FromYard, AnswersFault, IsStopped, IsWritten, MayAsk};
 
 use crate::Status;
 use crate::account::{Account, Replies};
 use crate::counts::Counts;
 use crate::drill::write_drill;
 use crate::drill_words::DrillWords;
+use crate::explain::{help, version};
 use crate::replay::Replay;
 use crate::serve_words::ServeWords;
 use crate::take::{Taken, take_input};
@@ -231,6 +232,16 @@ fn run_drill<O: Sink, R: Threads + Wait + Sync>(
     }
 }
 
+// Writes a text.
+fn write_text<O: Sink>(out: &mut O, text: &str) -> Status
+    ensures written { IsWritten (O.told out.old) (O.told out.new) text.now Status.Done result }
+    ensures out { AnswersFault (O.faults out.old) (O.faults out.new) result Status.WriteFault }
+    ensures yard { result ≡ Status.YardFault → ⊥ }
+    ensures aside { O.aside out.new ≡ O.aside out.old }
+{
+    unless_failed(write_all(out, text.as_bytes()), Status::Done)
+}
+
 // Runs the command of a call.
 fn run_call<Y: Yard, O: Sink, R: Threads + Wait + Sync>(
     rt: &R,
@@ -255,6 +266,8 @@ where
             status_served_by(serve_by(rt, alloc, lenient, &words, yard, out))
         }
         Command::Drill(words) => run_drill(rt, alloc, words, out),
+        Command::Help => write_text(out, help()),
+        Command::Version => write_text(out, version()),
     }
 }
 
@@ -274,8 +287,11 @@ where
 /// streams that follow from these numbers (`drill_streams`), side by side with askers; in the end it writes the replies of
 /// `cut`, `routers` and `count`, on the openings and the messages, and not on any closing.
 ///
-/// Other words are usage. The bodies of the messages are read by the RFCs alone, and where the second word is
-/// `--lenient`, which `drill` does not take, as routers send them (`lenient` of `bmp_specs`).
+/// `--help`, or `-h`, writes the help text, and `--version`, or `-V`, the line with the version. They ask the yard for
+/// nothing and take no memory.
+///
+/// Other words are usage. The bodies of the messages are read by the RFCs alone, and with `--lenient`, which stands right
+/// behind `replay` or `check` or among the settings of `serve`, as routers send them (`lenient` of `bmp_specs`).
 pub fn station<Y: Yard, O: Sink, R: Threads + Wait + Sync>(
     rt: &R,
     alloc: Global,

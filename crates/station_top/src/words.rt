@@ -1,9 +1,9 @@
-ghost use Rattle.std.specs.Prelude.{◌≡◌, ◌≢◌, ◌↔◌, ◌⊎◌, [], ◌∷◌, IsTrue, IfSome, IfNone, IfOk, Err, false, map, codes};
+ghost use Rattle.std.specs.Prelude.{◌≡◌, ◌≢◌, ◌↔◌, ◌⊎◌, [], Bool, IsTrue, IfSome, IfNone, IfOk, Err, false, map, codes};
 ghost use Rattle.std.specs.List.{join_with_byte};
 ghost use Rattle.std.specs.String.{string_bytes};
 ghost use Rattle.bmp_specs.specs.Query.{QueryValue, quit, space};
 ghost use Rattle.query_lang.specs.Queries.{query_value};
-ghost use Rattle.station_top.specs.Words.{IsAsking, IsCall, IsCommand, IsPlain, MayBeLenient, TakeMemory, TakesMemory};
+ghost use Rattle.station_top.specs.Words.{IsAsking, IsCall, IsCommand, IsPlain, IsReplay, TakeMemory, TakesMemory};
 ghost use Rattle.station_top.specs.declared.words.Call.{Call as AnyCall};
 ghost use Rattle.station_top.specs.declared.words.Command.{Command as AnyCommand};
 
@@ -27,6 +27,12 @@ pub enum Command {
 
     /// `drill`: lanes over streams that follow from a few numbers.
     Drill(DrillWords),
+
+    /// `--help`: what the commands are.
+    Help,
+
+    /// `--version`: which version this is.
+    Version,
 }
 
 /// What the words of a call ask for.
@@ -116,40 +122,16 @@ fn read_asked(alloc: Global, words: &[String]) -> Result<Query, WordsFault>
     }
 }
 
-// The command that a word and those after it are, where it may be lenient or isn't to be so.
-fn read_command(
-    alloc: Global,
-    first: &str,
-    lenient: bool,
-    plain: &[String],
-) -> Result<Command, WordsFault>
-    ensures ok { IfOk result (λ command. IsCommand command (first.now ∷ map string_bytes plain.now)) }
-    ensures lenient { IfOk result (λ command. MayBeLenient command ⊎ (lenient ≡ false)) }
-    ensures usage { result ≡ Err WordsFault.Usage → (command : AnyCommand) → IsCommand command (first.now ∷ map string_bytes plain.now) → MayBeLenient command ⊎ (lenient ≡ false) → ⊥ }
-    ensures memory { result ≡ Err WordsFault.NoMemory → TakesMemory first.now }
+fn is_help(word: &str) -> bool
+    ensures { IsTrue result ↔ ((word.now ≡ codes "--help") ⊎ (word.now ≡ codes "-h")) }
 {
-    if is_replay(first) {
-        return match read_asked(alloc, plain) {
-            Ok(query) => Ok(Command::Replay(query)),
-            Err(fault) => Err(fault),
-        };
-    }
-    if is_check(first) && plain.is_empty() {
-        return Ok(Command::Check);
-    }
-    if is_serve(first) {
-        return match read_serve(alloc, plain) {
-            Ok(serve) => Ok(Command::Serve(serve)),
-            Err(fault) => Err(fault),
-        };
-    }
-    if is_drill(first) && !lenient {
-        return match read_drill(plain) {
-            Some(drill) => Ok(Command::Drill(drill)),
-            None => Err(WordsFault::Usage),
-        };
-    }
-    Err(WordsFault::Usage)
+    word == "--help" || word == "-h"
+}
+
+fn is_version(word: &str) -> bool
+    ensures { IsTrue result ↔ ((word.now ≡ codes "--version") ⊎ (word.now ≡ codes "-V")) }
+{
+    word == "--version" || word == "-V"
 }
 
 // Whether `--lenient` stands in front of the words, and the words without it.
@@ -160,6 +142,91 @@ fn split_lenient(given: &[String]) -> (bool, &[String])
         [word, plain @ ..] if is_lenient(word.as_str()) => (true, plain),
         _ => (false, given),
     }
+}
+
+// What the words behind `replay` ask for.
+fn read_replay(alloc: Global, given: &[String]) -> Result<(Query, bool), WordsFault>
+    ensures ok { IfOk result (λ read. IsReplay (query_value read.0) read.1 (map string_bytes given.now)) }
+    ensures usage { result ≡ Err WordsFault.Usage → (query : QueryValue) (lenient : Bool) → IsReplay query lenient (map string_bytes given.now) → ⊥ }
+{
+    let (lenient, asked) = split_lenient(given);
+    match read_asked(alloc, asked) {
+        Ok(query) => Ok((query, lenient)),
+        Err(fault) => Err(fault),
+    }
+}
+
+// Whether the words behind `check` are none, or `--lenient` alone, and then whether it is there.
+fn read_check(given: &[String]) -> Option<bool>
+    ensures some { IfSome result (λ lenient. IsPlain lenient (map string_bytes given.now) []) }
+    ensures none { IfNone result ((lenient : Bool) → IsPlain lenient (map string_bytes given.now) [] → ⊥) }
+{
+    let (lenient, plain) = split_lenient(given);
+    if plain.is_empty() {
+        Some(lenient)
+    } else {
+        None
+    }
+}
+
+// The call that a word and those after it are.
+fn read_call(alloc: Global, first: &str, given: &[String]) -> Result<Call, WordsFault>
+    ensures ok { IfOk result (λ call. IsCommand call.command call.lenient first.now (map string_bytes given.now)) }
+    ensures usage { result ≡ Err WordsFault.Usage → (command : AnyCommand) (lenient : Bool) → IsCommand command lenient first.now (map string_bytes given.now) → ⊥ }
+    ensures memory { result ≡ Err WordsFault.NoMemory → TakesMemory first.now }
+{
+    if is_replay(first) {
+        return match read_replay(alloc, given) {
+            Ok((query, lenient)) => Ok(Call {
+                command: Command::Replay(query),
+                lenient,
+            }),
+            Err(fault) => Err(fault),
+        };
+    }
+    if is_serve(first) {
+        return match read_serve(alloc, given) {
+            Ok((serve, lenient)) => Ok(Call {
+                command: Command::Serve(serve),
+                lenient,
+            }),
+            Err(fault) => Err(fault),
+        };
+    }
+    if is_check(first) {
+        return match read_check(given) {
+            Some(lenient) => Ok(Call {
+                command: Command::Check,
+                lenient,
+            }),
+            None => Err(WordsFault::Usage),
+        };
+    }
+    if is_drill(first) {
+        return match read_drill(given) {
+            Some(drill) => Ok(Call {
+                command: Command::Drill(drill),
+                lenient: false,
+            }),
+            None => Err(WordsFault::Usage),
+        };
+    }
+    if !given.is_empty() {
+        return Err(WordsFault::Usage);
+    }
+    if is_help(first) {
+        return Ok(Call {
+            command: Command::Help,
+            lenient: false,
+        });
+    }
+    if is_version(first) {
+        return Ok(Call {
+            command: Command::Version,
+            lenient: false,
+        });
+    }
+    Err(WordsFault::Usage)
 }
 
 /// What the words of a call ask for, which don't hold the program's name. `Usage` exactly where they are no command;
@@ -174,13 +241,7 @@ pub fn read_words(alloc: Global, words: &[String]) -> Result<Call, WordsFault>
     ensures memory { result ≡ Err WordsFault.NoMemory → TakeMemory (map string_bytes words.now) }
 {
     match words {
-        [first, given @ ..] => {
-            let (lenient, plain) = split_lenient(given);
-            match read_command(alloc, first.as_str(), lenient, plain) {
-                Ok(command) => Ok(Call { command, lenient }),
-                Err(fault) => Err(fault),
-            }
-        }
+        [first, given @ ..] => read_call(alloc, first.as_str(), given),
         [] => Err(WordsFault::Usage),
     }
 }

@@ -9,7 +9,7 @@ do_all-requires-after_bounds g c κs within =
     let (first, fresh, seated) = c.requires.asks in
     let lanes = lanes_begin g.J.Naming.site _ c.args.rounds _ _ _ _ c.pair.new.tasks.items c.requires.feeds c.pair.ensures.pairs in
     let askers = asks_begin g.J.Naming.site _ c.args.rounds _ first _ _ _ c.pair.new.tasks.items fresh seated c.pair.ensures.pairs in
-    are_ready g.J.Naming.site c.args.rounds c.pair.new.tasks.items lanes askers c.requires.rounds
+    are_ready g.J.Naming.site c.args.rounds c.pair.new.tasks.items lanes askers
 
 pub part-kept-requires-clause-room : goal.part-kept-requires-clause-room
 part-kept-requires-clause-room g c =

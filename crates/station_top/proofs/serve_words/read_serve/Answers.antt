@@ -4,9 +4,9 @@ use Rattle.station_top.specs.declared.words.WordsFault.TheVariants.{Usage}
 use Rattle.station_top.proofs.serve_words.read_serve.Goals as goal
 
 pub returns-in-Ok-clause-usage : goal.returns-in-Ok-clause-usage
-returns-in-Ok-clause-usage c = λ usage serve is. c.in-None.ensures.none (map string_bytes c.args.words.now) c.in-Ok.ensures.ok serve is
+returns-in-Ok-clause-usage c = λ usage serve lenient is. c.in-None.ensures.none (map string_bytes c.args.words.now) c.in-Ok.ensures.ok serve lenient is
 
 pub returns-clause-usage : goal.returns-clause-usage
-returns-clause-usage c = λ usage serve is.
+returns-clause-usage c = λ usage serve lenient is.
     let fault : c.in-Err.fault ≡ Usage = cc usage in
-    c.in-Err.ensures.usage (ap Err fault) serve is
+    c.in-Err.ensures.usage (ap Err fault) serve lenient is

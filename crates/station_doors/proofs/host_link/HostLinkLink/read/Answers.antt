@@ -1,7 +1,7 @@
 use Rattle.station_doors.proofs.host_link.HostLinkLink.read.Goals as goal
 
 pub returns-clause-planned : goal.returns-clause-planned
-returns-clause-planned c = rw c.read.ensures.plan tt
+returns-clause-planned g c = rw c.read.ensures.plan tt
 
 pub returns-clause-reads : goal.returns-clause-reads
-returns-clause-reads c = c.read.ensures.reads _
+returns-clause-reads g c = c.read.ensures.reads _
