@@ -113,6 +113,11 @@ module _ {S E : Type 0} (stands : S → List E → Type 0) where
   ready seat v x y pending (inl ends) is = turns seat v x y pending ends is
   ready seat v x y pending (inr idle) is = rests seat v x y pending idle.0 idle.1 is
 
+  -- what is shown then is live
+  pub live_then : (x y : Shown S E) (pending : List (Shown S E)) → IsReady stands x pending → state_of y ≡ fold applied (state_of x) pending → IsLive stands y
+  live_then x y pending (inl ends) is = live_alike ends.1 y (alike_back y ends.1 (last_shown x y pending ends.0 ends.1 ends.2 is)) ends.3
+  live_then x y pending (inr idle) is = live_alike x y (alike_back y x (same_shown x y pending idle.1 is)) idle.0
+
   -- the same with nothing pending, and the writer then knows the station
   pub names : (seat : ℕ) (v : Known) (x y : Shown S E) (pending : List (Shown S E)) → IsLive stands x → pending ≡ [] → state_of y ≡ fold applied (state_of x) pending
       → TurnsAt (Keeps stands) seat v x y (λ v x y w. w ≡ named (site_of y))

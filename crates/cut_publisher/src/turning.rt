@@ -1,5 +1,5 @@
 //! How the cell's writer shows a cut: in both copies, one after the other.
-ghost use Rattle.std.specs.Prelude.{◌≡◌, List, ◌∷◌, ◌++◌, [], drop};
+ghost use Rattle.std.specs.Prelude.{◌≡◌, IfErr, IfOk, List, ◌∷◌, ◌++◌, [], drop};
 ghost use Rattle.cut_publisher.specs.declared.cell.Shown.{Shown};
 ghost use Rattle.cut_publisher.specs.Rule.{IsAlike, IsIdle, IsLive, IsReady, site_of};
 
@@ -44,13 +44,30 @@ fn turn<S: Subject + Drop, R: Wait>(rt: &R, writer: CellWriter<S>) -> CellWriter
 {
     let mut writer = writer;
     for _ in rt.forever() {
-        let (back, done) = writer.publish_as::<Passes, R>(rt);
-        writer = back;
-        if done.is_ok() {
-            return writer;
+        match try_turn(rt, writer) {
+            Ok(turned) => return turned,
+            Err(back) => writer = back,
         }
     }
     unreachable!()
+}
+
+// The same, where there is memory. Else the writer comes back as it was.
+fn try_turn<S: Subject + Drop, R: Wait>(
+    rt: &R,
+    writer: CellWriter<S>,
+) -> Result<CellWriter<S>, CellWriter<S>>
+    requires { IsReady S.stands writer.desk.shown.value (drop writer.behind writer.log.items) }
+    ensures shown { IfOk result (λ w. (before : List (Shown S S.Entry)) (x : Shown S S.Entry) → drop writer.behind writer.log.items ≡ before ++ x ∷ [] → IsAlike w.desk.shown.value x) }
+    ensures again { IfOk result (λ w. drop writer.behind writer.log.items ≡ [] → IsAlike w.desk.shown.value writer.desk.shown.value) }
+    ensures idle { IfOk result (λ w. IsIdle S.stands w.desk.shown.value (drop w.behind w.log.items)) }
+    ensures back { IfErr result (λ w. (w.desk.shown.value ≡ writer.desk.shown.value) × (drop w.behind w.log.items ≡ drop writer.behind writer.log.items)) }
+{
+    let (back, done) = writer.publish_as::<Passes, R>(rt);
+    match done {
+        Ok(()) => Ok(back),
+        Err(_) => Err(back),
+    }
 }
 
 // Shows it in both copies: whoever enters the cell from then on finds it.

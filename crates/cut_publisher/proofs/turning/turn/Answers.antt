@@ -1,13 +1,17 @@
-use Rattle.std.proofs.Common.{List, sym, subst}
+use Rattle.std.proofs.Common.{List, drop, ◌∙◌, sym, subst}
 use Rattle.cut_publisher.specs.declared.cell.Shown.{Shown}
-use Rattle.cut_publisher.specs.Rule.{IsReady}
-use Rattle.cut_publisher.proofs.Moves.{ready}
+use Rattle.cut_publisher.specs.Rule.{IsAlike, IsReady}
 use Rattle.cut_publisher.proofs.turning.turn.Goals as goal
 
-pub publish_as-back-requires : goal.publish_as-back-requires
-publish_as-back-requires g c next is =
+pub try_turn-requires : goal.try_turn-requires
+try_turn-requires g c =
     let S = g.row.S.Denot in
     let E = g.row.S-Entry.Denot in
     let inv = c.loop.invariant in
-    let now = subst (λ (z : Shown S E × List (Shown S E)). IsReady g.S.Subject.stands z.0 z.1) (λ i. (sym inv.0 i, sym inv.1 i)) c.requires in
-    ready g.S.Subject.stands _ _ _ next _ now is
+    subst (λ (x : Shown S E). IsReady g.S.Subject.stands x (drop c.loop.writer.behind c.loop.writer.log.items)) (sym inv.0) (subst (λ (l : List (Shown S E)). IsReady g.S.Subject.stands c.args.writer.desk.shown.value l) (sym inv.1) c.requires)
+
+pub returns-in-Ok-clause-shown : goal.returns-in-Ok-clause-shown
+returns-in-Ok-clause-shown g c before x is = c.in-Ok.ensures.shown before x (c.loop.invariant.1 ∙ is)
+
+pub returns-in-Ok-clause-again : goal.returns-in-Ok-clause-again
+returns-in-Ok-clause-again g c none = subst (λ (z : Shown g.row.S.Denot g.row.S-Entry.Denot). IsAlike c.in-Ok.turned.desk.shown.value z) c.loop.invariant.0 (c.in-Ok.ensures.again (c.loop.invariant.1 ∙ none))
