@@ -1,10 +1,10 @@
-ghost use Rattle.std.specs.Prelude.{◌≡◌, ◌==◌, ◌≤◌, ◌&&◌, List, ℕ, if◌then◌else◌, IfOk, IsErrOf, length, take, None};
+ghost use Rattle.std.specs.Prelude.{◌≡◌, ◌==◌, ◌≤◌, ◌&&◌, List, ℕ, if◌then◌else◌, IfOk, IsErrOf, drop, length, take, None};
 ghost use Rattle.std.specs.Option.{option_copied};
 ghost use Rattle.peer_events.specs.Body.{most_body};
 ghost use Rattle.bmp_specs.specs.Open.{IsOpenMessage};
-ghost use Rattle.bmp_specs.specs.PeerHeader.{is_set, place_of as place_in};
+ghost use Rattle.bmp_specs.specs.PeerHeader.{HeaderValue, is_set, place_of as place_in};
 ghost use Rattle.bmp_specs.specs.PeerUpNotification.{IsPeerUp, is_loc_rib as loc_rib_in, table_in, f_flag};
-ghost use Rattle.bmp_specs.specs.Sequence.{HasFront};
+ghost use Rattle.bmp_specs.specs.Sequence.{HasFront, Then};
 ghost use Rattle.bmp_specs.specs.Tlv.{AreTlvs};
 ghost use Rattle.bmp_specs.specs.Values.{OpenValue, PeerUpValue, TlvValue};
 
@@ -63,6 +63,34 @@ fn read_opening(alloc: Global, input: &[u8]) -> Result<Opening<'_>, BodyFault>
     Ok(Opening { open, rest })
 }
 
+// "Sent OPEN Message" and "Received OPEN Message", and the TLVs behind them.
+#[derive(Drop)]
+struct Openings<'a> {
+    sent: Open,
+    received: Open,
+    information: &'a [u8],
+}
+
+// Reads them behind the ports (RFC 7854, section 4.10).
+fn read_openings(alloc: Global, rest: &[u8]) -> Result<Openings<'_>, BodyFault>
+    requires { 20 ≤ length rest.now }
+    ensures parts { IfOk result (λ o. (ts : List TlvValue) × AreTlvs o.information.now ts × Then IsOpenMessage (Then IsOpenMessage AreTlvs) (drop 20 rest.now) (o.sent, (o.received, ts))) }
+    ensures shorter { IfOk result (λ o. length o.information.now ≤ length rest.now) }
+    ensures broken { IsErrOf result BodyFault.Broken → (head : HeaderValue) (u : PeerUpValue) → IsPeerUp head rest.now u → ⊥ }
+{
+    let sent = read_opening(alloc, &rest[HEADER_LENGTH..])?;
+    let received = read_opening(alloc, sent.rest)?;
+    let information = received.rest;
+    if !are_tlvs(information) {
+        return Err(BodyFault::Broken);
+    }
+    Ok(Openings {
+        sent: sent.open,
+        received: received.open,
+        information,
+    })
+}
+
 // Whether a Loc-RIB Instance Peer tells of a filtered Loc-RIB.
 fn is_filtered(head: &PeerHeader) -> bool
     ensures { result ≡ (loc_rib_in head.now && is_set f_flag head.now.flags) }
@@ -113,12 +141,12 @@ pub fn read_peer_up(alloc: Global, head: &PeerHeader, rest: &[u8]) -> Result<Pee
     if rest.len() < HEADER_LENGTH {
         return Err(BodyFault::Broken);
     }
-    let sent = read_opening(alloc, &rest[HEADER_LENGTH..])?;
-    let received = read_opening(alloc, sent.rest)?;
-    let information = received.rest;
-    if !are_tlvs(information) {
-        return Err(BodyFault::Broken);
-    }
+    let openings = read_openings(alloc, rest)?;
+    let Openings {
+        sent,
+        received,
+        information,
+    } = openings;
     let table = table(alloc, head, information)?;
     Ok(PeerUp {
         info: PeerInfo {
@@ -127,8 +155,8 @@ pub fn read_peer_up(alloc: Global, head: &PeerHeader, rest: &[u8]) -> Result<Pee
             local: local_address(head, rest),
             local_port: BigEndian::read_u16(&rest[16..]),
             remote_port: BigEndian::read_u16(&rest[18..]),
-            sent: sent.open,
-            received: received.open,
+            sent,
+            received,
             filtered: is_filtered(head),
             table,
         },
