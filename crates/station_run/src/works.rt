@@ -36,7 +36,6 @@ pub trait Work<S: Subject + Drop> {
 /// Does all works: one alone in this thread, more by two halves side by side, each in a thread of its own where one
 /// can be started. After either answer each work was done, and stands at its place.
 #[cycle(halves)]
-#[tactic(auto, using(crate::proofs::Halves::done_append))]
 pub fn run_all<
     S: Subject + Drop + Send + Sync,
     J: Naming + Send + Sync,
