@@ -2,7 +2,7 @@ ghost use Rattle.std.specs.Prelude.{◌≡◌, Some, IfOk, IfErr, OnOk};
 ghost use Rattle.std.specs.Arc.{arc_value};
 ghost use Rattle.bmp_specs.specs.Update.{with_hop_of};
 
-use path_attrs::{Attrs, MpPart};
+use path_attrs::{Attrs, AttrsRead, MpPart};
 use std::alloc::Global;
 use std::sync::Arc;
 use wire_io::BodyFault;
@@ -31,27 +31,42 @@ fn with_hop(attrs: &mut Attrs, part: MpPart) -> Result<Attrs, BodyFault>
 }
 
 // Shares the attributes: one set for both fields where there is no MP_REACH_NLRI.
-pub(crate) fn share(
-    alloc: Global,
-    attrs: Attrs,
-    reach: Option<MpPart>,
-) -> Result<SharedAttrs, BodyFault>
-    ensures plain { IfOk result (λ shared. arc_value shared.plain ≡ attrs) }
-    ensures multi { IfOk result (λ shared. arc_value shared.multi ≡ with_hop_of reach attrs) }
+pub(crate) fn share(alloc: Global, read: AttrsRead) -> Result<SharedAttrs, BodyFault>
+    ensures plain { IfOk result (λ shared. arc_value shared.plain ≡ read.attrs) }
+    ensures multi { IfOk result (λ shared. arc_value shared.multi ≡ with_hop_of read.reach read.attrs) }
     ensures fault { IfErr result (λ fault. fault ≡ BodyFault.NoMemory) }
 {
-    let mut attrs = attrs;
+    let AttrsRead {
+        attrs,
+        reach,
+        unreach: _,
+        count: _,
+    } = read;
     match reach {
-        None => {
-            let plain = Arc::new(alloc, attrs)?;
-            let multi = Arc::try_clone(&plain)?;
-            Ok(SharedAttrs { plain, multi })
-        }
-        Some(part) => {
-            let other = with_hop(&mut attrs, part)?;
-            let plain = Arc::new(alloc, attrs)?;
-            let multi = Arc::new(alloc, other)?;
-            Ok(SharedAttrs { plain, multi })
-        }
+        None => share_one(alloc, attrs),
+        Some(part) => share_two(alloc, attrs, part),
     }
+}
+
+// One set for both fields.
+fn share_one(alloc: Global, attrs: Attrs) -> Result<SharedAttrs, BodyFault>
+    ensures plain { IfOk result (λ shared. arc_value shared.plain ≡ attrs) }
+    ensures multi { IfOk result (λ shared. arc_value shared.multi ≡ attrs) }
+    ensures fault { IfErr result (λ fault. fault ≡ BodyFault.NoMemory) }
+{
+    let plain = Arc::new(alloc, attrs)?;
+    let multi = Arc::try_clone(&plain)?;
+    Ok(SharedAttrs { plain, multi })
+}
+
+// A set for each field, which differ in the hop.
+fn share_two(alloc: Global, mut attrs: Attrs, part: MpPart) -> Result<SharedAttrs, BodyFault>
+    ensures plain { IfOk result (λ shared. arc_value shared.plain ≡ attrs) }
+    ensures multi { IfOk result (λ shared. arc_value shared.multi ≡ with_hop_of (Some part) attrs) }
+    ensures fault { IfErr result (λ fault. fault ≡ BodyFault.NoMemory) }
+{
+    let other = with_hop(&mut attrs, part)?;
+    let plain = Arc::new(alloc, attrs)?;
+    let multi = Arc::new(alloc, other)?;
+    Ok(SharedAttrs { plain, multi })
 }
