@@ -56,3 +56,36 @@ loop-taken-preserved g c =
       lives = lives_next c.args.pass.now.station.lanes c.loop-taken.pass.station.lanes (ap (λ (x : Site). x.lanes) c.loop-taken.invariant.sees.station) _ _ _ _ _ _ _ _ _ _ _ _ _ _ _ _ _ _ _ c.loop-taken.invariant.lives piece e.told e.calm e.reads.cause.fine
           (search rules) c.in_default.ensures.kept c.hear.new.line c.in-Ok.n (sym len) (read_some c.in-Ok.n some) hears;
     }
+
+pub returns-in-Ok-eq0-clause-sees : goal.returns-in-Ok-eq0-clause-sees
+returns-in-Ok-eq0-clause-sees g c = sees_then c.args.pass.now c.loop-taken.pass c.hear_last.new.pass c.loop-taken.invariant.sees c.hear_last.ensures.sees
+
+pub returns-in-Some-clause-sees : goal.returns-in-Some-clause-sees
+returns-in-Some-clause-sees g c = sees_then c.args.pass.now c.loop-taken.pass c.hear.new.pass c.loop-taken.invariant.sees c.in-Some.ensures.sees
+
+pub returns-in-Err-clause-sees : goal.returns-in-Err-clause-sees
+returns-in-Err-clause-sees g c = c.loop-taken.invariant.sees
+
+pub returns-clause-sees : goal.returns-clause-sees
+returns-clause-sees g c = sees_then c.args.pass.now c.loop-taken.pass c.hear_last-2.new.pass c.loop-taken.invariant.sees c.hear_last-2.ensures.sees
+
+pub hear_last-requires-clause-plain : goal.hear_last-requires-clause-plain
+hear_last-requires-clause-plain g c = c.loop-taken.invariant.lives.goes.plain
+
+pub hear_last-requires-clause-short : goal.hear_last-requires-clause-short
+hear_last-requires-clause-short g c = c.loop-taken.invariant.lives.goes.short
+
+pub hear-requires-clause-plain : goal.hear-requires-clause-plain
+hear-requires-clause-plain g c = c.loop-taken.invariant.lives.goes.plain
+
+pub hear-requires-clause-short : goal.hear-requires-clause-short
+hear-requires-clause-short g c = c.loop-taken.invariant.lives.goes.short
+
+pub hear_last-requires-2-clause-plain : goal.hear_last-requires-2-clause-plain
+hear_last-requires-2-clause-plain g c = c.loop-taken.invariant.lives.goes.plain
+
+pub hear_last-requires-2-clause-short : goal.hear_last-requires-2-clause-short
+hear_last-requires-2-clause-short g c = c.loop-taken.invariant.lives.goes.short
+
+pub read-requires-clause-is_open : goal.read-requires-clause-is_open
+read-requires-clause-is_open g c = c.loop-taken.invariant.lives.reads.stays.is_open ∙ c.requires
