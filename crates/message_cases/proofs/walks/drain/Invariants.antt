@@ -1,6 +1,6 @@
 use Rattle.std.proofs.Common.{◌≡◌}
 use Rattle.bmp_message.specs.StreamWalk.{fed_of, rest_of}
-use Rattle.entry_tests.proofs.walks.drain.Given as goal
+use Rattle.message_cases.proofs.walks.drain.Given as goal
 
 abbrev pub invariant-loop-kind : goal.invariant-loop-kind
 invariant-loop-kind l = fed_of l.walk ≡ fed_of l.initial.walk
