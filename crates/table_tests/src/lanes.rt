@@ -1,5 +1,0 @@
-//! Worked sessions, and a drawn history beside an ordered map.
-
-mod drawn;
-mod made;
-mod worked;
