@@ -12,9 +12,9 @@ use wire_io::{Failed, NoMemory};
 
 /// The real yard: standard input, and TCP listeners. It tells nothing of content.
 ///
-/// Where it was asked to listen, lane n listens at `feed_port + n` and asker n at `ask_port + n`; where the ports are
-/// shared, all lanes at one listener and all askers at another, and the system says which of them gets a connection. Else
-/// port 0 gives what the reader gives, as one connection.
+/// Where it was asked to listen, lane n listens at `feed_port + n` and asker n at `ask_port + n`. Where the ports are
+/// shared, all lanes take their connections of one listener and all askers of another, and the system says which of them
+/// gets one. A yard that wasn't asked gives at port 0 what the reader gives, as one connection.
 #[derive(Drop)]
 pub struct HostYard<'a, R, N> {
     input: Option<R>,
@@ -22,8 +22,6 @@ pub struct HostYard<'a, R, N> {
     feeds: Vec<Option<TcpListener>>,
     askers: Vec<Option<TcpListener>>,
     listened: Option<Listening>,
-    idle: Option<u32>,
-    ask_idle: Option<u32>,
     calls: u64,
     faults: u64,
     endings: u64,
@@ -50,8 +48,6 @@ impl<
             feeds,
             askers,
             listened: None,
-            idle: None,
-            ask_idle: None,
             calls: 0,
             faults: 0,
             endings: 0,
@@ -81,8 +77,6 @@ impl<
     fn listen(&mut self, at: &Listening) -> Result<(), Failed> {
         self.calls = self.calls.saturating_add(1);
         self.listened = Some(*at);
-        self.idle = at.idle;
-        self.ask_idle = at.ask_idle;
         if listen_at(
             self.net,
             &at.address,
@@ -124,7 +118,11 @@ impl<
             (self.input.take(), None)
         };
         if input.is_some() || listener.is_some() {
-            return Ok(HostPort::over(self.net, input, listener, self.idle));
+            let idle = match self.listened {
+                Some(at) => at.idle,
+                None => None,
+            };
+            return Ok(HostPort::over(self.net, input, listener, idle));
         }
         self.faults = self.faults.saturating_add(1);
         Err(Failed)
@@ -140,7 +138,13 @@ impl<
     {
         self.calls = self.calls.saturating_add(1);
         match take_listener(&mut self.askers, number) {
-            Some(listener) => Ok(HostLink::over(self.net, listener, self.ask_idle)),
+            Some(listener) => {
+                let idle = match self.listened {
+                    Some(at) => at.ask_idle,
+                    None => None,
+                };
+                Ok(HostLink::over(self.net, listener, idle))
+            }
             None => {
                 self.faults = self.faults.saturating_add(1);
                 Err(Failed)

@@ -1,17 +1,27 @@
 use ip_prefix::Addr;
 
-/// What a yard was asked to listen for, at this address: lane n at `feed_port + n` and asker n at `ask_port + n`, or,
-/// where the ports are shared, all lanes at `feed_port` and all askers at `ask_port`. A connection of a router that says
-/// nothing for `idle` seconds is given up, and one of a client by `ask_idle`; without a number it may say nothing for
-/// ever.
+/// What a yard was asked to listen for.
+///
+/// Lane n listens at `feed_port + n` and asker n at `ask_port + n`. Where the ports are shared, all lanes listen at
+/// `feed_port` and all askers at `ask_port`.
 #[derive(Clone, Copy, Debug)]
 pub struct Listening {
     pub address: Addr,
+
+    /// So many lanes, one for each router at once.
     pub feeds: u32,
+
+    /// So many askers, one for each client at once.
     pub askers: u32,
+
     pub feed_port: u16,
     pub ask_port: u16,
     pub shared: bool,
+
+    /// A connection of a router that says nothing for so many seconds is given up. Without a number it may say nothing
+    /// for ever.
     pub idle: Option<u32>,
+
+    /// The same of a client's, and of one that takes nothing of what is written to it.
     pub ask_idle: Option<u32>,
 }

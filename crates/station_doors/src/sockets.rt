@@ -19,8 +19,8 @@ pub(crate) fn ip_of(address: &Addr) -> IpAddr {
     }
 }
 
-// The listener of this number: at the port so far behind the first one, or, where they share one, another handle of the
-// first listener.
+// The listener of this number: at the port so far behind the first one, or, where they share that port, a further handle
+// of its listener.
 fn listener_of<N: Net<Listener = TcpListener, Stream = TcpStream>>(
     net: &N,
     address: &Addr,
@@ -95,13 +95,25 @@ fn is_passing(kind: ErrorKind) -> bool {
     )
 }
 
-// Whether the system has no place for a further connection now: too many files are open, or memory is short. It may have
-// one later.
+// What Linux says where it has no room for a further connection: no memory, too many open files of the system or of this
+// process, no buffer space.
+const ENOMEM: i32 = 12;
+
+const ENFILE: i32 = 23;
+
+const EMFILE: i32 = 24;
+
+const ENOBUFS: i32 = 105;
+
+// Whether the system has no room for a further connection now. It may have some later.
 fn is_crowded(error: &io::Error) -> bool {
-    matches!(error.raw_os_error(), Some(12 | 23 | 24 | 105))
+    matches!(
+        error.raw_os_error(),
+        Some(ENOMEM | ENFILE | EMFILE | ENOBUFS)
+    )
 }
 
-// Gives the stream its times, and lets its writes go out at once.
+// Bounds how long each read and each write of the stream waits, and lets its writes go out at once.
 fn prepare(stream: &TcpStream, idle: Option<u32>) -> io::Result<()> {
     let time = idle.map(|seconds| Duration::from_secs(seconds as u64));
     stream.set_read_timeout(time)?;
@@ -109,9 +121,9 @@ fn prepare(stream: &TcpStream, idle: Option<u32>) -> io::Result<()> {
     stream.set_nodelay(true)
 }
 
-// Waits for the next connection, whose reads and writes wait for so many seconds at most. One that is gone before it can
-// be made ready is passed over, and where the system has no place for one, it is tried again a second later. None where it
-// failed for a cause that lasts.
+// Waits for the next connection, whose reads and writes then wait for `idle` seconds at most. One that is lost before it
+// is ready is passed over, and where the system has no room for one it is asked again a second later. None where that
+// failed for another cause.
 pub(crate) fn accept_next<C: Clock>(
     clock: &C,
     listener: &TcpListener,
@@ -136,10 +148,10 @@ pub(crate) fn accept_next<C: Clock>(
     None
 }
 
-// So often a call is made again that a signal broke off.
+// The most times that a read or a write is made which signals break off. Each waits anew for all of its seconds.
 const MOST_TRIES: u32 = 1_000_000;
 
-// Reads from the stream.
+// Reads from the stream. A read that a signal broke off is made again.
 pub(crate) fn read_stream(stream: &mut TcpStream, buf: &mut [u8]) -> Result<usize, Failed>
     ensures { IfOk result (λ n. n ≤ length buf.new) }
 {
@@ -156,7 +168,7 @@ pub(crate) fn read_stream(stream: &mut TcpStream, buf: &mut [u8]) -> Result<usiz
     Err(Failed)
 }
 
-// Writes to the stream. None where that failed, or took nothing.
+// Writes to the stream. A write that a signal broke off is made again. None where that failed, or took nothing.
 pub(crate) fn write_stream(stream: &mut TcpStream, piece: &[u8]) -> Option<usize>
     ensures { IfSome result (λ n. (0 < n) × (n ≤ length piece.now)) }
 {
