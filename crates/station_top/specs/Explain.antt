@@ -1,8 +1,39 @@
 -- The texts of `--help` and `--version`.
-use Rattle.std.specs.Prelude.{ℕ, List, codes}
+use Rattle.std.specs.Prelude.{ℕ, List, ◌++◌, codes}
 
+-- what `--help` writes, line by line
 abbrev pub help_text : List ℕ
-help_text = codes "bmpstation: a monitoring station for the BGP Monitoring Protocol (RFC 7854)\n\nusage: bmpstation COMMAND\n\n  replay [--lenient] QUERY   a query's reply on the stream on standard input\n  check [--lenient]          how many messages of each type that stream has\n  serve SETTINGS             routers and clients side by side, over TCP\n  drill SEED LANES MESSAGES  lanes over made streams, and what they come to\n\nsettings of serve, in any order, as --name VALUE or --name=VALUE:\n\n  --feeds N --askers M       so many routers and clients, from 1 to 64\n  --feed-port P              routers connect to the ports from P on\n  --ask-port Q               clients connect to the ports from Q on\n  --rounds K                 connections of each: 1 to 4096, or forever\n  --address A                listen at this address (127.0.0.1)\n  --ports each|shared        a port for each router and client (each), or one\n                             port for all routers and one for all clients\n  --idle S                   give a router up that says nothing for S seconds\n  --ask-idle S               the same of a client; S is from 1 to 86400\n  --lenient                  read what routers send, not by the RFCs alone\n\nstatuses: 0 done, 1 the stream stopped early, 2 usage, 3 a read failed,\n4 a write failed, 5 no memory, 6 a port or a connection can't be had\n\nThe manual is bmpstation(1), and doc/ in the package.\n"
+help_text = codes "bmpstation: a station for the BGP Monitoring Protocol (RFC 7854)\n"
+    ++ codes "\n"
+    ++ codes "usage: bmpstation COMMAND\n"
+    ++ codes "\n"
+    ++ codes "  replay [--lenient] QUERY   a query's reply on the stream on standard input\n"
+    ++ codes "  check [--lenient]          how many messages of each type that stream has\n"
+    ++ codes "  serve OPTIONS              routers and clients side by side, over TCP\n"
+    ++ codes "  drill SEED LANES MESSAGES  lanes over made streams, and what they come to\n"
+    ++ codes "  --help, -h                 this text\n"
+    ++ codes "  --version, -V              which version this is\n"
+    ++ codes "\n"
+    ++ codes "options of serve, in any order, as --name VALUE or --name=VALUE:\n"
+    ++ codes "\n"
+    ++ codes "  --feeds N                  so many routers at once, from 1 to 64\n"
+    ++ codes "  --askers M                 so many clients at once, from 1 to 64\n"
+    ++ codes "  --feed-port P              routers connect to the ports from P on\n"
+    ++ codes "  --ask-port Q               clients connect to the ports from Q on\n"
+    ++ codes "  --rounds K                 connections of each place: 1 to 4096, or forever\n"
+    ++ codes "  --address A                listen at this address (127.0.0.1)\n"
+    ++ codes "  --ports each|shared        a port for each router and client (each), or one\n"
+    ++ codes "                             port for all routers and one for all clients\n"
+    ++ codes "  --idle S                   close a router's connection that says nothing for\n"
+    ++ codes "                             S seconds, from 1 to 86400 (never)\n"
+    ++ codes "  --ask-idle S               the same of a client's\n"
+    ++ codes "  --lenient                  read what FRR and GoBGP send beside the RFCs\n"
+    ++ codes "\n"
+    ++ codes "statuses: 0 done, 1 the stream stopped early, 2 usage, 3 a read failed,\n"
+    ++ codes "4 a write failed, 5 want of memory, 6 no input, or a port can't be had\n"
+    ++ codes "\n"
+    ++ codes "The manual is bmpstation(1); bmpstation-query(7) has the queries.\n"
 
+-- what `--version` writes
 abbrev pub version_line : List ℕ
 version_line = codes "bmpstation 0.1.0\n"

@@ -25,7 +25,7 @@ pub struct ServeWords {
     /// Where it listens, for so many routers and clients.
     pub at: Listening,
 
-    /// So many connections are taken of each of them. Of `forever` it is the greatest number.
+    /// So many connections each lane and each asker takes, one after another. `forever` is the greatest number.
     pub rounds: u32,
 }
 
