@@ -24,4 +24,5 @@ pub mod LaneSteps
 pub mod ReplySteps
 pub mod LinesThere
 pub mod RepliesThere
+pub mod Batches
 pub mod HistoryLanes

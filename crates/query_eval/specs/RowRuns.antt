@@ -1,5 +1,5 @@
 -- Runs of NLRI in their order: those of a family, of one prefix, or of the prefixes within one.
-use Rattle.std.specs.Prelude.{Bool, true, ◌&&◌, leb, [], ◌∷◌, if◌then◌else◌, replicate, Option, None, Some}
+use Rattle.std.specs.Prelude.{Bool, List, true, ◌&&◌, leb, [], ◌∷◌, if◌then◌else◌, replicate, Option, None, Some}
 use Rattle.std.specs.Cmp.Lexicographic.{slice_cmp}
 use Rattle.std.specs.Ordering.{is_eq, nat_cmp}
 use Rattle.bmp_specs.specs.declared.wire.Family.{Family}
@@ -7,9 +7,13 @@ use Rattle.bmp_specs.specs.declared.wire.Family.TheVariants.{V4, V6}
 use Rattle.bmp_specs.specs.Address.{IsAddressPrefix}
 use Rattle.bmp_specs.specs.Orders.{family_cmp, prefix_cmp}
 use Rattle.bmp_specs.specs.Prefix.{first_bits}
-use Rattle.bmp_specs.specs.Values.{AddressValue, NlriValue, PrefixValue}
+use Rattle.bmp_specs.specs.Values.{AddressValue, AttrsValue, NlriValue, PrefixValue}
 use Rattle.route_runs.specs.declared.walk.Place.{Place}
 use Rattle.route_runs.specs.declared.walk.Place.TheVariants.{First, From}
+use Rattle.std.specs.Borrow.{Bor}
+use Rattle.std.specs.declared.alloc.Global.{Global}
+use Rattle.std.specs.declared.sync.Arc.{Arc}
+use Rattle.route_runs.specs.Runs.{shared}
 use Rattle.router_tables.specs.Views.{Table}
 use Rattle.query_eval.specs.declared.run.Part.{Part}
 use Rattle.query_eval.specs.declared.run.Part.TheVariants.{Whole, Exact, Within}
@@ -60,3 +64,9 @@ IsPart (Within p) = IsAddressPrefix p
 abbrev pub front_of : Run → Table → Table
 front_of run [] = []
 front_of run (e ∷ es) = if in_run run e.0 then e ∷ front_of run es else []
+
+-- the pairs that stand in places, by their NLRI and by the references to their sets
+abbrev pub shown_all : List NlriValue → List (Bor (Arc AttrsValue Global)) → Table
+shown_all [] routes = []
+shown_all (n ∷ nlris) [] = []
+shown_all (n ∷ nlris) (route ∷ routes) = (n, shared route) ∷ shown_all nlris routes

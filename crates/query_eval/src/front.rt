@@ -4,11 +4,11 @@ ghost use Rattle.query_eval.specs.Puts.{WritesLines};
 ghost use Rattle.query_eval.specs.RowRuns.{front_of};
 ghost use Rattle.query_eval.specs.Rows.{lines_of, row_of};
 
+use crate::batch::{AHEAD, gather, put_batch};
 use crate::pairs::Pairs;
 use crate::run::Run;
 use crate::tables::PeerTable;
-use reply_text::put_route;
-use rib_model::RowKey;
+use reply_text::RouteLines;
 use wire_io::{Failed, Sink};
 
 /// Writes the lines of a table's routes that a walk gives, up to the first that isn't in the run, and answers how
@@ -23,20 +23,23 @@ pub(crate) fn put_front<'a, O: Sink, W: Pairs<'a> + Drop>(
     ensures { WritesLines O.faults O.told O.aside out.old (lines_of lane (map (row_of table.now.key table.now.view) (front_of run.now (W.left walk)))) result out.new }
 {
     let mut walk = walk;
-    let mut count: u64 = 0;
-    while let Some(found) = walk.next_pair() {
-        if !run.holds(&found.0) {
+    let Some(found) = walk.next_pair() else {
+        return Ok(0);
+    };
+    if !run.holds(&found.0) {
+        return Ok(0);
+    }
+    let mut nlris = [found.0; AHEAD];
+    let mut routes = [found.1; AHEAD];
+    let mut lines = RouteLines::new(lane, table.key, table.view);
+    let mut count = put_batch(out, &mut lines, &nlris[..1], &routes[..1])?;
+    loop {
+        let some = gather(&mut walk, run, &mut nlris, &mut routes);
+        count = count.saturating_add(put_batch(out, &mut lines, &nlris[..some], &routes[..some])?);
+        if some < AHEAD {
             return Ok(count);
         }
-        let row = RowKey {
-            key: table.key,
-            view: table.view,
-            nlri: found.0,
-        };
-        put_route(out, lane, &row, found.1)?;
-        count = count.saturating_add(1);
     }
-    Ok(count)
 }
 
 /// How many routes a walk gives, up to the first that isn't in the run.

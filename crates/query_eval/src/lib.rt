@@ -10,6 +10,7 @@
 #![tactic(auto)]
 
 mod asks;
+mod batch;
 mod changes;
 mod count;
 mod exact;

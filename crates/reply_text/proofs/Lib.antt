@@ -1,2 +1,4 @@
 pub mod Pieces
+pub mod Digits
+pub mod Fronts
 pub mod Joining

@@ -22,7 +22,7 @@ pub(crate) fn v4_text(bytes: &[u8]) -> ShortText
 }
 
 // The text of sixteen bytes as an IPv6 address.
-fn v6_text(bytes: &[u8]) -> ShortText
+pub(crate) fn v6_text(bytes: &[u8]) -> ShortText
     requires { length bytes.now ≡ 16 }
     ensures whole { result ≡ text_in Family.V6 bytes.now }
     ensures short { length result ≤ 42 }

@@ -12,12 +12,15 @@
 mod change;
 mod escaped;
 mod hop;
+mod line;
 mod lines;
 mod lists;
 mod mark;
 mod path;
 mod peer;
+mod pen;
 mod route;
+mod route_lines;
 mod router;
 mod stat;
 mod values;
@@ -28,6 +31,7 @@ pub use lines::{put_at, put_count, put_end, put_lane, put_missed, put_steps, put
 pub use mark::put_mark;
 pub use peer::put_peer;
 pub use route::put_route;
+pub use route_lines::{RouteLines, is_short};
 pub use router::{RouterLine, RouterState, put_router};
 pub use stat::put_stat;
 pub use wire_io::{Failed, Sink};

@@ -1,0 +1,28 @@
+-- A line behind what its table's lines begin with.
+use Rattle.std.proofs.Common.{◌≡◌, ℕ, zero, suc, List, [], ◌∷◌, ◌++◌, length, take, drop, get_or, refl, sym, ap, ◌∙◌, arith, append_assoc, codes}
+use Rattle.bmp_specs.specs.Lines.{further}
+use Rattle.bmp_specs.specs.NumberText.{number_text}
+use Rattle.bmp_specs.specs.PeerText.{key_text, view_text}
+use Rattle.bmp_specs.specs.PrefixText.{prefix_text}
+use Rattle.bmp_specs.specs.RouteLine.{attribute_fields, id_fields, route_line}
+use Rattle.bmp_specs.specs.Values.{AttrsValue, NlriValue}
+use Rattle.reply_text.specs.Fronts.{TableValue, front_text}
+use Rattle.reply_text.specs.Pieces.{spaced}
+use Rattle.reply_text.proofs.Pieces.{further-append}
+
+-- what stands before a place stays as it was
+pub front_stays : (xs rest new : List ℕ) (end : ℕ) → take end new ≡ xs ++ rest → take (length xs) new ≡ xs
+front_stays [] rest new end e = refl
+front_stays (x ∷ xs) rest new zero e = absurd (omega (arith, ap length e))
+front_stays (x ∷ xs) rest [] (suc end) e = absurd (omega (arith, ap length e))
+front_stays (x ∷ xs) rest (n ∷ ns) (suc end) e = λ i. ap (λ (l : List ℕ). get_or l 0 0) e i ∷ front_stays xs rest ns end (ap (λ (l : List ℕ). drop 1 l) e) i
+
+front_parts : (lane key view rest : List ℕ) → codes "route " ++ (lane ++ (32 ∷ (key ++ (32 ∷ (view ++ (32 ∷ rest)))))) ≡ (codes "route " ++ (lane ++ (32 ∷ (key ++ (32 ∷ (view ++ (32 ∷ []))))))) ++ rest
+front_parts lane key view rest = simp append_assoc
+
+-- a line and what it begins with
+pub line_parts_of : (t : TableValue) (n : NlriValue) (a : AttrsValue)
+    → route_line t.lane (record { row_key = record { key = t.key; view = t.view; nlri = n }; route = a }) ≡ front_text t ++ (prefix_text n.prefix ++ (spaced (attribute_fields a) ++ further (id_fields n.id)))
+line_parts_of t n a =
+    ap (λ (l : List ℕ). codes "route " ++ (number_text t.lane ++ (32 ∷ (key_text t.key ++ (32 ∷ (view_text t.view ++ (32 ∷ (prefix_text n.prefix ++ l)))))))) (further-append (attribute_fields a) (id_fields n.id))
+    ∙ front_parts (number_text t.lane) (key_text t.key) (view_text t.view) (prefix_text n.prefix ++ (spaced (attribute_fields a) ++ further (id_fields n.id)))

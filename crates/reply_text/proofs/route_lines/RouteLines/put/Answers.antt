@@ -1,0 +1,24 @@
+use Rattle.std.proofs.Common.{◌≡◌, ◌≤◌, ◌∙◌, ℕ, List, ◌++◌, ap, sym, length, length-take, take, arith, subst}
+use Rattle.bmp_specs.specs.Lines.{further}
+use Rattle.bmp_specs.specs.PrefixText.{prefix_text}
+use Rattle.bmp_specs.specs.RouteLine.{attribute_fields, id_fields, route_line}
+use Rattle.reply_text.specs.Fronts.{TableValue}
+use Rattle.reply_text.specs.Pieces.{spaced}
+use Rattle.reply_text.proofs.Fronts.{front_stays, line_parts_of}
+use Rattle.reply_text.proofs.Joining.{writes_same}
+use Rattle.reply_text.proofs.route_lines.RouteLines.put.Goals as goal
+
+pub invariant_of-self : goal.invariant_of-self
+invariant_of-self g c =
+    let front = c.self.inside.front in
+    let long : length (take front c.self.inside.line) ≡ front = omega (arith, length-take front c.self.inside.line, c.self.told, c.self.invariant.1) in
+    let same : take front c.fields-end.new.line ≡ take front c.self.inside.line = subst (λ (k : ℕ). take k c.fields-end.new.line ≡ take front c.self.inside.line) long (front_stays _ _ _ _ c.fields-end.ensures.whole) in
+    (same ∙ c.self.invariant.0, c.self.invariant.1)
+
+pub returns-clause-writes : goal.returns-clause-writes
+returns-clause-writes g c =
+    let n = c.args.nlri.now in
+    let a = c.args.attrs.now in
+    let tail : List ℕ = prefix_text n.prefix ++ (spaced (attribute_fields a) ++ further (id_fields n.id)) in
+    writes_same _ _ _ _ _ c.write_all.ensures
+    (ap (λ (v : TableValue). route_line v.lane (record { row_key = record { key = v.key; view = v.view; nlri = n }; route = a })) (sym c.self.view_is) ∙ line_parts_of _ n a ∙ ap (λ (l : List ℕ). l ++ tail) (sym c.self.invariant.0) ∙ sym c.fields-end.ensures.whole)
