@@ -40,7 +40,6 @@ set -euo pipefail
 other=${1:?usage: bench/lanes.sh OTHER [PREFIXES]}
 prefixes=${2:-1000000}
 rounds=5
-program=lane_bench
 . "$(dirname "$0")/measure.sh"
 
 # The number behind a word that a run said.
@@ -69,14 +68,13 @@ measure() {
     done
 }
 
-streams=$(built bench)
 here=$(dirname "$0")
 "$here/table" "$prefixes" 7 >"$work/generated"
 for order in sorted single; do
     "$here/reorder" "$order" <"$work/generated" >"$work/stream"
     measure "$order"
 done
-"$streams" stream 7 0 1000000 >"$work/stream"
+"$ours" stream 7 0 1000000 >"$work/stream"
 measure drill
 
 # Appends the pace of what a run said to the file of its name, and its pace with the letting go.
@@ -101,7 +99,7 @@ side_by_side() {
 
 lanes=${LANES:-64}
 input=$work/stream
-"$streams" stream 7 0 "${MESSAGES:-100000}" >"$input"
+"$ours" stream 7 0 "${MESSAGES:-100000}" >"$input"
 echo "$lanes lanes at once, $(stat -c %s "$input") bytes each, $(nproc) processors"
 for client in quiet asks keeps; do
     for _ in $(seq $((3 * rounds))); do

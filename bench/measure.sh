@@ -1,18 +1,14 @@
 # Sourced by the scripts beside it: runs programs and keeps what they take.
 #
 # The program is `bench`, or the crate that `program` names. Sets `ours`, that program, which is built
-# where it isn't there (`built NAME` gives that of another crate), `work`, a folder that goes with the script, and `rounds`, which is ROUNDS or what
+# where it isn't there, `work`, a folder that goes with the script, and `rounds`, which is ROUNDS or what
 # the script sets before.
 
 top=$(cd "$(dirname "$0")/.." && pwd)
 program=${program:-bench}
 rounds=${ROUNDS:-$rounds}
-built() {
-    local file=$top/crates/$1/out/$1
-    [ -x "$file" ] || (cd "$top/crates/$1" && rt run >/dev/null 2>&1) || [ -x "$file" ]
-    echo "$file"
-}
-ours=$(built "$program")
+ours=$top/crates/$program/out/$program
+[ -x "$ours" ] || (cd "$top/crates/$program" && rt run >/dev/null 2>&1) || [ -x "$ours" ]
 
 work=$(mktemp -d)
 trap 'rm -rf "$work"' EXIT

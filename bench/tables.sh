@@ -15,7 +15,7 @@
 #   walk       the same, and WALKS walks (20) over all routes
 #   longest pause
 #              the longest time by the clock from the bytes of a read until the tables with all that they brought are
-#              published (`lane_bench quiet`, least of the rounds), with their merges
+#              published (`bench quiet`, least of the rounds), with their merges
 #
 # A ratio is that of least processor times: below 1 `lane` is faster than OTHER, and `keep` than `lane`. Bytes
 # a route are of peak memory, by the `time` of GNU, without what the program takes for an empty stream. The
@@ -28,7 +28,6 @@ prefixes=${2:-1000000}
 rounds=5
 . "$(dirname "$0")/measure.sh"
 
-published=$(built lane_bench)
 looks=${LOOKS:-1000000}
 walks=${WALKS:-20}
 
@@ -51,7 +50,7 @@ measure() {
         run "$order.longest" lane_seek 0 "$looks"
         run "$order.none" lane_walk 0
         run "$order.walk" lane_walk "$walks"
-        spend "$order.pause" "$published" quiet 65536 1
+        run "$order.pause" quiet 65536 1
         said "$order.pause" longest >>"$work/$order.pauses"
     done
     # All leave as many routes, and each look-up finds one that stands.

@@ -77,11 +77,15 @@ fn walk<R: Read + Drop>(alloc: Global, mut input: R, size: usize) -> io::Result<
     Ok(counts)
 }
 
-/// Walks standard input by its message headers, fed in pieces of so many bytes, and prints how many
-/// messages there were of each type.
-pub fn run(rt: &HostRuntime, size: Option<usize>) -> io::Result<()> {
+/// Walks a stream by its message headers, fed in pieces of so many bytes, and prints how many messages there were
+/// of each type.
+pub fn run<R: Print + AllocGlobal, I: Read + Drop>(
+    rt: &R,
+    input: I,
+    size: Option<usize>,
+) -> io::Result<()> {
     let size = size.unwrap_or(PIECE).max(1);
-    let counts = walk(rt.alloc(), rt.reader(), size)?;
+    let counts = walk(rt.alloc(), input, size)?;
     println!(rt; "messages {}", counts.messages)?;
     println!(rt; "bytes {}", counts.bytes)?;
     println!(rt; "route-monitoring {}", counts.kinds[0])?;

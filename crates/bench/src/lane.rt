@@ -171,11 +171,15 @@ fn rows(tables: &RouterTables, places: &[(PeerKey, View)]) -> u64 {
     rows
 }
 
-/// Takes the stream of standard input, brings the tables up to date after each read, and prints how many
-/// routes they have, how many entries were taken, with the opening, and how many versions were kept. The tables are left
-/// to the system, which takes all memory back as the program ends.
-pub fn run(rt: &HostRuntime, versions: Versions) -> io::Result<()> {
-    let lane = taken(rt.alloc(), rt.reader(), versions)?;
+/// Takes a stream, brings the tables up to date after each read, and prints how many routes they have, how many entries
+/// were taken, with the opening, and how many versions were kept. The tables are left to the system, which takes all
+/// memory back as the program ends.
+pub fn run<R: Print + AllocGlobal, I: Read + Drop>(
+    rt: &R,
+    input: I,
+    versions: Versions,
+) -> io::Result<()> {
+    let lane = taken(rt.alloc(), input, versions)?;
     let places = wanted(places(rt.alloc(), &lane.tables))?;
     println!(rt; "count {}", rows(&lane.tables, &places))?;
     println!(rt; "entries {}", lane.entries)?;
@@ -249,12 +253,17 @@ fn matched<L: Ledger>(
     matched
 }
 
-/// Takes the stream of standard input, looks so many NLRI up that stand in each table, asks each so many times
-/// for the longest match of an address, and prints how many were found.
-pub fn seek(rt: &HostRuntime, gets: Option<usize>, longest: Option<usize>) -> io::Result<()> {
+/// Takes a stream, looks so many NLRI up that stand in each table, asks each so many times for the longest match of an
+/// address, and prints how many were found.
+pub fn seek<R: Print + AllocGlobal, I: Read + Drop>(
+    rt: &R,
+    input: I,
+    gets: Option<usize>,
+    longest: Option<usize>,
+) -> io::Result<()> {
     let gets = gets.unwrap_or(LOOK_UPS);
     let longest = longest.unwrap_or(gets);
-    let lane = taken(rt.alloc(), rt.reader(), Versions::Last)?;
+    let lane = taken(rt.alloc(), input, Versions::Last)?;
     let places = wanted(places(rt.alloc(), &lane.tables))?;
     let mut sought = Sought {
         found: 0,
@@ -309,10 +318,14 @@ impl Walked {
     }
 }
 
-/// Takes the stream of standard input, walks so many times over all its tables, and prints how many routes the
-/// walks gave, and the bits of their prefixes.
-pub fn walk(rt: &HostRuntime, times: Option<usize>) -> io::Result<()> {
-    let lane = taken(rt.alloc(), rt.reader(), Versions::Last)?;
+/// Takes a stream, walks so many times over all its tables, and prints how many routes the walks gave, and the bits of
+/// their prefixes.
+pub fn walk<R: Print + AllocGlobal, I: Read + Drop>(
+    rt: &R,
+    input: I,
+    times: Option<usize>,
+) -> io::Result<()> {
+    let lane = taken(rt.alloc(), input, Versions::Last)?;
     let places = wanted(places(rt.alloc(), &lane.tables))?;
     let mut walked = Walked { rows: 0, bits: 0 };
     for _ in 0..times.unwrap_or(WALKS) {

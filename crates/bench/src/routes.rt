@@ -39,7 +39,7 @@ fn route(alloc: Global, med: u32) -> Option<Route> {
 
 /// Announces so many prefixes, five with the same attributes, in new tables made one after another, and looks
 /// each up.
-pub fn runs(rt: &HostRuntime, order: Order, count: Option<usize>) -> io::Result<()> {
+pub fn runs<R: Print + AllocGlobal>(rt: &R, order: Order, count: Option<usize>) -> io::Result<()> {
     let numbers = numbers(rt.alloc(), counted(count), order)?;
     let Some(table) = filled(rt.alloc(), &numbers) else {
         return Err(io::Error::from(io::ErrorKind::OutOfMemory));

@@ -93,8 +93,8 @@ pub fn numbers(alloc: Global, count: u32, order: Order) -> io::Result<Vec<u32>> 
 
 /// Puts so many prefixes into a trie, looks each up, and asks so many times for the longest match of an
 /// address for each.
-pub fn trie(
-    rt: &HostRuntime,
+pub fn trie<R: Print + AllocGlobal>(
+    rt: &R,
     order: Order,
     count: Option<usize>,
     times: Option<usize>,
@@ -156,7 +156,7 @@ fn matched<L: Ledger>(trie: &Trie<u32>, numbers: &[u32], answers: &mut Answers, 
 }
 
 /// Puts so many prefixes into an ordered map of std, and looks each up.
-pub fn map(rt: &HostRuntime, order: Order, count: Option<usize>) -> io::Result<()> {
+pub fn map<R: Print + AllocGlobal>(rt: &R, order: Order, count: Option<usize>) -> io::Result<()> {
     let numbers = numbers(rt.alloc(), counted(count), order)?;
     let mut map = BTreeMap::new(rt.alloc());
     for number in numbers.iter() {

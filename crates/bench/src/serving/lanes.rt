@@ -2,7 +2,7 @@
 ghost use Rattle.std.specs.Prelude.{◌≡◌, ◌<◌};
 ghost use Rattle.cut_publisher.specs.Opening.{AreFeedsOf};
 
-use crate::watch::{Client, Watch};
+use super::watch::{Client, Watch};
 use bmp_message::Reading;
 use cut_publisher::{AskList, FeedList, FeedPass, Naming, Publisher};
 use feed_worker::{LaneEnd, LanePort, serve_feed};

@@ -1,13 +1,15 @@
-//! Lanes that take standard input.
+//! Lanes of a station that take a stream, each over a port in memory and with a client beside it.
 ghost use Rattle.std.specs.Prelude.{◌≡◌, ℕ, ◌<◌, ◌≤◌, [], IfSome};
 ghost use Rattle.std.specs.Arc.{arc_value};
 ghost use Rattle.cut_publisher.specs.Opening.{IsOpened};
 ghost use Rattle.rib_model.specs.Entries.{entry_values};
 ghost use Rattle.router_tables.specs.Tables.{StandsFor};
 
-use crate::lanes::{Outcome, lanes_of, serve_all};
-use crate::watch::Client;
+mod lanes;
+mod watch;
+
 use cut_publisher::{Naming, Station, name, open_station};
+use lanes::{Outcome, lanes_of, serve_all};
 use router_tables::RouterTables;
 use std::alloc::Global;
 use std::io;
@@ -17,6 +19,7 @@ use std::rt::Clock;
 use std::sync::{Arc, Wait};
 use std::thread::Threads;
 use std::time::{Duration, Instant};
+pub use watch::Client;
 use wire_io::ByteList;
 
 /// The most bytes of one read of a port.
@@ -25,8 +28,8 @@ const READ: usize = 65_536;
 /// The most lanes.
 const MOST_LANES: u32 = 64;
 
-// All bytes of the input.
-fn read_all<R: Read + Drop>(alloc: Global, mut input: R) -> io::Result<ByteList> {
+/// All bytes of the input.
+pub fn read_all<R: Read + Drop>(alloc: Global, mut input: R) -> io::Result<ByteList> {
     let mut bytes = ByteList::new(alloc);
     let mut buffer = vec![in alloc; 0u8; READ]?;
     for _ in 0..u64::MAX {

@@ -1,6 +1,6 @@
 use Rattle.std.proofs.Common.{◌<◌, length, arith}
-use Rattle.lane_bench.proofs.Passes.{last_is_of, one_fewer, rest_are_of}
-use Rattle.lane_bench.proofs.lanes.lanes_of.Goals as goal
+use Rattle.bench.proofs.Passes.{last_is_of, one_fewer, rest_are_of}
+use Rattle.bench.proofs.serving.lanes.lanes_of.Goals as goal
 
 pub invariant_of-push : goal.invariant_of-push
 invariant_of-push g c = record { of = last_is_of g.J.Naming.site c.loop-pass.feeds c.pop.new.self c.in-Some.pass c.in-Some.ensures c.loop-pass.invariant }
