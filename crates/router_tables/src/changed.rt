@@ -1,4 +1,4 @@
-ghost use Rattle.std.specs.Prelude.{◌≡◌, ◌↔◌, [], List, IfOk, OnOk, IsTrue};
+ghost use Rattle.std.specs.Prelude.{◌≡◌, ◌↔◌, [], List, IfOk, OnOk, IsTrue, None, Some};
 ghost use Rattle.std.specs.Arc.{arc_value};
 ghost use Rattle.std.specs.Option.{option_map, unwrap_or};
 ghost use Rattle.bmp_specs.specs.Values.{EffectValue};
@@ -95,15 +95,29 @@ fn changed_table(
 {
     let mut changes = changes;
     match table {
-        Some(table) => {
-            let new = table.with(&mut changes)?;
-            next_table(alloc, new)
-        }
-        None => {
-            let new = RouteTable::new(alloc).with(&mut changes)?;
-            first_table(alloc, new)
-        }
+        Some(table) => later_table(alloc, &table, &mut changes),
+        None => earliest_table(alloc, &mut changes),
     }
+}
+
+// The table with these changes, where there was one.
+fn later_table(
+    alloc: Global,
+    table: &RouteTable,
+    changes: &mut Changes,
+) -> Result<Option<Arc<RouteTable>>, NoMemory>
+    ensures { IfOk result (λ new. IsTableAfter changes.old (Some table.now) (option_map arc_value new)) }
+{
+    let new = table.with(changes)?;
+    next_table(alloc, new)
+}
+
+// The table with these changes, where there was none.
+fn earliest_table(alloc: Global, changes: &mut Changes) -> Result<Option<Arc<RouteTable>>, NoMemory>
+    ensures { IfOk result (λ new. IsTableAfter changes.old None (option_map arc_value new)) }
+{
+    let new = RouteTable::new(alloc).with(changes)?;
+    first_table(alloc, new)
 }
 
 // A later table of a peer and a RIB; none where no route is left. One whose withdrawals aren't merged with its oldest
