@@ -5,3 +5,4 @@ pub mod SelectorLaws
 pub mod FormLaws
 pub mod NoSpace
 pub mod TextLaws
+mod VerbWords
