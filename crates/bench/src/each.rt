@@ -15,9 +15,15 @@ pub fn run<R: Threads + Wait + Clock + Print + AllocGlobal + Sync, I: Read + Dro
     input: I,
 ) -> io::Result<()> {
     let stream = serving::read_all(rt.alloc(), input)?;
-    let bytes = stream.as_slice();
-    on_stream(rt, bytes)?;
-    serving::run(rt, rt.alloc(), bytes, Client::Keeps, Some(16), None)?;
+    each_on(rt, stream.as_slice())
+}
+
+fn each_on<R: Threads + Wait + Clock + Print + AllocGlobal + Sync>(
+    rt: &R,
+    stream: &[u8],
+) -> io::Result<()> {
+    on_stream(rt, stream)?;
+    serving::run(rt, rt.alloc(), stream, Client::Keeps, Some(16), None)?;
     publisher::run(rt, rt.alloc(), Call::Publish, Some(3))?;
     publisher::run(rt, rt.alloc(), Call::Snapshot, Some(3))?;
     on_prefixes(rt)

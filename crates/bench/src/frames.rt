@@ -12,7 +12,7 @@ const PIECE: usize = 65_536;
 const LIMIT: u64 = 1 << 46;
 
 /// How many messages there were of each type, and their lengths.
-#[derive(Drop)]
+#[derive(Clone, Copy)]
 struct Counts {
     kinds: [u64; 8],
     messages: u64,
@@ -34,6 +34,23 @@ impl Counts {
         self.kinds[place] = self.kinds[place].saturating_add(1);
         self.messages = self.messages.saturating_add(1);
         self.bytes = self.bytes.saturating_add(length as u64);
+    }
+
+    fn print(&self, rt: &impl Print) -> io::Result<()> {
+        println!(rt; "messages {}", self.messages)?;
+        println!(rt; "bytes {}", self.bytes)?;
+        self.print_kinds(rt)
+    }
+
+    fn print_kinds(&self, rt: &impl Print) -> io::Result<()> {
+        println!(rt; "route-monitoring {}", self.kinds[0])?;
+        println!(rt; "statistics-report {}", self.kinds[1])?;
+        println!(rt; "peer-down {}", self.kinds[2])?;
+        println!(rt; "peer-up {}", self.kinds[3])?;
+        println!(rt; "initiation {}", self.kinds[4])?;
+        println!(rt; "termination {}", self.kinds[5])?;
+        println!(rt; "route-mirroring {}", self.kinds[6])?;
+        println!(rt; "other {}", self.kinds[7])
     }
 }
 
@@ -86,14 +103,5 @@ pub fn run<R: Print + AllocGlobal, I: Read + Drop>(
 ) -> io::Result<()> {
     let size = size.unwrap_or(PIECE).max(1);
     let counts = walk(rt.alloc(), input, size)?;
-    println!(rt; "messages {}", counts.messages)?;
-    println!(rt; "bytes {}", counts.bytes)?;
-    println!(rt; "route-monitoring {}", counts.kinds[0])?;
-    println!(rt; "statistics-report {}", counts.kinds[1])?;
-    println!(rt; "peer-down {}", counts.kinds[2])?;
-    println!(rt; "peer-up {}", counts.kinds[3])?;
-    println!(rt; "initiation {}", counts.kinds[4])?;
-    println!(rt; "termination {}", counts.kinds[5])?;
-    println!(rt; "route-mirroring {}", counts.kinds[6])?;
-    println!(rt; "other {}", counts.kinds[7])
+    counts.print(rt)
 }

@@ -58,8 +58,7 @@ struct Lane {
 impl Lane {
     // A lane that was opened. None where no memory is left.
     fn open(alloc: Global) -> Option<Lane> {
-        let mut tables = RouterTables::new(alloc).ok()?;
-        tables.apply(&Entry::Opened).ok()?;
+        let tables = opened(alloc)?;
         Some(Lane {
             alloc,
             walk: StreamWalk::new(alloc),
@@ -94,6 +93,13 @@ impl Lane {
     }
 }
 
+// The tables of a lane that was opened. None where no memory is left.
+fn opened(alloc: Global) -> Option<RouterTables> {
+    let mut tables = RouterTables::new(alloc).ok()?;
+    tables.apply(&Entry::Opened).ok()?;
+    Some(tables)
+}
+
 // The entries of the whole messages that were fed. None where no memory is left.
 fn whole(alloc: Global, walk: &mut StreamWalk<Reading>) -> Option<Vec<Entry>> {
     let mut entries = Vec::new(alloc);
@@ -120,18 +126,29 @@ fn wanted<T: Drop>(value: Option<T>) -> io::Result<T> {
     }
 }
 
-// Takes a stream, read by read.
-fn taken<R: Read + Drop>(alloc: Global, mut input: R, versions: Versions) -> io::Result<Lane> {
+// A lane that took a stream.
+fn taken<I: Read + Drop>(alloc: Global, input: I, versions: Versions) -> io::Result<Lane> {
     let mut lane = wanted(Lane::open(alloc))?;
+    take_all(alloc, &mut lane, input, versions)?;
+    Ok(lane)
+}
+
+// Takes a stream, read by read.
+fn take_all<I: Read + Drop>(
+    alloc: Global,
+    lane: &mut Lane,
+    mut input: I,
+    versions: Versions,
+) -> io::Result<()> {
     let mut buffer = vec![in alloc; 0u8; READ]?;
     for _ in 0..u64::MAX {
         let count = input.read(&mut buffer)?;
         if count == 0 {
             break;
         }
-        wanted(take_kept(&mut lane, &buffer[..count], versions))?;
+        wanted(take_kept(lane, &buffer[..count], versions))?;
     }
-    Ok(lane)
+    Ok(())
 }
 
 // The peers and views of which there is a table. None where no memory is left.
@@ -160,15 +177,16 @@ fn peer_after(tables: &RouterTables, last: &Option<PeerKey>) -> Option<PeerKey> 
     }
 }
 
-// How many routes the tables have.
-fn rows(tables: &RouterTables, places: &[(PeerKey, View)]) -> u64 {
+// How many routes the tables have. None where no memory is left.
+fn rows(alloc: Global, tables: &RouterTables) -> Option<u64> {
+    let places = places(alloc, tables)?;
     let mut rows = 0u64;
     for (key, view) in places.iter() {
         if let Some(table) = tables.table(key, *view) {
             rows = rows.saturating_add(table.count());
         }
     }
-    rows
+    Some(rows)
 }
 
 /// Takes a stream, brings the tables up to date after each read, and prints how many routes they have, how many entries
@@ -180,12 +198,16 @@ pub fn run<R: Print + AllocGlobal, I: Read + Drop>(
     versions: Versions,
 ) -> io::Result<()> {
     let lane = taken(rt.alloc(), input, versions)?;
-    let places = wanted(places(rt.alloc(), &lane.tables))?;
-    println!(rt; "count {}", rows(&lane.tables, &places))?;
-    println!(rt; "entries {}", lane.entries)?;
-    println!(rt; "kept {}", lane.kept.len())?;
+    let said = print_lane(rt, &lane);
     mem::forget(lane);
-    Ok(())
+    said
+}
+
+fn print_lane<R: Print + AllocGlobal>(rt: &R, lane: &Lane) -> io::Result<()> {
+    let rows = wanted(rows(rt.alloc(), &lane.tables))?;
+    println!(rt; "count {rows}")?;
+    println!(rt; "entries {}", lane.entries)?;
+    println!(rt; "kept {}", lane.kept.len())
 }
 
 // The NLRI of a table, in order. None where no memory is left.
@@ -264,29 +286,49 @@ pub fn seek<R: Print + AllocGlobal, I: Read + Drop>(
     let gets = gets.unwrap_or(LOOK_UPS);
     let longest = longest.unwrap_or(gets);
     let lane = taken(rt.alloc(), input, Versions::Last)?;
-    let places = wanted(places(rt.alloc(), &lane.tables))?;
+    let sought = wanted(seek_all(rt.alloc(), &lane.tables, gets, longest));
+    drop(lane);
+    let sought = sought?;
+    println!(rt; "found {}", sought.found)?;
+    println!(rt; "matched {}", sought.matched)
+}
+
+// What is found in all tables. None where no memory is left.
+fn seek_all(alloc: Global, tables: &RouterTables, gets: usize, longest: usize) -> Option<Sought> {
+    let places = places(alloc, tables)?;
     let mut sought = Sought {
         found: 0,
         matched: 0,
     };
     for (key, view) in places.iter() {
-        if let Some(table) = lane.tables.table(key, *view) {
-            let list = wanted(listed(rt.alloc(), table))?;
-            sought.add(table, &list, gets, longest);
+        if let Some(table) = tables.table(key, *view) {
+            sought.seek(alloc, table, gets, longest)?;
         }
     }
-    println!(rt; "found {}", sought.found)?;
-    println!(rt; "matched {}", sought.matched)
+    Some(sought)
 }
 
 /// What look-ups found.
-#[derive(Drop)]
+#[derive(Clone, Copy)]
 struct Sought {
     found: u64,
     matched: u64,
 }
 
 impl Sought {
+    // Adds what is found in a table. None where no memory is left.
+    fn seek(
+        &mut self,
+        alloc: Global,
+        table: &RouteTable,
+        gets: usize,
+        longest: usize,
+    ) -> Option<()> {
+        let list = listed(alloc, table)?;
+        self.add(table, &list, gets, longest);
+        Some(())
+    }
+
     // Adds what is found in a table with these NLRI.
     fn add(&mut self, table: &RouteTable, list: &[Nlri], gets: usize, longest: usize) {
         if list.is_empty() {
@@ -301,7 +343,7 @@ impl Sought {
 }
 
 /// What walks gave: how many routes, and the bits of their prefixes.
-#[derive(Drop)]
+#[derive(Clone, Copy)]
 struct Walked {
     rows: u64,
     bits: u64,
@@ -326,15 +368,23 @@ pub fn walk<R: Print + AllocGlobal, I: Read + Drop>(
     times: Option<usize>,
 ) -> io::Result<()> {
     let lane = taken(rt.alloc(), input, Versions::Last)?;
-    let places = wanted(places(rt.alloc(), &lane.tables))?;
+    let walked = wanted(walk_all(rt.alloc(), &lane.tables, times.unwrap_or(WALKS)));
+    drop(lane);
+    let walked = walked?;
+    println!(rt; "rows {}", walked.rows)?;
+    println!(rt; "bits {}", walked.bits)
+}
+
+// What so many walks over all tables give. None where no memory is left.
+fn walk_all(alloc: Global, tables: &RouterTables, times: usize) -> Option<Walked> {
+    let places = places(alloc, tables)?;
     let mut walked = Walked { rows: 0, bits: 0 };
-    for _ in 0..times.unwrap_or(WALKS) {
+    for _ in 0..times {
         for (key, view) in places.iter() {
-            if let Some(table) = lane.tables.table(key, *view) {
+            if let Some(table) = tables.table(key, *view) {
                 walked.add(table);
             }
         }
     }
-    println!(rt; "rows {}", walked.rows)?;
-    println!(rt; "bits {}", walked.bits)
+    Some(walked)
 }

@@ -1,8 +1,9 @@
 ghost use Rattle.std.specs.Prelude.{◌≡◌};
-ghost use Rattle.cut_publisher.specs.Opening.{IsOpened};
+ghost use Rattle.cut_publisher.specs.Opening.{IsOpened, AreFeedsOf};
 
 use cut_publisher::{
-    AskPass, FeedPass, Naming, Publisher, Station, Subject, name, open_station, publish, snapshot,
+    AskList, AskPass, FeedList, FeedPass, Naming, Publisher, Station, Subject, name, open_station,
+    publish, snapshot,
 };
 use std::alloc::Global;
 use std::io;
@@ -72,14 +73,26 @@ fn revision_in<J: Naming, R: Wait>(
         mut asks,
     } = station;
     let publisher = name::<Tally, J, R>(rt, publisher, &mut asks);
-    let feed = feeds.pop();
-    let ask = asks.pop();
-    let revision = match (feed, ask) {
-        (Some(feed), Some(ask)) => Some(calls(rt, alloc, &publisher, feed, ask, call, times)),
-        _ => None,
-    };
+    let revision = calls_of(rt, alloc, &publisher, &mut feeds, &mut asks, call, times);
     publisher.close(rt);
     revision
+}
+
+// The calls by the lane and the asker.
+fn calls_of<J: Naming, R: Wait>(
+    rt: &R,
+    alloc: Global,
+    publisher: &Publisher<Tally, J>,
+    feeds: &mut FeedList<Tally>,
+    asks: &mut AskList<Tally>,
+    call: Call,
+    times: u32,
+) -> Option<u64>
+    requires { AreFeedsOf J.site feeds.old }
+{
+    let ask = asks.pop()?;
+    let feed = feeds.pop()?;
+    Some(calls(rt, alloc, publisher, feed, ask, call, times))
 }
 
 fn calls<J: Naming, R: Wait>(

@@ -41,25 +41,36 @@ fn route(alloc: Global, med: u32) -> Option<Route> {
 /// each up.
 pub fn runs<R: Print + AllocGlobal>(rt: &R, order: Order, count: Option<usize>) -> io::Result<()> {
     let numbers = numbers(rt.alloc(), counted(count), order)?;
-    let Some(table) = filled(rt.alloc(), &numbers) else {
-        return Err(io::Error::from(io::ErrorKind::OutOfMemory));
-    };
+    match looked_up(rt.alloc(), &numbers) {
+        Some(answers) => answers.print(rt),
+        None => Err(io::Error::from(io::ErrorKind::OutOfMemory)),
+    }
+}
+
+// What the table of these prefixes answers. None where no memory is left.
+fn looked_up(alloc: Global, numbers: &[u32]) -> Option<Answers> {
+    let table = filled(alloc, numbers)?;
     let mut answers = Answers::new();
     answers.listed = table.count();
     for number in numbers.iter() {
         answers.add(med_of(&table, *number));
     }
-    answers.print(rt)
+    Some(answers)
 }
 
 // The table of these prefixes. None where no memory is left.
 fn filled(alloc: Global, numbers: &[u32]) -> Option<RouteTable> {
     let mut table = RouteTable::new(alloc);
     for read in numbers.chunks(READ) {
-        let mut changes = changes(alloc, read)?;
-        table = table.with(&mut changes).ok()?;
+        table = with_read(alloc, &table, read)?;
     }
     Some(table)
+}
+
+// The table with these prefixes announced. None where no memory is left.
+fn with_read(alloc: Global, table: &RouteTable, numbers: &[u32]) -> Option<RouteTable> {
+    let mut changes = changes(alloc, numbers)?;
+    table.with(&mut changes).ok()
 }
 
 // The announcements of these prefixes. None where no memory is left.

@@ -73,14 +73,18 @@ pub fn run<I: Read + Drop, R: Threads + Wait + Clock + Print + Sync>(
     let piece = piece.unwrap_or(READ as u32).max(1);
     let count = lanes.unwrap_or(1).clamp(1, MOST_LANES);
     let (outcome, times) = outcome_of(rt, alloc, connection, client, piece, count)?;
-    println!(rt; "entries {}", outcome.entries)?;
-    println!(rt; "turns {}", outcome.turns)?;
-    println!(rt; "revision {}", outcome.revision)?;
-    println!(rt; "kept {}", outcome.kept)?;
+    print_outcome(rt, &outcome)?;
     if lanes.is_some() {
         print_times(rt, outcome.messages, outcome.longest, times)?;
     }
     Ok(())
+}
+
+fn print_outcome<R: Print>(rt: &R, outcome: &Outcome) -> io::Result<()> {
+    println!(rt; "entries {}", outcome.entries)?;
+    println!(rt; "turns {}", outcome.turns)?;
+    println!(rt; "revision {}", outcome.revision)?;
+    println!(rt; "kept {}", outcome.kept)
 }
 
 // How long lanes took: until all were done, and until all that their connections gave was published.
@@ -94,9 +98,19 @@ struct Times {
 fn print_times<R: Print>(rt: &R, messages: u64, longest: Duration, times: Times) -> io::Result<()> {
     let taken = micros(times.taken);
     let pace = messages.saturating_mul(1_000_000) / taken.max(1);
-    println!(rt; "microseconds {}", micros(times.done))?;
+    print_numbers(rt, micros(times.done), taken, micros(longest), pace)
+}
+
+fn print_numbers<R: Print>(
+    rt: &R,
+    done: u64,
+    taken: u64,
+    longest: u64,
+    pace: u64,
+) -> io::Result<()> {
+    println!(rt; "microseconds {done}")?;
     println!(rt; "taken {taken}")?;
-    println!(rt; "longest {}", micros(longest))?;
+    println!(rt; "longest {longest}")?;
     println!(rt; "messages_per_second {pace}")
 }
 

@@ -24,7 +24,7 @@ pub enum Order {
 }
 
 /// What a table answered, as counts that depend on all of it.
-#[derive(Drop)]
+#[derive(Clone, Copy)]
 pub struct Answers {
     pub listed: u64,
     found: u64,

@@ -1,4 +1,4 @@
 use Rattle.bench.proofs.tables.trie.Given as goal
 
 abbrev pub ghosts-matched : goal.ghosts-matched
-ghosts-matched a = record { name = a.blank.name; parts = a.blank.parts }
+ghosts-matched g a = record { name = a.blank.name; parts = a.blank.parts }
