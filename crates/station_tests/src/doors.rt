@@ -1,55 +1,136 @@
-ghost use Rattle.std.specs.Prelude.{◌≡◌, [], length, All, IfOk};
-ghost use Rattle.station_doors.specs.MemYard.{IsUntouched, IsIdle};
+//! Ports and links over loopback, and those that never fail.
+ghost use Rattle.std.specs.Prelude.{◌≡◌, length};
+ghost use Rattle.station_doors.specs.Doors.{askers_of, feeds_of};
 
 use ip_prefix::Addr;
-use station_doors::{
-    HostYard, Link, LinkList, Listening, MemLink, MemYard, Port, PortList, SureLink, SurePort, Yard,
-};
+use station_doors::{HostYard, Link, Listening, Port, SureLink, SurePort, Yard};
 use std::alloc::Global;
 use std::io;
-use std::io::{Read, Write};
-use std::net::{Net, OpenListener, Shutdown, TcpListener, TcpStream};
+use std::io::Write;
+use std::net::{Net, OpenListener, TcpListener, TcpStream};
 use std::test::Fail;
-use std::time::Duration;
-use wire_io::{ByteList, Failed, NoMemory, Sink};
-
-const LOOPBACK: [u8; 4] = [127, 0, 0, 1];
+use wire_io::{ByteList, Failed, Sink};
 
 // A port of the loopback address that nobody listens at.
 fn free_port<N: Net<Listener = TcpListener, Stream = TcpStream>>(net: &N) -> io::Result<u16> {
     Ok(TcpListener::bind(net, "127.0.0.1:0")?.local_addr()?.port())
 }
 
-// Where so many of each are listened for, at shared ports, which give nobody up.
-fn place(feed_port: u16, ask_port: u16, count: u32) -> Listening
-    ensures { (result.feeds ≡ count) × (result.askers ≡ count) }
+// One port of two lanes and one of an asker. A router that says nothing for a second is given up.
+fn place(feed_port: u16, ask_port: u16) -> Listening
+    ensures { (result.feeds ≡ 2) × (result.askers ≡ 1) }
 {
     Listening {
-        address: Addr::v4(LOOPBACK),
-        feeds: count,
-        askers: count,
+        address: Addr::v4([127, 0, 0, 1]),
+        feeds: 2,
+        askers: 1,
         feed_port,
         ask_port,
         shared: true,
-        idle: None,
+        idle: Some(1),
         ask_idle: None,
     }
 }
 
-// A client of this port, whose reads end after ten seconds.
-fn client<N: Net<Listener = TcpListener, Stream = TcpStream>>(
+// Two routers, of which the first says five bytes.
+fn routers<N: Net<Listener = TcpListener, Stream = TcpStream>>(
     net: &N,
     port: u16,
-) -> io::Result<TcpStream> {
-    let stream = TcpStream::connect(net, ("127.0.0.1", port))?;
-    stream.set_read_timeout(Some(Duration::from_secs(10)))?;
-    Ok(stream)
+) -> io::Result<(TcpStream, TcpStream)> {
+    let mut first = TcpStream::connect(net, ("127.0.0.1", port))?;
+    first.write_all(b"first")?;
+    let second = TcpStream::connect(net, ("127.0.0.1", port))?;
+    Ok((first, second))
+}
+
+// Opens the next connection of each. What the first reads of one give, and whether the second read of one and the first
+// of the other fail.
+fn read_both<P: Port>(
+    one: &mut P,
+    other: &mut P,
+    buf: &mut [u8],
+) -> Result<(usize, bool, bool), Failed>
+    requires { length buf.old ≡ 65536 }
+{
+    if !one.next_connection()? || !other.next_connection()? {
+        return Err(Failed);
+    }
+    let count = one.read(buf)?;
+    let silent = one.read(buf).is_err();
+    let other_silent = other.read(buf).is_err();
+    one.close();
+    other.close();
+    Ok((count, silent, other_silent))
+}
+
+// The same of both lanes of a yard.
+fn read_lanes<Y: Yard>(yard: &mut Y, buf: &mut [u8]) -> Result<(usize, bool, bool), Failed>
+    requires buf { length buf.old ≡ 65536 }
+    requires at { feeds_of (Y.listened yard.old) ≡ 2 }
+{
+    let mut one = yard.port(0)?;
+    let mut other = yard.port(1)?;
+    let read = read_both(&mut one, &mut other, buf);
+    yard.take_port(0, one);
+    yard.take_port(1, other);
+    read
+}
+
+// Opens the next connection, and writes until that fails. Whether it did.
+fn loses<K: Link>(link: &mut K) -> Result<bool, Failed> {
+    if !link.next_connection()? {
+        return Err(Failed);
+    }
+    let mut is_lost = false;
+    for _ in 0..1000 {
+        if link.write(&[b'x'; 512]).is_err() {
+            is_lost = true;
+            break;
+        }
+    }
+    link.close();
+    Ok(is_lost)
+}
+
+// The same of the first asker of a yard.
+fn loses_client<Y: Yard>(yard: &mut Y) -> Result<bool, Failed>
+    requires { askers_of (Y.listened yard.old) ≡ 1 }
+    ensures { Y.listened yard.new ≡ Y.listened yard.old }
+{
+    let mut link = yard.link(0)?;
+    let is_lost = loses(&mut link);
+    yard.take_link(0, link);
+    is_lost
+}
+
+// A client that goes away at once.
+fn come_and_go<N: Net<Listener = TcpListener, Stream = TcpStream>>(
+    net: &N,
+    port: u16,
+) -> io::Result<()> {
+    drop(TcpStream::connect(net, ("127.0.0.1", port))?);
+    Ok(())
+}
+
+// Two lanes at one port take a router each, and one that says nothing for a second is given up. A client that goes away
+// ends its replies.
+#[test]
+fn silent_routers_and_a_lost_client(rt: HostRuntime) -> Result<(), Fail> {
+    let place = place(free_port(&rt)?, free_port(&rt)?);
+    let mut yard = HostYard::new(rt.alloc(), rt.stdin(), &rt)?;
+    assert_eq!(rt; yard.listen(&place), Ok(()));
+    come_and_go(&rt, place.ask_port)?;
+    assert_eq!(rt; loses_client(&mut yard), Ok(true));
+    let mut buf = vec![in rt.alloc(); 0u8; 65_536]?;
+    let routers = routers(&rt, place.feed_port)?;
+    assert_eq!(rt; read_lanes(&mut yard, &mut buf), Ok((5, true, true)));
+    drop(routers);
+    Ok(())
 }
 
 // Opens the next connection, reads twice and closes it. It answers how many bytes each read gave.
 fn take_next<P: Port>(port: &mut P, buf: &mut [u8]) -> Result<(usize, usize), Failed>
     requires { length buf.old ≡ 65536 }
-    ensures { length buf.new ≡ length buf.old }
 {
     if !port.next_connection()? {
         return Err(Failed);
@@ -60,166 +141,41 @@ fn take_next<P: Port>(port: &mut P, buf: &mut [u8]) -> Result<(usize, usize), Fa
     Ok((first, second))
 }
 
-#[test]
-fn lane_takes_one_router_after_another(rt: HostRuntime) -> Result<(), Fail> {
-    let (feed_port, ask_port) = (free_port(&rt)?, free_port(&rt)?);
-    let mut yard = HostYard::new(rt.alloc(), rt.stdin(), &rt)?;
-    let listens = yard.listen(&place(feed_port, ask_port, 1));
-    assert_eq!(rt; listens, Ok(()));
-    let mut port = match yard.port(0) {
-        Ok(port) => port,
-        Err(Failed) => return Err(Fail::from(NoMemory)),
-    };
-    let mut first = client(&rt, feed_port)?;
-    let mut second = client(&rt, feed_port)?;
-    first.write_all(b"first")?;
-    second.write_all(b"then")?;
-    drop(first);
-    drop(second);
-    for text in ["first", "then"] {
-        let mut buf = vec![in rt.alloc(); 0u8; 65_536]?;
-        assert_eq!(rt; take_next(&mut port, &mut buf), Ok((text.len(), 0)));
-        assert!(rt; buf.as_slice().starts_with(text.as_bytes()));
-    }
-    yard.take_port(0, port);
-    Ok(())
-}
-
-#[test]
-fn asker_takes_one_client_after_another(rt: HostRuntime) -> Result<(), Fail> {
-    let (feed_port, ask_port) = (free_port(&rt)?, free_port(&rt)?);
-    let mut yard = HostYard::new(rt.alloc(), rt.stdin(), &rt)?;
-    let listens = yard.listen(&place(feed_port, ask_port, 1));
-    assert_eq!(rt; listens, Ok(()));
-    let mut link = match yard.link(0) {
-        Ok(link) => link,
-        Err(Failed) => return Err(Fail::from(NoMemory)),
-    };
-    let mut asking = client(&rt, ask_port)?;
-    asking.write_all(b"cut\n")?;
-    assert_eq!(rt; link.next_connection(), Ok(true));
-    let mut buf = [0u8; 512];
-    assert_eq!(rt; link.read(&mut buf), Ok(4));
-    assert_eq!(rt; &buf[..4], b"cut\n".as_slice());
-    assert_eq!(rt; link.write(b"at 0\n"), Ok(5));
-    link.close();
-    let mut reply = [0u8; 16];
-    assert_eq!(rt; asking.read(&mut reply)?, 5);
-    assert_eq!(rt; &reply[..5], b"at 0\n".as_slice());
-    assert_eq!(rt; asking.read(&mut reply)?, 0);
-    // a client that goes away
-    drop(client(&rt, ask_port)?);
-    assert_eq!(rt; link.next_connection(), Ok(true));
-    let mut is_lost = false;
-    for _ in 0..1000 {
-        if link.write(&buf).is_err() {
-            is_lost = true;
-            break;
-        }
-    }
-    assert!(rt; is_lost);
-    yard.take_link(0, link);
-    Ok(())
-}
-
-// A list of no port.
-fn no_ports(alloc: Global) -> PortList
-    ensures { All IsUntouched result }
-{
-    PortList::new(alloc)
-}
-
-// A link with one connection of this text, whose first read gives three bytes and whose third call fails.
-fn link_of(alloc: Global, text: &str) -> Result<MemLink, Fail>
-    ensures { IfOk result IsIdle }
-{
-    let mut connection = ByteList::new(alloc);
-    connection.extend(text.as_bytes())?;
-    Ok(MemLink::new(alloc, &[connection], &[3, 9], 6, &[2])?)
-}
-
-// A list of that link alone.
-fn one_link(alloc: Global, text: &str) -> Result<LinkList, Fail>
-    ensures { IfOk result (All IsIdle) }
-{
-    let link = link_of(alloc, text)?;
-    let mut links = LinkList::new(alloc);
-    match links.push(link) {
-        Ok(()) => Ok(links),
-        Err(_) => Err(Fail::from(NoMemory)),
-    }
-}
-
-// Opens the next connection of the link, reads once, writes twice and closes it.
-fn talk<K: Link>(link: &mut K, buf: &mut [u8]) -> Result<(usize, bool, usize), Failed>
-    requires { length buf.old ≡ 512 }
-{
+// Opens the next connection of the link, reads once, writes and closes it. How many bytes were read and written.
+fn talk<K: Link>(link: &mut K) -> Result<(usize, usize), Failed> {
     if !link.next_connection()? {
         return Err(Failed);
     }
-    let count = link.read(buf)?;
+    let count = link.read(&mut [0; 512])?;
     let all = link.write(b"at 0\n")?;
-    let is_lost = link.write(b"end 0\n").is_err();
     link.close();
-    Ok((count, is_lost, all))
+    Ok((count, all))
 }
 
-// Two lanes at one port take a router each, and a router that says nothing for a second is given up.
-#[test]
-fn shared_port_serves_two_and_gives_silence_up(rt: HostRuntime) -> Result<(), Fail> {
-    let (feed_port, ask_port) = (free_port(&rt)?, free_port(&rt)?);
-    let mut yard = HostYard::new(rt.alloc(), rt.stdin(), &rt)?;
-    let mut at = place(feed_port, ask_port, 2);
-    at.idle = Some(1);
-    assert_eq!(rt; yard.listen(&at), Ok(()));
-    let (mut one, mut two) = match (yard.port(0), yard.port(1)) {
-        (Ok(one), Ok(two)) => (one, two),
-        _ => return Err(Fail::from(NoMemory)),
-    };
-    let mut first = client(&rt, feed_port)?;
-    let _second = client(&rt, feed_port)?;
-    first.write_all(b"first")?;
-    assert_eq!(rt; one.next_connection(), Ok(true));
-    assert_eq!(rt; two.next_connection(), Ok(true));
-    let mut buf = vec![in rt.alloc(); 0u8; 65_536]?;
-    assert_eq!(rt; one.read(&mut buf), Ok(5));
-    assert_eq!(rt; one.read(&mut buf), Err(Failed));
-    assert_eq!(rt; two.read(&mut buf), Err(Failed));
-    one.close();
-    two.close();
-    yard.take_port(0, one);
-    yard.take_port(1, two);
-    Ok(())
+fn seven(alloc: Global) -> Option<ByteList> {
+    let mut connection = ByteList::new(alloc);
+    connection.extend(b"seven..").ok()?;
+    Some(connection)
 }
 
-#[test]
-fn yard_in_memory_shows_what_came_back(rt: HostRuntime) -> Result<(), Fail> {
-    let alloc = rt.alloc();
-    let links = one_link(alloc, "cut\n")?;
-    let mut yard: MemYard<u8> = MemYard::new(alloc, no_ports(alloc), links, &[])?;
-    assert_eq!(rt; yard.listen(&place(1000, 2000, 1)), Ok(()));
-    let mut link = match yard.link(0) {
-        Ok(link) => link,
-        Err(Failed) => return Err(Fail::from(NoMemory)),
-    };
-    assert_eq!(rt; talk(&mut link, &mut [0; 512]), Ok((3, true, 5)));
-    yard.take_link(0, link);
-    yard.take_ending(7);
-    assert_eq!(rt; yard.written(0), b"at 0\n".as_slice());
-    assert_eq!(rt; yard.ending(), Some(&7));
-    Ok(())
+fn talk_to_sure_link(alloc: Global) -> Option<(usize, usize)> {
+    let connection = seven(alloc)?;
+    let mut link = SureLink::new(alloc, &connection).ok()?;
+    talk(&mut link).ok()
+}
+
+// What two reads of four bytes at most give, and whether there is another connection.
+fn read_sure_port(alloc: Global) -> Option<((usize, usize), bool)> {
+    let connections = [seven(alloc)?];
+    let mut port = SurePort::new(alloc, &connections, 4).ok()?;
+    let mut buf = vec![in alloc; 0u8; 65_536].ok()?;
+    let counts = take_next(&mut port, &mut buf).ok()?;
+    Some((counts, port.next_connection().ok()?))
 }
 
 #[test]
 fn sure_ones_never_fail(rt: HostRuntime) -> Result<(), Fail> {
-    let alloc = rt.alloc();
-    let mut connection = ByteList::new(alloc);
-    connection.extend(b"seven..")?;
-    let mut link = SureLink::new(alloc, &connection)?;
-    assert_eq!(rt; talk(&mut link, &mut [0; 512]), Ok((7, false, 5)));
-    let mut port = SurePort::new(alloc, &[connection], 4)?;
-    let mut buf = vec![in alloc; 0u8; 65_536]?;
-    assert_eq!(rt; take_next(&mut port, &mut buf), Ok((4, 3)));
-    assert_eq!(rt; port.next_connection(), Ok(false));
+    assert_eq!(rt; talk_to_sure_link(rt.alloc()), Some((7, 5)));
+    assert_eq!(rt; read_sure_port(rt.alloc()), Some(((4, 3), false)));
     Ok(())
 }

@@ -1,16 +1,24 @@
-//! Tests of the published history, of ports and links, of sessions, of whole runs, and of the station, from outside.
+//! Tests of what serves routers and clients, from outside: lanes, the published history, sessions, ports and links, the
+//! station, and every order of their events on one thread.
 #![tactic(auto)]
 
 #[cfg(test)]
 mod doors;
-mod numbers;
+#[cfg(test)]
+mod lanes;
+#[cfg(test)]
+mod machine;
+#[cfg(test)]
+mod opened;
 #[cfg(test)]
 mod publications;
-#[cfg(test)]
-mod runs;
-#[cfg(test)]
-mod serve_words;
 #[cfg(test)]
 mod sessions;
 #[cfg(test)]
 mod station;
+#[cfg(test)]
+mod streams;
+#[cfg(test)]
+mod words;
+#[cfg(test)]
+mod yards;

@@ -1,57 +1,52 @@
 //! Sessions over links in memory: a station of one lane that published nothing, and one of two lanes that publish.
-ghost use Rattle.std.specs.Prelude.{◌≡◌, ◌<◌, ◌++◌, [], All, IfSome, List};
+ghost use Rattle.std.specs.Prelude.{◌≡◌, ◌<◌, ◌++◌, All, IfSome, List};
 ghost use Rattle.std.specs.Arc.{arc_value};
 ghost use Rattle.bmp_specs.specs.Values.{EntryValue};
 ghost use Rattle.cut_publisher.specs.Opening.{IsOpened, AreAsksOf, AreFeedsOf};
 ghost use Rattle.rib_model.specs.Entries.{entry_values};
 ghost use Rattle.router_tables.specs.Tables.{StandsFor};
 
+use crate::opened::{named, no_tables};
 use ask_session::serve_session;
 use bmp_specs::Cause;
 use cut_publisher::{
-    AskList, AskPass, FeedList, FeedPass, Naming, Note, Publisher, Station, learn, name,
-    open_station, publish,
+    AskList, AskPass, FeedList, FeedPass, Naming, Note, Publisher, Station, learn, open_station,
+    publish,
 };
 use rib_model::Entry;
 use router_tables::RouterTables;
 use station_doors::MemLink;
 use std::alloc::Global;
 use std::marker::Brand;
+use std::process::Abort;
 use std::sync::{Arc, Wait};
 use std::test::Fail;
 use wire_io::ByteList;
 
 type Asker = AskPass<RouterTables>;
 
-// What every lane has until it publishes.
-fn no_tables(alloc: Global) -> Option<Arc<RouterTables>>
-    ensures { IfSome result (λ t. StandsFor (arc_value t) (entry_values [])) }
-{
-    let tables = RouterTables::new(alloc).ok()?;
-    Arc::new(alloc, tables).ok()
+// An asker of a station that publishes nothing.
+fn idle_asker<R: Wait>(rt: &R, alloc: Global) -> Option<Asker> {
+    let station = open_station(alloc, no_tables(alloc)?, 1, 1).ok()?;
+    asker_of::<Brand, R>(rt, station)
 }
 
-// An asker of a station that publishes nothing.
-fn asker<J: Naming, R: Wait>(rt: &R, station: Station<RouterTables>) -> Option<Asker>
+fn asker_of<J: Naming, R: Wait>(rt: &R, station: Station<RouterTables>) -> Option<Asker>
     requires named { station.publisher.station ≡ J.site }
     requires opened { IsOpened 1 1 station.publisher station.feeds station.asks }
 {
-    let Station {
-        publisher,
-        feeds: _,
-        mut asks,
-    } = station;
-    name::<RouterTables, J, R>(rt, publisher, &mut asks).close(rt);
+    let (publisher, _, mut asks) = named::<RouterTables, J, R>(rt, station);
+    publisher.close(rt);
     asks.pop()
 }
 
 // What a client sends: so many times `x`, and this text.
-fn sent(alloc: Global, count: u32, text: &[u8]) -> Option<ByteList> {
+fn sent(alloc: Global, count: u32, text: &str) -> Option<ByteList> {
     let mut bytes = ByteList::new(alloc);
     for _ in 0..count {
         bytes.extend(b"x").ok()?;
     }
-    bytes.extend(text).ok()?;
+    bytes.extend(text.as_bytes()).ok()?;
     Some(bytes)
 }
 
@@ -99,64 +94,130 @@ fn is_answered_byte_by_byte(
     is_answered(alloc, asker, bytes, ones.as_slice(), reply)
 }
 
-const ROWS: u32 = 16;
-
-// How many times `x`, and what follows; and the reply.
-fn worked(row: u32) -> (u32, &'static [u8], &'static [u8]) {
-    match row {
-        0 => (0, b"cut\n", b"at 0\nlane 0 0\nend 1\n"),
-        1 => (
-            0,
-            b"cut\r\ncut\n",
-            b"at 0\nlane 0 0\nend 1\nat 0\nlane 0 0\nend 1\n",
-        ),
-        2 => (0, b"table view adj-in-pre router 0\n", b"error query\n"),
-        3 => (0, b"c\rut\ncut\r\r\n", b"error query\nerror query\n"),
-        4 => (
-            0,
-            b"\n\r\ncut\n",
-            b"error query\nerror query\nat 0\nlane 0 0\nend 1\n",
-        ),
-        // the last line has no end
-        5 => (0, b"x\ncut", b"error query\nat 0\nlane 0 0\nend 1\n"),
-        6 => (0, b"cut\r", b"error query\n"),
-        7 => (0, b"", b""),
-        8 => (0, b"cut\nquit\ncut\n", b"at 0\nlane 0 0\nend 1\n"),
-        9 => (0, b"quit", b""),
-        10 => (0, b"quit \nQUIT\n", b"error query\nerror query\n"),
-        // 1,024 bytes
-        11 => (1024, b"\ncut\n", b"error query\nat 0\nlane 0 0\nend 1\n"),
-        12 => (1024, b"\r\ncut\n", b"error query\nat 0\nlane 0 0\nend 1\n"),
-        // 1,025 bytes
-        13 => (1025, b"\ncut\n", b"error line\n"),
-        14 => (1024, b"\r", b"error line\n"),
-        _ => (1026, b"", b"error line\n"),
-    }
+// So many times `x`, and what follows; and the reply.
+#[derive(Clone, Copy)]
+struct Row {
+    count: u32,
+    text: &'static str,
+    reply: &'static str,
 }
 
-// The bytes of each row come in two pieces, divided at each place, and byte by byte.
+const ROWS: &[Row] = &[
+    Row {
+        count: 0,
+        text: "cut\n",
+        reply: "at 0\nlane 0 0\nend 1\n",
+    },
+    Row {
+        count: 0,
+        text: "cut\r\ncut\n",
+        reply: "at 0\nlane 0 0\nend 1\nat 0\nlane 0 0\nend 1\n",
+    },
+    Row {
+        count: 0,
+        text: "table view adj-in-pre router 0\n",
+        reply: "error query\n",
+    },
+    Row {
+        count: 0,
+        text: "c\rut\ncut\r\r\n",
+        reply: "error query\nerror query\n",
+    },
+    Row {
+        count: 0,
+        text: "\n\r\ncut\n",
+        reply: "error query\nerror query\nat 0\nlane 0 0\nend 1\n",
+    },
+    // the last line has no end
+    Row {
+        count: 0,
+        text: "x\ncut",
+        reply: "error query\nat 0\nlane 0 0\nend 1\n",
+    },
+    Row {
+        count: 0,
+        text: "cut\r",
+        reply: "error query\n",
+    },
+    Row {
+        count: 0,
+        text: "",
+        reply: "",
+    },
+    Row {
+        count: 0,
+        text: "cut\nquit\ncut\n",
+        reply: "at 0\nlane 0 0\nend 1\n",
+    },
+    Row {
+        count: 0,
+        text: "quit",
+        reply: "",
+    },
+    Row {
+        count: 0,
+        text: "quit \nQUIT\n",
+        reply: "error query\nerror query\n",
+    },
+    // 1,024 bytes
+    Row {
+        count: 1024,
+        text: "\ncut\n",
+        reply: "error query\nat 0\nlane 0 0\nend 1\n",
+    },
+    Row {
+        count: 1024,
+        text: "\r\ncut\n",
+        reply: "error query\nat 0\nlane 0 0\nend 1\n",
+    },
+    // 1,025 bytes
+    Row {
+        count: 1025,
+        text: "\ncut\n",
+        reply: "error line\n",
+    },
+    Row {
+        count: 1024,
+        text: "\r",
+        reply: "error line\n",
+    },
+    Row {
+        count: 1026,
+        text: "",
+        reply: "error line\n",
+    },
+];
+
+// The bytes of the row come in two pieces, divided at each place, and byte by byte.
+fn is_answered_in_pieces(alloc: Global, asker: &mut Asker, row: &Row) -> Option<bool>
+    ensures { asker.new.station ≡ asker.old.station }
+{
+    let bytes = sent(alloc, row.count, row.text)?;
+    let reply = row.reply.as_bytes();
+    let mut right = is_answered_byte_by_byte(alloc, asker, &bytes, reply)?;
+    for first in 1..1030u32 {
+        right = right && is_answered_in_two(alloc, asker, &bytes, first, reply)?;
+    }
+    Some(right)
+}
+
 #[test]
 fn lines_are_answered(rt: HostRuntime) -> Result<(), Fail> {
     let alloc = rt.alloc();
-    let tables = no_tables(alloc).ok_or("no tables")?;
-    let station = open_station(alloc, tables, 1, 1)?;
-    let mut asker = asker::<Brand, _>(&rt, station).ok_or("no asker")?;
-    for row in 0..ROWS {
-        let (count, text, reply) = worked(row);
-        let bytes = sent(alloc, count, text).ok_or("no bytes")?;
-        for first in 1..1030u32 {
-            let answered = is_answered_in_two(alloc, &mut asker, &bytes, first, reply);
-            assert_eq!(rt; answered, Some(true), "row {row}, first piece {first}");
-        }
-        let answered = is_answered_byte_by_byte(alloc, &mut asker, &bytes, reply);
-        assert_eq!(rt; answered, Some(true), "row {row}, byte by byte");
+    let mut asker = idle_asker(&rt, alloc).ok_or("no asker")?;
+    for row in ROWS.iter() {
+        let answered = is_answered_in_pieces(alloc, &mut asker, row);
+        assert_eq!(rt; answered, Some(true), "{} times x, {}", row.count, row.text);
     }
     Ok(())
 }
 
-// What a link takes for three lines, of which two are cut, where it has so much room and these calls fail.
+const ALL: &str = "at 0\nlane 0 0\nend 1\nat 0\nlane 0 0\nend 1\nerror query\n";
+
+// What a link takes for three lines, of which two are cut, and for nothing, where it has so much room and these calls fail.
 fn taken(alloc: Global, asker: &mut Asker, room: u32, fails: &[u64]) -> Option<MemLink> {
-    let connections = [sent(alloc, 0, b"cut\ncut\nxyz\n")?, sent(alloc, 0, b"")?];
+    let lines = sent(alloc, 0, "cut\ncut\nxyz\n")?;
+    let connections = [lines, ByteList::new(alloc)];
     let mut link = MemLink::new(alloc, &connections, &[6, 3], room, fails).ok()?;
     if serve_session(asker, &mut link, 3) == 2 {
         Some(link)
@@ -165,22 +226,30 @@ fn taken(alloc: Global, asker: &mut Asker, room: u32, fails: &[u64]) -> Option<M
     }
 }
 
+fn short_of_room<R: Abort>(rt: &R, alloc: Global, asker: &mut Asker) -> Option<()> {
+    for room in 0..=52u32 {
+        let link = taken(alloc, asker, room, &[])?;
+        let front = ALL.as_bytes().get(..room as usize);
+        assert!(rt; front == Some(link.taken()), "room {room}");
+    }
+    Some(())
+}
+
+fn with_a_call_that_fails<R: Abort>(rt: &R, alloc: Global, asker: &mut Asker) -> Option<()> {
+    for call in 0..=20u64 {
+        let link = taken(alloc, asker, 100, &[call])?;
+        assert!(rt; ALL.as_bytes().starts_with(link.taken()), "call {call}");
+    }
+    Some(())
+}
+
 // A write may take less than it was given, and may fail in the midst of a reply: a front is written.
 #[test]
 fn failed_calls_leave_a_front(rt: HostRuntime) -> Result<(), Fail> {
     let alloc = rt.alloc();
-    let tables = no_tables(alloc).ok_or("no tables")?;
-    let station = open_station(alloc, tables, 1, 1)?;
-    let mut asker = asker::<Brand, _>(&rt, station).ok_or("no asker")?;
-    let all = b"at 0\nlane 0 0\nend 1\nat 0\nlane 0 0\nend 1\nerror query\n".as_slice();
-    for room in 0..=52u32 {
-        let link = taken(alloc, &mut asker, room, &[]).ok_or("no link")?;
-        assert!(rt; link.taken() == &all[..room as usize], "room {room}");
-    }
-    for call in 0..=20u64 {
-        let link = taken(alloc, &mut asker, 100, &[call]).ok_or("no link")?;
-        assert!(rt; all.starts_with(link.taken()), "call {call}");
-    }
+    let mut asker = idle_asker(&rt, alloc).ok_or("no asker")?;
+    short_of_room(&rt, alloc, &mut asker).ok_or("no link")?;
+    with_a_call_that_fails(&rt, alloc, &mut asker).ok_or("no link")?;
     Ok(())
 }
 
@@ -236,16 +305,57 @@ fn tell<J: Naming, R: Wait>(
     publish(rt, alloc, publisher, pass, &entries, value).ok()
 }
 
+// Publishes an entry, of which the asker learns.
+fn tell_asker<J: Naming, R: Wait>(
+    rt: &R,
+    alloc: Global,
+    publisher: &Publisher<RouterTables, J>,
+    pass: &mut FeedPass<RouterTables>,
+    entry: Entry,
+    asker: &mut Asker,
+) -> Option<()>
+    requires pass { pass.old.station ≡ J.site }
+    requires asker { asker.old.station ≡ J.site }
+    ensures pass { pass.new.station ≡ J.site }
+    ensures asker { asker.new.station ≡ J.site }
+{
+    let note = tell(rt, alloc, publisher, pass, entry)?;
+    learn(asker, note);
+    Some(())
+}
+
 // Whether a client that asks for the cut is answered so.
-fn is_cut(alloc: Global, asker: &mut Asker, reply: &[u8]) -> Option<bool>
+fn is_cut(alloc: Global, asker: &mut Asker, reply: &str) -> Option<bool>
     ensures { asker.new.station ≡ asker.old.station }
 {
-    let bytes = sent(alloc, 0, b"cut\n")?;
-    is_answered(alloc, asker, &bytes, &[], reply)
+    let bytes = sent(alloc, 0, "cut\n")?;
+    is_answered(alloc, asker, &bytes, &[], reply.as_bytes())
 }
 
 // What two lanes publish is seen by the lines that come after it, also where the asker learnt of no note.
-fn two_lanes<J: Naming, R: Wait>(
+fn is_seen<J: Naming, R: Wait>(
+    rt: &R,
+    alloc: Global,
+    publisher: &Publisher<RouterTables, J>,
+    zero: &mut FeedPass<RouterTables>,
+    one: &mut FeedPass<RouterTables>,
+    asker: &mut Asker,
+) -> Option<bool>
+    requires zero { zero.old.station ≡ J.site }
+    requires one { one.old.station ≡ J.site }
+    requires asker { asker.old.station ≡ J.site }
+{
+    tell_asker(rt, alloc, publisher, one, Entry::Opened, asker)?;
+    let first = is_cut(alloc, asker, "at 1\nlane 0 0\nlane 1 1\nend 2\n")?;
+    tell_asker(rt, alloc, publisher, zero, Entry::Opened, asker)?;
+    let second = is_cut(alloc, asker, "at 2\nlane 0 1\nlane 1 1\nend 2\n")?;
+    let _ = tell(rt, alloc, publisher, one, Entry::Closed(Cause::Ended))?;
+    let third = is_cut(alloc, asker, "at 3\nlane 0 1\nlane 1 2\nend 2\n")?;
+    Some(first && second && third)
+}
+
+// The same over the passes of two lanes and an asker.
+fn is_seen_of<J: Naming, R: Wait>(
     rt: &R,
     alloc: Global,
     publisher: &Publisher<RouterTables, J>,
@@ -258,15 +368,7 @@ fn two_lanes<J: Naming, R: Wait>(
     let mut asker = take_asker::<J>(asks)?;
     let mut one = take_feed::<J>(feeds)?;
     let mut zero = take_feed::<J>(feeds)?;
-    let note = tell(rt, alloc, publisher, &mut one, Entry::Opened)?;
-    learn(&mut asker, note);
-    let first = is_cut(alloc, &mut asker, b"at 1\nlane 0 0\nlane 1 1\nend 2\n")?;
-    let note = tell(rt, alloc, publisher, &mut zero, Entry::Opened)?;
-    learn(&mut asker, note);
-    let second = is_cut(alloc, &mut asker, b"at 2\nlane 0 1\nlane 1 1\nend 2\n")?;
-    let _ = tell(rt, alloc, publisher, &mut one, Entry::Closed(Cause::Ended))?;
-    let third = is_cut(alloc, &mut asker, b"at 3\nlane 0 1\nlane 1 2\nend 2\n")?;
-    Some(first && second && third)
+    is_seen(rt, alloc, publisher, &mut zero, &mut one, &mut asker)
 }
 
 fn published<J: Naming, R: Wait>(
@@ -277,15 +379,10 @@ fn published<J: Naming, R: Wait>(
     requires named { station.publisher.station ≡ J.site }
     requires opened { IsOpened 2 1 station.publisher station.feeds station.asks }
 {
-    let Station {
-        publisher,
-        mut feeds,
-        mut asks,
-    } = station;
-    let publisher = name::<RouterTables, J, R>(rt, publisher, &mut asks);
-    let told = two_lanes(rt, alloc, &publisher, &mut feeds, &mut asks);
+    let (publisher, mut feeds, mut asks) = named::<RouterTables, J, R>(rt, station);
+    let seen = is_seen_of(rt, alloc, &publisher, &mut feeds, &mut asks);
     publisher.close(rt);
-    told
+    seen
 }
 
 #[test]

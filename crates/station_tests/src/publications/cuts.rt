@@ -1,6 +1,6 @@
 //! What cuts have.
 
-use crate::numbers::Numbers;
+use super::numbers::Numbers;
 use cut_publisher::Cut;
 use std::process::Abort;
 

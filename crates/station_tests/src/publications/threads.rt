@@ -1,53 +1,15 @@
 //! Lanes and askers on threads of their own.
 ghost use Rattle.std.specs.Prelude.{◌≡◌};
-ghost use Rattle.cut_publisher.specs.Opening.{IsOpened, AreAsksOf, AreFeedsOf};
+ghost use Rattle.cut_publisher.specs.Opening.{AreAsksOf, AreFeedsOf};
 
-use super::cuts::{lane_is, same_cut};
-use crate::numbers::{Numbers, ended, put_ask, put_feed, take_ask, take_feed, tell};
+use super::numbers::{Numbers, put_askers, put_lanes, take_askers, take_lanes, tell};
 use cut_publisher::*;
 use std::alloc::Global;
-use std::marker::Brand;
-use std::process::Abort;
 use std::sync::Wait;
-use std::test::*;
 use std::thread::{Threads, join};
 
-#[test]
-fn lanes_and_askers_on_four_threads(rt: HostRuntime) -> Result<(), Fail> {
-    let alloc = rt.alloc();
-    let station = open_station(alloc, Numbers::none(alloc)?, 2, 2)?;
-    Ok(four_threads::<Brand, _>(&rt, alloc, station)?)
-}
-
-fn four_threads<J: Naming + Send + Sync, R: Threads + Wait + Abort + Sync>(
-    rt: &R,
-    alloc: Global,
-    station: Station<Numbers>,
-) -> Result<(), NoMemory>
-    requires named { station.publisher.station ≡ J.site }
-    requires opened { IsOpened 2 2 station.publisher station.feeds station.asks }
-{
-    let Station {
-        publisher,
-        mut feeds,
-        mut asks,
-    } = station;
-    let publisher = name::<Numbers, J, R>(rt, publisher, &mut asks);
-    let told = four_threads_told(rt, alloc, &publisher, &mut feeds, &mut asks);
-    let ending = ended(rt, alloc, publisher, feeds, asks)?;
-    assert!(rt; told?);
-    assert_eq!(rt; ending.cut.rev(), 200);
-    for feed in ending.feeds.as_slice() {
-        assert_eq!(rt; feed.count(), 100);
-        lane_is(rt, &ending.cut, feed.lane(), feed.value().items.as_slice());
-    }
-    for ask in ending.asks.as_slice() {
-        same_cut(rt, ask.cut(), &ending.cut);
-    }
-    Ok(())
-}
-
-fn four_threads_told<J: Naming + Send + Sync, R: Threads + Wait + Sync>(
+/// Both lanes publish, and two askers look, on four threads. Whether an asker never saw less.
+pub(crate) fn on_threads<J: Naming + Send + Sync, R: Threads + Wait + Sync>(
     rt: &R,
     alloc: Global,
     publisher: &Publisher<Numbers, J>,
@@ -59,10 +21,8 @@ fn four_threads_told<J: Naming + Send + Sync, R: Threads + Wait + Sync>(
     ensures feeds { AreFeedsOf J.site feeds.new }
     ensures asks { AreAsksOf J.site asks.new }
 {
-    let one = take_feed::<J>(feeds)?;
-    let zero = take_feed::<J>(feeds)?;
-    let second = take_ask::<J>(asks)?;
-    let first = take_ask::<J>(asks)?;
+    let (zero, one) = take_lanes::<J>(feeds)?;
+    let (first, second) = take_askers::<J>(asks)?;
     let ((zero, one), (first, second, rises)) = join(
         rt,
         || -> (FeedPass<Numbers>, FeedPass<Numbers>)
@@ -74,10 +34,8 @@ fn four_threads_told<J: Naming + Send + Sync, R: Threads + Wait + Sync>(
             ensures { (result.0.station ≡ J.site) × (result.1.station ≡ J.site) }
         { both_askers::<J, R>(rt, first, second) },
     );
-    put_feed::<J>(feeds, zero)?;
-    put_feed::<J>(feeds, one)?;
-    put_ask::<J>(asks, first)?;
-    put_ask::<J>(asks, second)?;
+    put_lanes::<J>(feeds, zero, one)?;
+    put_askers::<J>(asks, first, second)?;
     Ok(rises)
 }
 

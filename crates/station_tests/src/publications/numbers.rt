@@ -1,0 +1,200 @@
+//! A subject whose values are lists of numbers, and the calls of the crate over it.
+ghost use Rattle.std.specs.Prelude.{◌≡◌, ◌++◌, [], IfOk};
+ghost use Rattle.std.specs.Arc.{arc_value};
+ghost use Rattle.cut_publisher.specs.Opening.{AreAsksOf, AreFeedsOf};
+
+use cut_publisher::*;
+use std::alloc::Global;
+use std::sync::{Arc, Wait};
+
+/// A list of numbers, which stands for these numbers.
+#[derive(Drop)]
+pub struct Numbers {
+    pub items: Vec<u64>,
+}
+
+impl Subject for Numbers {
+    type Entry = u64;
+
+    ghost use Rattle.std.specs.Prelude.{◌≡◌};
+
+    ghost stands = { λ v es. v.items.items ≡ es };
+}
+
+impl Numbers {
+    pub fn none(alloc: Global) -> Result<Arc<Numbers>, NoMemory>
+        ensures { IfOk result (λ v. (arc_value v).items.items ≡ []) }
+    {
+        let items = Vec::new(alloc);
+        Arc::new(alloc, Numbers { items }).map_err(|_| NoMemory)
+    }
+
+    // The list with these behind.
+    pub fn with(&self, alloc: Global, more: &[u64]) -> Result<Arc<Numbers>, NoMemory>
+        ensures { IfOk result (λ v. (arc_value v).items.items ≡ self.now.items.items ++ more.now) }
+    {
+        let mut items = Vec::from_slice(alloc, self.items.as_slice())?;
+        items.extend_from_slice(more)?;
+        Arc::new(alloc, Numbers { items }).map_err(|_| NoMemory)
+    }
+}
+
+// Takes the last pass out of the list.
+fn take_feed<J: Naming>(feeds: &mut FeedList<Numbers>) -> Result<FeedPass<Numbers>, NoMemory>
+    requires { AreFeedsOf J.site feeds.old }
+    ensures left { AreFeedsOf J.site feeds.new }
+    ensures taken { IfOk result (λ f. f.station ≡ J.site) }
+{
+    feeds.pop().ok_or(NoMemory)
+}
+
+fn put_feed<J: Naming>(
+    feeds: &mut FeedList<Numbers>,
+    pass: FeedPass<Numbers>,
+) -> Result<(), NoMemory>
+    requires list { AreFeedsOf J.site feeds.old }
+    requires pass { pass.station ≡ J.site }
+    ensures { AreFeedsOf J.site feeds.new }
+{
+    feeds.push(pass).map_err(|_| NoMemory)
+}
+
+// Takes the passes of lanes 0 and 1 out of the list.
+pub fn take_lanes<J: Naming>(
+    feeds: &mut FeedList<Numbers>,
+) -> Result<(FeedPass<Numbers>, FeedPass<Numbers>), NoMemory>
+    requires { AreFeedsOf J.site feeds.old }
+    ensures left { AreFeedsOf J.site feeds.new }
+    ensures taken { IfOk result (λ f. (f.0.station ≡ J.site) × (f.1.station ≡ J.site)) }
+{
+    let one = take_feed::<J>(feeds)?;
+    let zero = take_feed::<J>(feeds)?;
+    Ok((zero, one))
+}
+
+pub fn put_lanes<J: Naming>(
+    feeds: &mut FeedList<Numbers>,
+    zero: FeedPass<Numbers>,
+    one: FeedPass<Numbers>,
+) -> Result<(), NoMemory>
+    requires list { AreFeedsOf J.site feeds.old }
+    requires zero { zero.station ≡ J.site }
+    requires one { one.station ≡ J.site }
+    ensures { AreFeedsOf J.site feeds.new }
+{
+    put_feed::<J>(feeds, zero)?;
+    put_feed::<J>(feeds, one)
+}
+
+// Takes the last asker out of the list.
+pub fn take_ask<J: Naming>(asks: &mut AskList<Numbers>) -> Result<AskPass<Numbers>, NoMemory>
+    requires { AreAsksOf J.site asks.old }
+    ensures left { AreAsksOf J.site asks.new }
+    ensures taken { IfOk result (λ a. a.station ≡ J.site) }
+{
+    asks.pop().ok_or(NoMemory)
+}
+
+fn put_ask<J: Naming>(asks: &mut AskList<Numbers>, pass: AskPass<Numbers>) -> Result<(), NoMemory>
+    requires list { AreAsksOf J.site asks.old }
+    requires pass { pass.station ≡ J.site }
+    ensures { AreAsksOf J.site asks.new }
+{
+    asks.push(pass).map_err(|_| NoMemory)
+}
+
+// Takes the last two askers out of the list.
+pub fn take_askers<J: Naming>(
+    asks: &mut AskList<Numbers>,
+) -> Result<(AskPass<Numbers>, AskPass<Numbers>), NoMemory>
+    requires { AreAsksOf J.site asks.old }
+    ensures left { AreAsksOf J.site asks.new }
+    ensures taken { IfOk result (λ a. (a.0.station ≡ J.site) × (a.1.station ≡ J.site)) }
+{
+    let second = take_ask::<J>(asks)?;
+    let first = take_ask::<J>(asks)?;
+    Ok((first, second))
+}
+
+pub fn put_askers<J: Naming>(
+    asks: &mut AskList<Numbers>,
+    first: AskPass<Numbers>,
+    second: AskPass<Numbers>,
+) -> Result<(), NoMemory>
+    requires list { AreAsksOf J.site asks.old }
+    requires first { first.station ≡ J.site }
+    requires second { second.station ≡ J.site }
+    ensures { AreAsksOf J.site asks.new }
+{
+    put_ask::<J>(asks, first)?;
+    put_ask::<J>(asks, second)
+}
+
+// Publishes these numbers behind those that the lane has published.
+pub fn tell<J: Naming, R: Wait>(
+    rt: &R,
+    alloc: Global,
+    publisher: &Publisher<Numbers, J>,
+    pass: &mut FeedPass<Numbers>,
+    numbers: &[u64],
+) -> Result<Note<Numbers>, NoMemory>
+    requires { pass.old.station ≡ J.site }
+    ensures pass { pass.new.station ≡ J.site }
+    ensures note { IfOk result (λ n. n.station ≡ J.site) }
+{
+    if pass.count() > 1000 || numbers.len() > 1000 {
+        return Err(NoMemory);
+    }
+    let value = pass.value().with(alloc, numbers)?;
+    match publish(rt, alloc, publisher, pass, numbers, value) {
+        Ok(note) => Ok(note),
+        Err(_) => Err(NoMemory),
+    }
+}
+
+// The same without a note.
+pub fn tell_unnoted<J: Naming, R: Wait>(
+    rt: &R,
+    alloc: Global,
+    publisher: &Publisher<Numbers, J>,
+    pass: &mut FeedPass<Numbers>,
+    numbers: &[u64],
+) -> Result<(), NoMemory>
+    requires { pass.old.station ≡ J.site }
+    ensures { pass.new.station ≡ J.site }
+{
+    if pass.count() > 1000 || numbers.len() > 1000 {
+        return Err(NoMemory);
+    }
+    let value = pass.value().with(alloc, numbers)?;
+    match publish_unnoted(rt, alloc, publisher, pass, numbers, value) {
+        Ok(()) => Ok(()),
+        Err(_) => Err(NoMemory),
+    }
+}
+
+// Finishes the station.
+pub fn ended<J: Naming, R: Wait>(
+    rt: &R,
+    alloc: Global,
+    publisher: Publisher<Numbers, J>,
+    feeds: FeedList<Numbers>,
+    asks: AskList<Numbers>,
+) -> Result<Ending<Numbers>, NoMemory>
+    requires feeds { AreFeedsOf J.site feeds }
+    requires asks { AreAsksOf J.site asks }
+{
+    match finish(rt, alloc, publisher, feeds, asks) {
+        Ok(ending) => Ok(ending),
+        Err(
+            Unfinished::NoMemory {
+                publisher,
+                feeds: _,
+                asks: _,
+            },
+        ) => {
+            publisher.close(rt);
+            Err(NoMemory)
+        }
+    }
+}
