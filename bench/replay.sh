@@ -8,8 +8,9 @@
 # ROUNDS times (5), from a file in the cache, with their output to /dev/null. Prints for each command the
 # least processor times and the peak memories, and their ratios: below 1 ours is the better. The prefix, the
 # address and the origin that are asked for stand in the stream, in the middle of its IPv4 prefixes. The bytes
-# of the two are compared for each command, and for more of them that aren't measured. At the end comes the
-# peak memory of `check` on the stream once, twice and four times over.
+# of the two are compared for each command, and for more of them that aren't measured. At the end come the
+# peak memory of `check` on the stream once, twice and four times over, and what a relayed row costs: the processor
+# time and the peak memory of `relay` beyond those of `replay count`, which has the same tables.
 set -euo pipefail
 
 other=${1:?usage: bench/replay.sh OTHER [PREFIXES]}
@@ -86,3 +87,13 @@ for times in 1 2 4; do
     run "check.$times" check
     echo "check of the stream $times times over: $(least "check.$times") ms, $(peak "check.$times") KiB"
 done
+
+input=$work/generated
+for _ in $(seq "$rounds"); do
+    run relay relay
+    run counted replay count
+done
+rows=$("$ours" replay count <"$input" | awk '$1 == "count" { print $2 }')
+"$ours" relay <"$input" >"$work/relayed"
+awk -v rows="$rows" -v a="$(least relay)" -v b="$(least counted)" -v m="$(peak relay)" -v n="$(peak counted)" -v bytes="$(stat -c %s "$work/relayed")" \
+    'BEGIN { printf "relay of %d rows: %d ms, %.2f us a row beyond the %d ms of replay count; %d KiB against %d; %.0f bytes a row\n", rows, a, (a - b) * 1000 / rows, b, m, n, bytes / rows }'

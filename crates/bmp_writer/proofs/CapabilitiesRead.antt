@@ -25,6 +25,7 @@ family_is cap fits = record {
   value = big_bytes 2 cap.afi ++ 0 ∷ cap.safi ∷ [];
   is = record { header = omega arith; code_is = refl; length_is = refl; value_is = refl };
   family_is = ap (λ (n : ℕ). Some (record { afi = n; safi = cap.safi; value = 0 })) (big_number-reads_back 2 cap.afi (0 ∷ cap.safi ∷ []) fits);
+  reserved = refl;
   len = refl;
 }
 
@@ -144,6 +145,13 @@ all_capabilities o f a p bytes joined families four paths =
     ∙ flat_map-append paths_in y.capabilities z.capabilities
     ∙ ap (λ (l : List CapValue). l ++ flat_map paths_in z.capabilities) y.paths_are ∙ z.paths_are in
     record {
+      families = f;
+      four = a;
+      paths = p;
+      joined = joined;
+      families_are = families;
+      four_is = four;
+      paths_are = paths;
       capabilities = all;
       are = subst (λ (l : List ℕ). AreParts IsCoded l all) (sym joined) (parts_join IsCoded f (a ++ p) x.capabilities (y.capabilities ++ z.capabilities) x.are (parts_join IsCoded a p y.capabilities z.capabilities y.are z.are));
       announces = record { four_is = sym (ap (λ (v : Option CodedValue). option_map number_in v) found ∙ y.four_is); families_are = sym named; paths_are = sym listed };

@@ -10,7 +10,7 @@ use Rattle.bmp_specs.specs.Number.{IsNumber}
 use Rattle.bmp_specs.specs.Sequence.{IsField}
 use Rattle.bmp_specs.specs.PeerHeader.{a_flag, is_two_byte, HeaderValue, IsHeader, IsViewOf, address_in, family_of, is_set, l_flag, loc_rib, o_flag, v_flag, view_of}
 use Rattle.bmp_specs.specs.Values.{AddressValue, KeyValue}
-use Rattle.bmp_writer.specs.PeerMessage.{IsHeaderOf, family_flag, view_flags}
+use Rattle.bmp_writer.specs.PeerMessage.{IsHeaderOf, address_bytes, family_flag, view_flags}
 
 abbrev pub flags_for : Bool → Family → View → ℕ
 flags_for loc family view = if loc then 0 else bit_or (family_flag family) (view_flags view)
@@ -116,10 +116,10 @@ is_header key flags raw fits len =
       ),
     )
 
-pub header_written : (key : KeyValue) (view : View) (flags : ℕ) (raw : List ℕ) → key.distinguisher < 2 ^ 64 → length raw ≡ 16 → address_in key.address.family raw ≡ key.address
+pub header_written : (key : KeyValue) (view : View) (flags : ℕ) (raw : List ℕ) → key.distinguisher < 2 ^ 64 → length raw ≡ 16 → address_in key.address.family raw ≡ key.address → raw ≡ address_bytes key.address
     → key.kind ≤ loc_rib → (key.kind ≡ loc_rib → key.address.family ≡ V4) → IsViewOf key view → flags ≡ flags_for (key.kind == loc_rib) key.address.family view
     → IsHeaderOf key view (fields key flags raw)
-header_written key view flags raw fits len address kind v4 among f =
+header_written key view flags raw fits len address octets kind v4 among f =
     let h = header_with key flags raw in
     let known : leb key.kind loc_rib ≡ true = grind (arith, kind) in
     let loc : (key.kind == loc_rib) ≡ true → key.address.family ≡ V4 = λ e. let three : key.kind ≡ loc_rib = grind (arith, e) in v4 three in
@@ -134,6 +134,8 @@ header_written key view flags raw fits len address kind v4 among f =
       len = omega (arith, length-append raw (replicate 16 0), len);
       key_is = ap (λ (b : Bool). if b then Some (make (address_in (family_of h) raw)) else None) known ∙ ap (λ (a : AddressValue). Some (make a)) at;
       view_is = seen;
+      flags_are = f;
+      address_is = octets;
       plain = record { four_byte = width; no_asn = refl; no_identifier = refl; no_seconds = refl; no_micros = refl };
     }
 
@@ -148,9 +150,9 @@ header_joined key flags raw number t t1 t2 t3 t4 n e1 e2 e3 e4 =
     ∙ ap (λ (b : List ℕ). (((t ++ key.kind ∷ flags ∷ []) ++ b) ++ raw) ++ replicate 16 0) n ∙ five t (key.kind ∷ flags ∷ []) (big_bytes 8 key.distinguisher) raw (replicate 16 0)
 
 -- the same for a key as its fields are
-pub header_same : (inside key : KeyValue) → inside ≡ key → (view : View) (flags : ℕ) (raw : List ℕ) → inside.distinguisher < 2 ^ 64 → length raw ≡ 16 → address_in inside.address.family raw ≡ inside.address
+pub header_same : (inside key : KeyValue) → inside ≡ key → (view : View) (flags : ℕ) (raw : List ℕ) → inside.distinguisher < 2 ^ 64 → length raw ≡ 16 → address_in inside.address.family raw ≡ inside.address → raw ≡ address_bytes inside.address
     → key.kind ≤ loc_rib → (key.kind ≡ loc_rib → key.address.family ≡ V4) → IsViewOf key view → flags ≡ flags_for (key.kind == loc_rib) key.address.family view
     → IsHeaderOf key view (fields inside flags raw)
-header_same inside key same view flags raw fits len address kind v4 among f =
-    subst (λ (k : KeyValue). k.distinguisher < 2 ^ 64 → address_in k.address.family raw ≡ k.address → IsHeaderOf key view (fields k flags raw)) (sym same)
-    (λ fits address. header_written key view flags raw fits len address kind v4 among f) fits address
+header_same inside key same view flags raw fits len address octets kind v4 among f =
+    subst (λ (k : KeyValue). k.distinguisher < 2 ^ 64 → address_in k.address.family raw ≡ k.address → raw ≡ address_bytes k.address → IsHeaderOf key view (fields k flags raw)) (sym same)
+    (λ fits address octets. header_written key view flags raw fits len address octets kind v4 among f) fits address octets

@@ -14,7 +14,7 @@ use Rattle.bmp_writer.specs.PeerUpMessage.{IsSome}
 use Rattle.bmp_writer.specs.Written.{Appends}
 use Rattle.bmp_writer.proofs.CapabilitiesRead.{all_capabilities}
 use Rattle.bmp_writer.proofs.Still.{three_pieces}
-use Rattle.bmp_writer.specs.OpenMessage.{IsInOctets, IsOpenOf, front_of, open_front, parameters_size}
+use Rattle.bmp_writer.specs.OpenMessage.{AreParametersOf, IsInOctets, IsOpenOf, front_of, open_front, parameters_size}
 
 -- the body up to its parameters, of which there are so many bytes
 abbrev pub body_front : OpenValue → List ℕ → ℕ → List ℕ
@@ -106,6 +106,9 @@ pub open_bare : (o : OpenValue) (n : ℕ) (bytes : List ℕ) → IsInOctets o �
 open_bare o n bytes fits none zeros joined =
     let whole : bytes ≡ open_front o 0 ++ [] = joined ∙ ap (λ (k : ℕ). open_front o k) zeros ∙ sym (append-nil (open_front o 0)) in
     record {
+      parameters = [];
+      joined = whole ∙ ap (λ (k : ℕ). open_front o (parameters_size k) ++ []) (sym none);
+      parameters_are = subst (λ (k : ℕ). AreParametersOf k o []) (sym none) refl;
       is = subst (λ (l : List ℕ). IsOpenMessage l (as_read o)) (sym whole) (is_message o 0 [] fits refl (omega arith) (bare o none));
       size = ap (λ (l : List ℕ). length l) whole ∙ length-append (open_front o 0) [] ∙ ap (λ (k : ℕ). k + 0) (front_size o 0 fits) ∙ ap (λ (k : ℕ). 29 + parameters_size k) (sym none);
     }
@@ -113,6 +116,10 @@ open_bare o n bytes fits none zeros joined =
 parameters_are : (n : ℕ) → 0 < n → parameters_size n ≡ 2 + n
 parameters_are zero some = absurd (omega (arith, some))
 parameters_are (suc n) some = refl
+
+one_parameter : (n : ℕ) (o : OpenValue) (caps : List ℕ) → 0 < n → AreCapabilities o caps → AreParametersOf n o (2 ∷ n ∷ caps)
+one_parameter zero o caps some is = absurd (omega (arith, some))
+one_parameter (suc n) o caps some is = (caps, refl, is)
 
 -- the message with one parameter
 pub open_full : (o : OpenValue) (n : ℕ) (caps bytes : List ℕ) → IsInOctets o → AreCapabilities o caps → 0 < capabilities_size o → capabilities_size o ≤ 253 → n ≡ parameters_size (capabilities_size o)
@@ -122,6 +129,9 @@ open_full o n caps bytes fits is some small parameters joined =
     let whole : bytes ≡ open_front o n ++ (2 ∷ length caps ∷ caps) = joined ∙ ap (λ (k : ℕ). open_front o n ++ (2 ∷ k ∷ caps)) (sym is.size) in
     let read : AreParameters n (2 ∷ length caps ∷ caps) (as_read o) = subst (λ (k : ℕ). AreParameters k (2 ∷ length caps ∷ caps) (as_read o)) (sym size) (one o caps is) in
     record {
+      parameters = 2 ∷ capabilities_size o ∷ caps;
+      joined = joined ∙ ap (λ (k : ℕ). open_front o k ++ (2 ∷ capabilities_size o ∷ caps)) parameters;
+      parameters_are = one_parameter (capabilities_size o) o caps some is;
       is = subst (λ (l : List ℕ). IsOpenMessage l (as_read o)) (sym whole) (is_message o n (2 ∷ length caps ∷ caps) fits (size ∙ omega arith) (omega (arith, size, is.size, small)) read);
       size = omega (arith, ap (λ (l : List ℕ). length l) whole, length-append (open_front o n) (2 ∷ length caps ∷ caps), front_size o n fits, size, parameters);
     }
@@ -206,6 +216,7 @@ families_body (cap ∷ caps) =
       value = 0 ∷ cap.afi ∷ 0 ∷ cap.safi ∷ [];
       is = record { header = omega arith; code_is = refl; length_is = refl; value_is = refl };
       family_is = let n : big_number 2 (0 ∷ cap.afi ∷ 0 ∷ cap.safi ∷ []) ≡ cap.afi = omega arith in ap (λ (afi : ℕ). Some (record { afi = afi; safi = cap.safi; value = 0 })) n;
+      reserved = refl;
       len = refl;
     } in
     (first ++ rest.0, (first, rest.0, record { joined = refl }, is, rest.1))

@@ -15,7 +15,7 @@ use Rattle.bmp_specs.specs.Tlv.{IsTlv, last_value}
 use Rattle.bmp_specs.specs.Values.{AddressValue, CapValue, KeyValue, MessageValue, OpenValue, OpensValue, PeerInfoValue, PeerUpValue, TlvValue, message, of_unknown_type, peer_up, up}
 use Rattle.bmp_writer.specs.Capabilities.{as_read, capabilities_size}
 use Rattle.bmp_writer.specs.OpenMessage.{IsOpenOf, open_size, parameters_size}
-use Rattle.bmp_writer.specs.PeerMessage.{family_flag}
+use Rattle.bmp_writer.specs.PeerMessage.{address_bytes, family_flag}
 use Rattle.bmp_writer.specs.PeerUpMessage.{CanCarry, HasUpHeader, IsLocal, IsSome, IsTable, IsUpHeader, IsUpMessage, name_size, name_tlvs, name_tlvs_size, peer_up_size, unextended, up_flags, with_unextended}
 use Rattle.bmp_writer.specs.Written.{Always, Appends, IsWritten, peer_up_type, with_opens}
 use Rattle.bmp_writer.proofs.Frames.{frame_here, frame_length, header_bytes}
@@ -79,9 +79,9 @@ flag_family false V6 filtered v4 = refl
 is_v4 : (key : KeyValue) (info : PeerInfoValue) → CanCarry key info → (key.kind == loc_rib) ≡ true → key.address.family ≡ V4
 is_v4 key info can e = (subst (λ (b : Bool). MatchBool b ((key.address.family ≡ V4) × (name_size info.table ≤ 65535)) ((info.filtered ≡ false) × (info.table ≡ None))) e can.instance).0
 
-pub up_header : (key : KeyValue) (info : PeerInfoValue) (flags : ℕ) (raw : List ℕ) → CanCarry key info → key.distinguisher < 2 ^ 64 → length raw ≡ 16 → address_in key.address.family raw ≡ key.address
+pub up_header : (key : KeyValue) (info : PeerInfoValue) (flags : ℕ) (raw : List ℕ) → CanCarry key info → key.distinguisher < 2 ^ 64 → length raw ≡ 16 → address_in key.address.family raw ≡ key.address → raw ≡ address_bytes key.address
     → info.asn < 4294967296 → length info.identifier ≡ 4 → flags ≡ up_flags key info.filtered → IsUpHeader key info (up_fields key flags raw info.asn info.identifier)
-up_header key info flags raw can fits len address small four f =
+up_header key info flags raw can fits len address octets small four f =
     let h = up_header_with key flags raw info.asn info.identifier in
     let known : leb key.kind loc_rib ≡ true = grind (arith, can.known) in
     let family : family_of h ≡ key.address.family =
@@ -95,6 +95,7 @@ up_header key info flags raw can fits len address small four f =
       key_is = ap (λ (b : Bool). if b then Some (make (address_in (family_of h) raw)) else None) known ∙ ap (λ (a : AddressValue). Some (make a)) at;
       kind_is = refl;
       flags_are = f;
+      address_is = octets;
       asn_is = refl;
       identifier_is = refl;
       no_seconds = refl;
@@ -226,9 +227,9 @@ size_appended key info old new (bytes, joined, p) =
 
 -- the header, as its fields are put behind what stood there
 pub header_put : (k key : KeyValue) → k ≡ key → (i info : PeerInfoValue) → i ≡ info → (flags : ℕ) (number raw speaker old m1 m2 m3 new : List ℕ) → CanCarry key info → k.distinguisher < 2 ^ 64 → length raw ≡ 16
-    → address_in k.address.family raw ≡ k.address → i.asn < 4294967296 → length i.identifier ≡ 4 → flags ≡ up_flags key i.filtered → number ≡ big_bytes 8 k.distinguisher → speaker ≡ big_bytes 4 i.asn ++ (i.identifier ++ replicate 8 0)
+    → address_in k.address.family raw ≡ k.address → raw ≡ address_bytes k.address → i.asn < 4294967296 → length i.identifier ≡ 4 → flags ≡ up_flags key i.filtered → number ≡ big_bytes 8 k.distinguisher → speaker ≡ big_bytes 4 i.asn ++ (i.identifier ++ replicate 8 0)
     → m1 ≡ old ++ k.kind ∷ flags ∷ [] → m2 ≡ m1 ++ number → m3 ≡ m2 ++ raw → new ≡ m3 ++ speaker → Appends (IsUpHeader key info) old new
-header_put k key same i info is flags number raw speaker old m1 m2 m3 new can fits len address small four f n s e1 e2 e3 e4 =
+header_put k key same i info is flags number raw speaker old m1 m2 m3 new can fits len address octets small four f n s e1 e2 e3 e4 =
     subst (λ (x : KeyValue). CanCarry x info → flags ≡ up_flags x i.filtered → Appends (IsUpHeader x info) old new) same
     (λ can f. subst (λ (y : PeerInfoValue). CanCarry k y → Appends (IsUpHeader k y) old new) is (λ can. put can f) can) can f
   where
@@ -237,14 +238,14 @@ header_put k key same i info is flags number raw speaker old m1 m2 m3 new can fi
       up_fields k flags raw i.asn i.identifier,
       two_pieces old m1 new (k.kind ∷ flags ∷ []) (big_bytes 8 k.distinguisher ++ (raw ++ (big_bytes 4 i.asn ++ (i.identifier ++ replicate 8 0)))) e1
           (three_pieces m1 m2 m3 new number raw speaker e2 e3 e4 ∙ ap (λ (x : List ℕ). m1 ++ (x ++ (raw ++ speaker))) n ∙ ap (λ (x : List ℕ). m1 ++ (big_bytes 8 k.distinguisher ++ (raw ++ x))) s),
-      up_header k i flags raw can fits len address small four f,
+      up_header k i flags raw can fits len address octets small four f,
     )
 
-pub local_put : (i info : PeerInfoValue) → i ≡ info → (raw ports old mid new : List ℕ) → length raw ≡ 16 → address_in i.local.family raw ≡ i.local → i.local_port < 65536 → i.remote_port < 65536
+pub local_put : (i info : PeerInfoValue) → i ≡ info → (raw ports old mid new : List ℕ) → length raw ≡ 16 → address_in i.local.family raw ≡ i.local → raw ≡ address_bytes i.local → i.local_port < 65536 → i.remote_port < 65536
     → ports ≡ big_bytes 2 i.local_port ++ big_bytes 2 i.remote_port → mid ≡ old ++ raw → new ≡ mid ++ ports → Appends (IsLocal info) old new
-local_put i info is raw ports old mid new len address local remote p e1 e2 =
+local_put i info is raw ports old mid new len address octets local remote p e1 e2 =
     subst (λ (x : PeerInfoValue). Appends (IsLocal x) old new) is
-    (raw ++ ports, two_pieces old mid new raw ports e1 e2, record { address = raw; len = len; same = address; local = local; remote = remote; is = ap (λ (x : List ℕ). raw ++ x) p })
+    (raw ++ ports, two_pieces old mid new raw ports e1 e2, record { address = raw; len = len; same = address; exact = octets; local = local; remote = remote; is = ap (λ (x : List ℕ). raw ++ x) p })
 
 tlv_here : (name : List ℕ) → length name ≤ 65535 → IsTlv (big_bytes 2 3 ++ (big_bytes 2 (length name) ++ name)) (record { kind = table_name; value = name })
 tlv_here name short = record {

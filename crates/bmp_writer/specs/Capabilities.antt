@@ -1,5 +1,5 @@
 -- The capabilities of an OPEN message, as they are written (RFC 5492, section 4).
-use Rattle.std.specs.Prelude.{◌≡◌, ℕ, ◌+◌, ◌*◌, false, List, [], ◌∷◌, ◌++◌, length, map, Option, Some, None}
+use Rattle.std.specs.Prelude.{◌≡◌, ℕ, ◌+◌, ◌*◌, false, List, [], ◌∷◌, ◌++◌, length, map, slice_index, Option, Some, None}
 use Rattle.byteorder.specs.Endian.{big_bytes, big_number}
 use Rattle.bmp_specs.specs.Coded.{IsCoded}
 use Rattle.bmp_specs.specs.Open.{Announces, add_path, entries, family_in, four_octet_as, multiprotocol}
@@ -40,11 +40,12 @@ as_bytes asn = four_octet_as ∷ 4 ∷ big_bytes 4 asn
 abbrev pub entry_bytes : CapValue → List ℕ
 entry_bytes cap = big_bytes 2 cap.afi ++ cap.safi ∷ cap.value ∷ []
 
--- a capability that is read as this family
+-- a capability that is read as this family, with a reserved octet of 0
 pub record IsFamilyCapability (bytes : List ℕ) (cap : CapValue) : Type 0 where
   pub value : List ℕ
   pub is : IsCoded bytes (record { code = multiprotocol; value = value })
   pub family_is : family_in (record { code = multiprotocol; value = value }) ≡ Some (as_family cap)
+  pub reserved : slice_index bytes 4 ≡ 0
   pub len : length bytes ≡ 6
 
 -- a capability that is read as this AS number
@@ -75,8 +76,16 @@ abbrev pub IsPathCapability : List CapValue → List ℕ → Type 0
 IsPathCapability [] bytes = bytes ≡ []
 IsPathCapability (cap ∷ caps) bytes = HasEntries (cap ∷ caps) bytes
 
--- these capabilities, one after another
+-- The capabilities, one after another: one for each family, that of the AS number, and one of all ADD-PATH entries; and
+-- what whoever reads them takes from them.
 pub record AreCapabilities (o : OpenValue) (bytes : List ℕ) : Type 0 where
+  pub families : List ℕ
+  pub four : List ℕ
+  pub paths : List ℕ
+  pub joined : bytes ≡ families ++ (four ++ paths)
+  pub families_are : AreParts IsFamilyCapability families o.families
+  pub four_is : IsAsCapability o.four four
+  pub paths_are : IsPathCapability o.paths paths
   pub capabilities : List CodedValue
   pub are : AreParts IsCoded bytes capabilities
   pub announces : Announces capabilities (as_read o)

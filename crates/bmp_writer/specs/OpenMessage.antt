@@ -2,9 +2,9 @@
 use Rattle.std.specs.Prelude.{◌≡◌, ℕ, zero, suc, ◌+◌, ◌<◌, List, [], ◌∷◌, ◌++◌, length}
 use Rattle.byteorder.specs.Endian.{big_bytes}
 use Rattle.bmp_specs.specs.BgpMessage.{marker, open_type}
-use Rattle.bmp_specs.specs.Open.{IsOpenMessage}
+use Rattle.bmp_specs.specs.Open.{IsOpenMessage, capabilities_type}
 use Rattle.bmp_specs.specs.Values.{OpenValue}
-use Rattle.bmp_writer.specs.Capabilities.{as_read, capabilities_size}
+use Rattle.bmp_writer.specs.Capabilities.{AreCapabilities, as_read, capabilities_size}
 
 -- "Optional Parameters Length": two octets more than the capabilities, where there are any
 abbrev pub parameters_size : ℕ → ℕ
@@ -31,7 +31,15 @@ pub record AreInOctets (my_as hold : ℕ) (identifier : List ℕ) : Type 0 where
 abbrev pub IsInOctets : OpenValue → Type 0
 IsInOctets o = AreInOctets o.my_as o.hold o.identifier
 
+-- "Optional Parameters" whose capabilities take so many octets: none, or one parameter that holds them all
+abbrev pub AreParametersOf : ℕ → OpenValue → List ℕ → Type 0
+AreParametersOf zero o bytes = bytes ≡ []
+AreParametersOf (suc n) o bytes = (capabilities : List ℕ) × (bytes ≡ capabilities_type ∷ suc n ∷ capabilities) × AreCapabilities o capabilities
+
 -- a whole message that is read as this one
 pub record IsOpenOf (o : OpenValue) (bytes : List ℕ) : Type 0 where
+  pub parameters : List ℕ
+  pub joined : bytes ≡ open_front o (parameters_size (capabilities_size o)) ++ parameters
+  pub parameters_are : AreParametersOf (capabilities_size o) o parameters
   pub is : IsOpenMessage bytes (as_read o)
   pub size : length bytes ≡ open_size o

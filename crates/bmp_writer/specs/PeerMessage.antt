@@ -7,7 +7,7 @@ use Rattle.bmp_specs.specs.declared.wire.Family.TheVariants.{V4, V6}
 use Rattle.bmp_specs.specs.BgpMessage.{marker}
 use Rattle.bmp_specs.specs.Frame.{IsFrame, least}
 use Rattle.bmp_specs.specs.PeerHeader.{HeaderValue, IsHeader, header_size, is_two_byte, key_of, loc_rib, view_of, v_flag, l_flag, o_flag}
-use Rattle.bmp_specs.specs.Values.{KeyValue}
+use Rattle.bmp_specs.specs.Values.{AddressValue, KeyValue}
 
 -- the flag of a family
 abbrev pub family_flag : Family → ℕ
@@ -21,6 +21,18 @@ view_flags InPost = l_flag
 view_flags OutPre = o_flag
 view_flags OutPost = bit_or l_flag o_flag
 view_flags Loc = 0
+
+-- "Peer Flags" of a message of the view: a Loc-RIB Instance Peer has neither V nor L nor O (RFC 9069, section 4.2)
+abbrev pub header_flags : KeyValue → View → ℕ
+header_flags key view = if key.kind == loc_rib then 0 else bit_or (family_flag key.address.family) (view_flags view)
+
+-- an address in 16 bytes: "an IPv4 address is encoded in the last 4 bytes", and the 12 before them are zero
+abbrev pub octets_in : Family → List ℕ → List ℕ
+octets_in V4 octets = replicate 12 0 ++ take 4 octets
+octets_in V6 octets = octets
+
+abbrev pub address_bytes : AddressValue → List ℕ
+address_bytes a = octets_in a.family a.octets
 
 -- AS paths have numbers of four bytes, and neither an AS, an identifier nor a time is told
 pub record IsPlain (h : HeaderValue) : Type 0 where
@@ -36,13 +48,15 @@ pub record HasPlainHeader (bytes : List ℕ) : Type 0 where
   pub is : IsHeader (take header_size (drop least bytes)) header
   pub plain : IsPlain header
 
--- a header that names the peer and the view
+-- a header that names the peer and the view, with no flag but those
 pub record IsHeaderOf (key : KeyValue) (view : View) (bytes : List ℕ) : Type 0 where
   pub header : HeaderValue
   pub is : IsHeader bytes header
   pub len : length bytes ≡ header_size
   pub key_is : key_of header ≡ Some key
   pub view_is : view_of header ≡ view
+  pub flags_are : header.flags ≡ header_flags key view
+  pub address_is : header.address ≡ address_bytes key.address
   pub plain : IsPlain header
 
 -- the UPDATE message of an End-of-RIB marker (RFC 4724, section 2): for IPv4 one that has nothing, for IPv6 one whose only

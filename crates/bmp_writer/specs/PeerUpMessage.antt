@@ -10,7 +10,7 @@ use Rattle.bmp_specs.specs.Tlv.{AreTlvs}
 use Rattle.bmp_specs.specs.Values.{KeyValue, OpenValue, PeerInfoValue, TlvValue}
 use Rattle.bmp_writer.specs.Capabilities.{capabilities_size}
 use Rattle.bmp_writer.specs.OpenMessage.{IsOpenOf, open_size}
-use Rattle.bmp_writer.specs.PeerMessage.{family_flag}
+use Rattle.bmp_writer.specs.PeerMessage.{address_bytes, family_flag}
 use Rattle.bmp_writer.specs.Written.{peer_up_type}
 
 -- how many bytes a table name has, where there is one
@@ -52,6 +52,7 @@ pub record IsUpHeader (key : KeyValue) (info : PeerInfoValue) (bytes : List ℕ)
   pub key_is : key_of header ≡ Some key
   pub kind_is : header.kind ≡ key.kind
   pub flags_are : header.flags ≡ up_flags key info.filtered
+  pub address_is : header.address ≡ address_bytes key.address
   pub asn_is : header.asn ≡ info.asn
   pub identifier_is : header.identifier ≡ info.identifier
   pub no_seconds : header.seconds ≡ 0
@@ -62,6 +63,7 @@ pub record IsLocal (info : PeerInfoValue) (bytes : List ℕ) : Type 0 where
   pub address : List ℕ
   pub len : length address ≡ 16
   pub same : address_in info.local.family address ≡ info.local
+  pub exact : address ≡ address_bytes info.local
   pub local : info.local_port < 65536
   pub remote : info.remote_port < 65536
   pub is : bytes ≡ address ++ (big_bytes 2 info.local_port ++ big_bytes 2 info.remote_port)

@@ -1,8 +1,8 @@
-ghost use Rattle.std.specs.Prelude.{◌≡◌, ℕ, List, ◌+◌, ◌≤◌, ◌==◌, if◌then◌else◌, [], ◌∷◌, ◌++◌, length, take, bit_or, OnOk, OnErr};
+ghost use Rattle.std.specs.Prelude.{◌≡◌, ℕ, List, ◌+◌, ◌≤◌, [], ◌∷◌, ◌++◌, length, take, OnOk, OnErr};
 ghost use Rattle.bmp_specs.specs.PeerHeader.{IsViewOf, address_in, loc_rib};
 ghost use Rattle.bmp_specs.specs.declared.wire.Family.{Family};
 ghost use Rattle.bmp_writer.specs.Written.{Appends};
-ghost use Rattle.bmp_writer.specs.PeerMessage.{IsHeaderOf, IsPeerMessage, family_flag, view_flags};
+ghost use Rattle.bmp_writer.specs.PeerMessage.{IsHeaderOf, IsPeerMessage, address_bytes, family_flag, header_flags, view_flags};
 
 use crate::common::{common_header, put};
 use bmp_frames::{COMMON_HEADER, L_FLAG, LOC_RIB, O_FLAG, PeerKey, V_FLAG, View};
@@ -15,8 +15,9 @@ pub(crate) const PEER_HEADER: u32 = 42;
 /// The bytes of the longest message of a peer that has no routes and no OPENs.
 const LONGEST: usize = 80;
 
-/// "Peer Address": IPv4 in the last four bytes.
+/// "Peer Address": IPv4 in the last four bytes, behind twelve of zero.
 pub(crate) fn raw_address(address: &Addr) -> [u8; 16]
+    ensures octets { result ≡ address_bytes address.now }
     ensures same { address_in address.now.family result ≡ address.now }
     ensures size { length result ≡ 16 }
 {
@@ -56,7 +57,7 @@ fn flags_of_view(view: View) -> u8
 
 // "Peer Flags". A Loc-RIB Instance Peer has none of these (RFC 9069, section 4.2).
 fn flags(key: &PeerKey, view: View) -> u8
-    ensures { result ≡ if key.now.kind == loc_rib then 0 else bit_or (family_flag key.now.address.family) (view_flags view) }
+    ensures { result ≡ header_flags key.now view }
 {
     if key.kind == LOC_RIB {
         return 0;

@@ -13,6 +13,8 @@ mod opened;
 #[cfg(test)]
 mod publications;
 #[cfg(test)]
+mod relays;
+#[cfg(test)]
 mod sessions;
 #[cfg(test)]
 mod station;

@@ -13,7 +13,7 @@ use Rattle.station_top.specs.Words.{IsAsking, IsCommand, IsPlain, IsReplay}
 use Rattle.station_top.specs.declared.drill_words.DrillWords.{DrillWords}
 use Rattle.station_top.specs.declared.serve_words.ServeWords.{ServeWords}
 use Rattle.station_top.specs.declared.words.Command.{Command}
-use Rattle.station_top.specs.declared.words.Command.TheVariants.{Replay, Check, Serve, Drill, Help, Version}
+use Rattle.station_top.specs.declared.words.Command.TheVariants.{Replay, Check, Serve, Drill, Relay, Help, Version}
 
 -- no other query is the end of a session
 pub not_quit : (query : Query) → ¬ (query ≡ Quit) → query_value query ≢ quit
@@ -75,12 +75,13 @@ version_letter : (first : List ℕ) → (first ≡ codes "--version") ⊎ (first
 version_letter first (inl is) = letter first (codes "--version") 45 is refl
 version_letter first (inr is) = letter first (codes "-V") 45 is refl
 
--- the first letter tells the command
+-- the first letter tells the command, but `replay` and `relay` have the same
 abbrev pub LetterOf : Command → ℕ
 LetterOf (Replay query) = 114
 LetterOf Check = 99
 LetterOf (Serve serve) = 115
 LetterOf (Drill drill) = 100
+LetterOf Relay = 114
 LetterOf Help = 45
 LetterOf Version = 45
 
@@ -89,8 +90,13 @@ has_letter (Replay query) lenient first given is = letter first (codes "replay")
 has_letter Check lenient first given is = letter first (codes "check") 99 is.0 refl
 has_letter (Serve serve) lenient first given is = letter first (codes "serve") 115 is.0 refl
 has_letter (Drill drill) lenient first given is = letter first (codes "drill") 100 is.0 refl
+has_letter Relay lenient first given is = letter first (codes "relay") 114 is.0 refl
 has_letter Help lenient first given is = help_letter first is.0
 has_letter Version lenient first given is = version_letter first is.0
+
+-- their lengths tell `replay` and `relay` apart
+not_both : (first : List ℕ) → first ≡ codes "replay" → first ≡ codes "relay" → ⊥
+not_both first one two = let same : codes "replay" ≡ codes "relay" = sym one ∙ two in omega (arith, ap length same)
 
 module _ (first : List ℕ) (given : List (List ℕ)) where
   pub no_replay : first ≡ codes "replay" → ((query : QueryValue) (lenient : Bool) → IsReplay query lenient given → ⊥) → (command : Command) (lenient : Bool) → IsCommand command lenient first given → ⊥
@@ -98,6 +104,7 @@ module _ (first : List ℕ) (given : List (List ℕ)) where
     where
       go : (command : Command) → IsCommand command lenient first given → get_or first 0 0 ≡ 114 → get_or first 0 0 ≡ LetterOf command → ⊥
       go (Replay query) is one two = none (query_value query) lenient is.1
+      go Relay is one two = not_both first named is.0
       go Check is one two = absurd (omega (arith, one, two))
       go (Serve serve) is one two = absurd (omega (arith, one, two))
       go (Drill drill) is one two = absurd (omega (arith, one, two))
@@ -109,6 +116,7 @@ module _ (first : List ℕ) (given : List (List ℕ)) where
     where
       go : (command : Command) → IsCommand command lenient first given → get_or first 0 0 ≡ 115 → get_or first 0 0 ≡ LetterOf command → ⊥
       go (Serve serve) is one two = none serve lenient is.1
+      go Relay is one two = absurd (omega (arith, one, two))
       go (Replay query) is one two = absurd (omega (arith, one, two))
       go Check is one two = absurd (omega (arith, one, two))
       go (Drill drill) is one two = absurd (omega (arith, one, two))
@@ -120,7 +128,20 @@ module _ (first : List ℕ) (given : List (List ℕ)) where
     where
       go : (command : Command) → IsCommand command lenient first given → get_or first 0 0 ≡ 99 → get_or first 0 0 ≡ LetterOf command → ⊥
       go Check is one two = none lenient is.1
+      go Relay is one two = absurd (omega (arith, one, two))
       go (Replay query) is one two = absurd (omega (arith, one, two))
+      go (Serve serve) is one two = absurd (omega (arith, one, two))
+      go (Drill drill) is one two = absurd (omega (arith, one, two))
+      go Help is one two = absurd (omega (arith, one, two))
+      go Version is one two = absurd (omega (arith, one, two))
+
+  pub no_relay : first ≡ codes "relay" → ((lenient : Bool) → IsPlain lenient given [] → ⊥) → (command : Command) (lenient : Bool) → IsCommand command lenient first given → ⊥
+  no_relay named none command lenient is = go command is (letter first (codes "relay") 114 named refl) (has_letter command lenient first given is)
+    where
+      go : (command : Command) → IsCommand command lenient first given → get_or first 0 0 ≡ 114 → get_or first 0 0 ≡ LetterOf command → ⊥
+      go Relay is one two = none lenient is.1
+      go (Replay query) is one two = not_both first is.0 named
+      go Check is one two = absurd (omega (arith, one, two))
       go (Serve serve) is one two = absurd (omega (arith, one, two))
       go (Drill drill) is one two = absurd (omega (arith, one, two))
       go Help is one two = absurd (omega (arith, one, two))
@@ -131,6 +152,7 @@ module _ (first : List ℕ) (given : List (List ℕ)) where
     where
       go : (command : Command) → IsCommand command lenient first given → get_or first 0 0 ≡ 100 → get_or first 0 0 ≡ LetterOf command → ⊥
       go (Drill drill) is one two = none drill is.1
+      go Relay is one two = absurd (omega (arith, one, two))
       go (Replay query) is one two = absurd (omega (arith, one, two))
       go Check is one two = absurd (omega (arith, one, two))
       go (Serve serve) is one two = absurd (omega (arith, one, two))
@@ -138,12 +160,13 @@ module _ (first : List ℕ) (given : List (List ℕ)) where
       go Version is one two = absurd (omega (arith, one, two))
 
   -- no other command is left
-  module _ (replay : first ≢ codes "replay") (serve : first ≢ codes "serve") (check : first ≢ codes "check") (drill : first ≢ codes "drill") where
+  module _ (replay : first ≢ codes "replay") (serve : first ≢ codes "serve") (check : first ≢ codes "check") (drill : first ≢ codes "drill") (relay : first ≢ codes "relay") where
     pub no_more : given ≢ [] → (command : Command) (lenient : Bool) → IsCommand command lenient first given → ⊥
     no_more some (Replay query) lenient is = replay is.0
     no_more some Check lenient is = check is.0
     no_more some (Serve words) lenient is = serve is.0
     no_more some (Drill words) lenient is = drill is.0
+    no_more some Relay lenient is = relay is.0
     no_more some Help lenient is = some is.1
     no_more some Version lenient is = some is.1
 
@@ -152,5 +175,6 @@ module _ (first : List ℕ) (given : List (List ℕ)) where
     no_other help version Check lenient is = check is.0
     no_other help version (Serve words) lenient is = serve is.0
     no_other help version (Drill words) lenient is = drill is.0
+    no_other help version Relay lenient is = relay is.0
     no_other help version Help lenient is = help is.0
     no_other help version Version lenient is = version is.0

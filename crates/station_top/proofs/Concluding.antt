@@ -19,7 +19,7 @@ use Rattle.wire_io.proofs.Joins.{join, appends_none, keeps_appends}
 use Rattle.bmp_message.specs.Effects.{GivesMessages}
 use Rattle.station_doors.specs.Doors.{YardValue, HandsOut, TakesBack, one_more, untouched}
 use Rattle.query_eval.specs.Replies.{PutsReply}
-use Rattle.station_top.specs.Station.{Explains, explained, LendsWhereTold, IsWritten, IsTaken, FromYard, IsReplyTo, IsStopped, TakesOneInput, Runs, refused, replied, starved, unready, called, Concludes, CallConcludes, Answers, replied_to, served, drilled, DrillMeans, drilled_whole, drill_starved, DrillConcludes, AnswersFault}
+use Rattle.station_top.specs.Station.{Explains, explained, LendsWhereTold, IsWritten, IsTaken, FromYard, IsReplyTo, IsStopped, TakesOneInput, Runs, refused, replied, starved, unready, called, Concludes, CallConcludes, Answers, replied_to, served, drilled, relayed_to, DrillMeans, drilled_whole, drill_starved, DrillConcludes, AnswersFault}
 use Rattle.station_top.specs.Status.{status_of, status_served}
 use Rattle.station_top.specs.Take.{TakesInput, BreaksOff}
 use Rattle.station_top.specs.Words.{IsCall}
@@ -32,9 +32,9 @@ use Rattle.station_top.specs.declared.drill_words.DrillWords.{DrillWords}
 use Rattle.station_top.specs.declared.serve_words.ServeWords.{ServeWords}
 use Rattle.station_top.specs.declared.words.Call.{Call}
 use Rattle.station_top.specs.declared.words.Command.{Command}
-use Rattle.station_top.specs.declared.words.Command.TheVariants.{Replay, Check, Serve, Drill, Help, Version}
+use Rattle.station_top.specs.declared.words.Command.TheVariants.{Replay, Check, Serve, Drill, Relay, Help, Version}
 use Rattle.station_top.specs.declared.status.Status.{Status}
-use Rattle.station_top.specs.declared.status.Status.TheVariants.{Done, Stopped, Usage, ReadFault, WriteFault, NoMemory, YardFault}
+use Rattle.station_top.specs.declared.status.Status.TheVariants.{Done, Stopped, Usage, ReadFault, WriteFault, NoMemory, YardFault, Unwritable}
 use Rattle.station_top.specs.declared.take.Taken.{Taken}
 use Rattle.station_top.proofs.Lengths.{walk_lengths}
 
@@ -118,7 +118,7 @@ pub concludes_no_drill : (drill : DrillWords) (told : Option (List ℕ)) → Dri
 concludes_no_drill drill told = record { meant = NoMemory; text = []; means = drill_starved; written = inl (refl, appends_none told) }
 
 -- no cause has the status of a failed write
-no_write_fault : (cause : Cause) → status_of cause ≡ WriteFault → ⊥
+pub no_write_fault : (cause : Cause) → status_of cause ≡ WriteFault → ⊥
 no_write_fault Ended is = cc is
 no_write_fault Terminated is = cc is
 no_write_fault (CutShort offset) is = cc is
@@ -144,6 +144,7 @@ concludes_unread meaning Stands Replies old new number told Stopped from = absur
 concludes_unread meaning Stands Replies old new number told Usage from = absurd from
 concludes_unread meaning Stands Replies old new number told ReadFault from = absurd from
 concludes_unread meaning Stands Replies old new number told WriteFault from = absurd from
+concludes_unread meaning Stands Replies old new number told Unwritable from = absurd from
 
 -- the words are a call
 pub answers_called : (Serves : Meaning → ServeWords → Outcome → Type 0) (call : Call) (words : List (List ℕ)) (old new : Option YardValue) (number calls : ℕ) (told0 told1 : Option (List ℕ)) (status : Status) → IsCall call words → CallConcludes (Serves (meaning_of call.lenient)) call.command (meaning_of call.lenient) old new number calls told0 told1 status
@@ -156,6 +157,7 @@ answers_called Serves call words old new number calls told0 told1 status is c = 
     go : (command : Command) → call.command ≡ command → CallConcludes (Serves (meaning_of call.lenient)) command (meaning_of call.lenient) old new number calls told0 told1 status → Answers Serves words old new number calls told0 told1 status
     go (Replay query) same (counted, k) = takes (Replay query) same tt counted k
     go Check same (counted, k) = takes Check same tt counted k
+    go Relay same (counted, k) = relayed_to call.lenient (subst (λ (m : Command). IsCall (record { command = m; lenient = call.lenient }) words) same is) counted k
     go (Serve serve) same (outcome, comes, ends) = served serve call.lenient outcome (subst (λ (m : Command). IsCall (record { command = m; lenient = call.lenient }) words) same is) comes ends
     go (Drill drill) same (still, uncalled, k) =
         let of_drill : IsCall (record { command = Drill drill; lenient = call.lenient }) words = subst (λ (m : Command). IsCall (record { command = m; lenient = call.lenient }) words) same is in

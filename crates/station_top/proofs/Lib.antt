@@ -16,3 +16,4 @@ pub mod OptionTaken
 pub mod OptionServe
 pub mod ThreeNumbers
 pub mod Drilling
+pub mod Relaying

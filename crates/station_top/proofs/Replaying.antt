@@ -60,3 +60,10 @@ replied_on faults told aside query cut entries is answers =
     let put = answers (batch 0 is.taken) is.stands in
     let lanes : lanes_of (length cut) (batch 0 is.taken) ≡ entries ∷ [] = ap (λ (n : ℕ). lanes_of n (batch 0 is.taken)) is.one ∙ ap (λ (es : List Entry). entry_values es ∷ []) (part_all is.taken) ∙ ap (λ (es : List EntryValue). es ∷ []) (sym is.values) in
     record { text = put.text; is_reply = subst (λ (l : List (List EntryValue)). IsReply (query_value query) l put.text) lanes put.is_reply; written = put.written }
+
+-- the tables of a replay that has nothing gathered stand for its entries
+pub settled_stands : (replay : Replay) (entries : List EntryValue) → Settled replay entries → StandsFor replay.tables entries
+settled_stands replay entries s =
+    let taken = s.gathers.taken in
+    let values : entries ≡ entry_values taken = s.gathers.values ∙ ap entry_values (ap (λ (more : List Entry). taken ++ more) s.none ∙ append-nil taken) in
+    subst (λ (es : List EntryValue). StandsFor replay.tables es) (sym values) s.gathers.stands

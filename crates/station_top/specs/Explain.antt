@@ -11,6 +11,7 @@ help_text = codes "bmpstation: a station for the BGP Monitoring Protocol (RFC 78
     ++ codes "  check [--lenient]          how many messages of each type that stream has\n"
     ++ codes "  serve OPTIONS              routers and clients side by side, over TCP\n"
     ++ codes "  drill SEED LANES MESSAGES  lanes over made streams, and what they come to\n"
+    ++ codes "  relay [--lenient]          the BMP stream that rebuilds what that stream left\n"
     ++ codes "  --help, -h                 this text\n"
     ++ codes "  --version, -V              which version this is\n"
     ++ codes "\n"
@@ -30,7 +31,8 @@ help_text = codes "bmpstation: a station for the BGP Monitoring Protocol (RFC 78
     ++ codes "  --lenient                  read what FRR and GoBGP send beside the RFCs\n"
     ++ codes "\n"
     ++ codes "statuses: 0 done, 1 the stream stopped early, 2 usage, 3 a read failed,\n"
-    ++ codes "4 a write failed, 5 want of memory, 6 no input, or a port can't be had\n"
+    ++ codes "4 a write failed, 5 want of memory, 6 no input, or a port can't be had,\n"
+    ++ codes "8 what the stream left can't be relayed\n"
     ++ codes "\n"
     ++ codes "The manual is bmpstation(1); bmpstation-query(7) has the queries.\n"
 

@@ -9,7 +9,13 @@ use Rattle.bmp_specs.specs.Life.{IsReadNoFurther}
 use Rattle.bmp_specs.specs.Meaning.{Meaning}
 use Rattle.bmp_specs.specs.Query.{quit}
 use Rattle.bmp_specs.specs.QueryReply.{IsReply}
-use Rattle.bmp_specs.specs.Values.{EntryValue, opened}
+use Rattle.bmp_specs.specs.Session.{session_effects}
+use Rattle.bmp_specs.specs.Values.{EffectValue, EntryValue, opened}
+use Rattle.relay_out.specs.Messages.{IsRelayStream, stream_items}
+use Rattle.relay_out.specs.Relayed.{ReadsBack}
+use Rattle.relay_out.specs.Told.{IsTold, StreamValue}
+use Rattle.relay_out.specs.Writable.{AreWritable}
+use Rattle.relay_out.specs.Writing.{IsFront}
 use Rattle.wire_io.specs.Aside.{Aside, Given, Plan}
 use Rattle.wire_io.specs.Faults.{Rose}
 use Rattle.wire_io.specs.Writes.{AppendsFront}
@@ -27,11 +33,11 @@ use Rattle.station_top.specs.Words.{IsCall, TakeMemory}
 use Rattle.station_top.specs.declared.drill_words.DrillWords.{DrillWords}
 use Rattle.station_top.specs.declared.serve_words.ServeWords.{ServeWords}
 use Rattle.station_top.specs.declared.status.Status.{Status}
-use Rattle.station_top.specs.declared.status.Status.TheVariants.{Done, Stopped, Usage, ReadFault, WriteFault, NoMemory, YardFault}
+use Rattle.station_top.specs.declared.status.Status.TheVariants.{Done, Stopped, Usage, ReadFault, WriteFault, NoMemory, YardFault, Unwritable}
 use Rattle.station_top.specs.declared.take.Taken.{Taken}
 use Rattle.station_top.specs.declared.words.Call.{Call}
 use Rattle.station_top.specs.declared.words.Command.{Command}
-use Rattle.station_top.specs.declared.words.Command.TheVariants.{Replay, Check, Serve, Drill, Help, Version}
+use Rattle.station_top.specs.declared.words.Command.TheVariants.{Replay, Check, Serve, Drill, Relay, Help, Version}
 
 -- the bytes are the reply of a command on these entries
 abbrev pub IsReplyTo : Command → List EntryValue → List ℕ → Type 0
@@ -39,6 +45,7 @@ IsReplyTo (Replay query) entries bytes = IsReply (query_value query) (entries �
 IsReplyTo Check entries bytes = bytes ≡ check_lines entries
 IsReplyTo (Serve serve) entries bytes = ⊥
 IsReplyTo (Drill drill) entries bytes = ⊥
+IsReplyTo Relay entries bytes = ⊥
 IsReplyTo Help entries bytes = ⊥
 IsReplyTo Version entries bytes = ⊥
 
@@ -48,6 +55,7 @@ Explains (Replay query) text = ⊥
 Explains Check text = ⊥
 Explains (Serve serve) text = ⊥
 Explains (Drill drill) text = ⊥
+Explains Relay text = ⊥
 Explains Help text = text ≡ help_text
 Explains Version text = text ≡ version_line
 
@@ -57,15 +65,17 @@ MayAsk (Replay query) = query_value query ≢ quit
 MayAsk Check = Unit {0}
 MayAsk (Serve serve) = MayServe serve
 MayAsk (Drill drill) = MayDrill drill
+MayAsk Relay = Unit {0}
 MayAsk Help = Unit {0}
 MayAsk Version = Unit {0}
 
--- the command takes the one input connection
+-- the command takes the one input connection and answers with lines; `relay` takes it too, and has a relation of its own
 abbrev pub TakesOneInput : Command → Type 0
 TakesOneInput (Replay query) = Unit {0}
 TakesOneInput Check = Unit {0}
 TakesOneInput (Serve serve) = ⊥
 TakesOneInput (Drill drill) = ⊥
+TakesOneInput Relay = ⊥
 TakesOneInput Help = ⊥
 TakesOneInput Version = ⊥
 
@@ -110,6 +120,30 @@ pub data Runs (meaning : Meaning) (Replies : List EntryValue → List ℕ → Ty
   unready : (input : Given) (messages : List EntryValue) (cause : Cause) → HasCome meaning input messages cause → IsReadNoFurther meaning input.bytes
       → LendsWhereTold (λ plan shows. Comes meaning plan shows input messages cause) old new number → Runs meaning Replies old new number NoMemory []
 
+-- What a relay of what these effects left wrote, by its status. The stream that left it stopped for this cause.
+pub data Relayed (effects : List EffectValue) (cause : Cause) (told0 told1 : Option (List ℕ)) : Status → Type 0 where
+  -- the whole stream, which is read back, and nothing behind it
+  wrote : AreWritable effects → (bytes : List ℕ) → IsRelayStream effects bytes → ReadsBack effects bytes → Appends told0 told1 bytes → Relayed effects cause told0 told1 (status_of cause)
+  -- nothing: it can't be relayed
+  unwritable : ¬ (AreWritable effects) → told1 ≡ told0 → Relayed effects cause told0 told1 Unwritable
+  -- a front of the stream: a write failed
+  cut : AreWritable effects → (stream : StreamValue) (written : List ℕ) → IsTold effects stream → IsFront (stream_items stream) written → Appends told0 told1 written → Relayed effects cause told0 told1 WriteFault
+  -- a front of the stream's first messages, or nothing: there was no memory
+  broken_off : (stream : StreamValue) (written : List ℕ) → IsTold effects stream → IsFront (stream_items stream) written → Appends told0 told1 written → Relayed effects cause told0 told1 NoMemory
+
+-- what `relay` comes to by the yard, and what it wrote, by its status
+pub data RelayConcludes (meaning : Meaning) (old new : Option YardValue) (number : ℕ) (told0 told1 : Option (List ℕ)) : Status → Type 0 where
+  -- the yard refused the port: nothing is written
+  unlent : Refuses old new number → told1 ≡ told0 → RelayConcludes meaning old new number told0 told1 YardFault
+  -- want of memory while the input was taken: nothing is written
+  untaken : LendsWhereTold (BreaksOff meaning) old new number → told1 ≡ told0 → RelayConcludes meaning old new number told0 told1 NoMemory
+  -- want of memory once it was taken: nothing is written
+  unsettled : (input : Given) (messages : List EntryValue) (cause : Cause) → HasCome meaning input messages cause → IsReadNoFurther meaning input.bytes
+      → LendsWhereTold (λ plan shows. Comes meaning plan shows input messages cause) old new number → told1 ≡ told0 → RelayConcludes meaning old new number told0 told1 NoMemory
+  -- the input was taken, and what its opening and its messages left is relayed
+  relayed : (input : Given) (messages : List EntryValue) (cause : Cause) (status : Status) → HasCome meaning input messages cause → IsReadNoFurther meaning input.bytes
+      → LendsWhereTold (λ plan shows. Comes meaning plan shows input messages cause) old new number → Relayed (session_effects (opened ∷ messages)) cause told0 told1 status → RelayConcludes meaning old new number told0 told1 status
+
 -- What a call comes to by its words and the yard, before anything is written: how many calls of the yard were made
 -- then, the status that is meant, and the text. Bodies mean what the call's reading says.
 pub data Means (words : List (List ℕ)) (old new : Option YardValue) (number : ℕ) : ℕ → Status → List ℕ → Type 0 where
@@ -152,6 +186,7 @@ CallConcludes Serves (Replay query) meaning old new number calls told0 told1 sta
 CallConcludes Serves Check meaning old new number calls told0 told1 status = (calls ≡ one_more number) × Concludes meaning (IsReplyTo Check) old new number told0 told1 status
 CallConcludes Serves (Serve serve) meaning old new number calls told0 told1 status = (outcome : Outcome) × Serves serve outcome × (status ≡ status_served outcome)
 CallConcludes Serves (Drill drill) meaning old new number calls told0 told1 status = (new ≡ old) × (calls ≡ number) × DrillConcludes drill told0 told1 status
+CallConcludes Serves Relay meaning old new number calls told0 told1 status = (calls ≡ one_more number) × RelayConcludes meaning old new number told0 told1 status
 CallConcludes Serves Help meaning old new number calls told0 told1 status = (new ≡ old) × (calls ≡ number) × IsWritten told0 told1 help_text Done status
 CallConcludes Serves Version meaning old new number calls told0 told1 status = (new ≡ old) × (calls ≡ number) × IsWritten told0 told1 version_line Done status
 
@@ -163,6 +198,8 @@ pub data Answers (Serves : Meaning → ServeWords → Outcome → Type 0) (words
   served : (serve : ServeWords) (lenient : Bool) (outcome : Outcome) → IsCall (record { command = Serve serve; lenient = lenient }) words → Serves (meaning_of lenient) serve outcome → status ≡ status_served outcome → Answers Serves words old new number calls told0 told1 status
   -- they are a call of `drill`, and the yard is asked for nothing
   drilled : (drill : DrillWords) → IsCall (record { command = Drill drill; lenient = false }) words → new ≡ old → calls ≡ number → DrillConcludes drill told0 told1 status → Answers Serves words old new number calls told0 told1 status
+  -- they are a call of `relay`, which takes the one input connection
+  relayed_to : (lenient : Bool) → IsCall (record { command = Relay; lenient = lenient }) words → calls ≡ one_more number → RelayConcludes (meaning_of lenient) old new number told0 told1 status → Answers Serves words old new number calls told0 told1 status
   -- they ask for the help text or the version, and the yard is asked for nothing
   explained : (call : Call) (text : List ℕ) → IsCall call words → Explains call.command text → new ≡ old → calls ≡ number → IsWritten told0 told1 text Done status → Answers Serves words old new number calls told0 told1 status
 
@@ -191,3 +228,4 @@ FromYard meaning Stands old new number (Err Stopped) = ⊥
 FromYard meaning Stands old new number (Err Usage) = ⊥
 FromYard meaning Stands old new number (Err ReadFault) = ⊥
 FromYard meaning Stands old new number (Err WriteFault) = ⊥
+FromYard meaning Stands old new number (Err Unwritable) = ⊥

@@ -7,7 +7,7 @@ use Rattle.station_top.specs.DrillWords.{IsDrill}
 use Rattle.station_top.specs.ServeWords.{IsServe}
 use Rattle.station_top.specs.declared.words.Call.{Call}
 use Rattle.station_top.specs.declared.words.Command.{Command}
-use Rattle.station_top.specs.declared.words.Command.TheVariants.{Replay, Check, Serve, Drill, Help, Version}
+use Rattle.station_top.specs.declared.words.Command.TheVariants.{Replay, Check, Serve, Drill, Relay, Help, Version}
 
 -- the line is this query, which isn't the end of a session
 pub record IsAsking (line : List ℕ) (query : QueryValue) : Type 0 where
@@ -25,12 +25,13 @@ abbrev pub IsReplay : QueryValue → Bool → List (List ℕ) → Type 0
 IsReplay query lenient given = (asked : List (List ℕ)) × IsPlain lenient given asked × IsAsking (join_with_byte space asked) query
 
 -- The first of the words and those behind it are this command, which is lenient or isn't: `--lenient` stands right behind
--- `replay` or `check`, or anywhere among the settings of `serve`.
+-- `replay`, `check` or `relay`, or anywhere among the settings of `serve`.
 abbrev pub IsCommand : Command → Bool → List ℕ → List (List ℕ) → Type 0
 IsCommand (Replay query) lenient first given = (first ≡ codes "replay") × IsReplay (query_value query) lenient given
 IsCommand Check lenient first given = (first ≡ codes "check") × IsPlain lenient given []
 IsCommand (Serve serve) lenient first given = (first ≡ codes "serve") × IsServe serve lenient given
 IsCommand (Drill drill) lenient first given = (first ≡ codes "drill") × IsDrill drill given × (lenient ≡ false)
+IsCommand Relay lenient first given = (first ≡ codes "relay") × IsPlain lenient given []
 IsCommand Help lenient first given = ((first ≡ codes "--help") ⊎ (first ≡ codes "-h")) × (given ≡ []) × (lenient ≡ false)
 IsCommand Version lenient first given = ((first ≡ codes "--version") ⊎ (first ≡ codes "-V")) × (given ≡ []) × (lenient ≡ false)
 

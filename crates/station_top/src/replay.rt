@@ -1,6 +1,6 @@
 //! The tables that the input leaves, brought up to date with many messages at once.
 
-ghost use Rattle.std.specs.Prelude.{◌++◌, ◌∷◌, [], List, OnOk};
+ghost use Rattle.std.specs.Prelude.{◌++◌, ◌∷◌, [], List, IfOk, OnOk};
 ghost use Rattle.bmp_specs.specs.Values.{EntryValue};
 ghost use Rattle.rib_model.specs.Entries.{entry_value};
 
@@ -59,6 +59,21 @@ impl Replay {
             Ok(()) => Ok(()),
             Err(Unplaced::NoMemory { .. }) => Err(NoMemory),
         }
+    }
+}
+
+impl Replay {
+    ghost use Rattle.router_tables.specs.Tables.{StandsFor};
+    ghost use Rattle.station_top.specs.Replay.{Gathers};
+
+    /// The tables with all entries taken.
+    pub(crate) fn into_tables(self) -> Result<RouterTables, NoMemory>
+        ensures { IfOk result (λ tables. (entries : List EntryValue) → Gathers self entries → StandsFor tables entries) }
+    {
+        let mut replay = self;
+        replay.settle()?;
+        let Replay { tables, .. } = replay;
+        Ok(tables)
     }
 }
 

@@ -17,6 +17,8 @@ pub enum Status {
     NoMemory,
     /// The yard failed.
     YardFault,
+    /// What the stream left can't be relayed. Nothing was written.
+    Unwritable,
 }
 
 impl Status {
@@ -34,6 +36,7 @@ impl Status {
             Status::WriteFault => 4,
             Status::NoMemory => 5,
             Status::YardFault => 6,
+            Status::Unwritable => 8,
         }
     }
 }

@@ -8,10 +8,10 @@ ghost use Rattle.wire_io.specs.Faults.{Rose};
 ghost use Rattle.station_doors.specs.Doors.{one_more};
 ghost use Rattle.query_eval.specs.Replies.{PutsReply};
 ghost use Rattle.station_run.specs.Serve.{AnswersFault as EndsFault, Comes};
-ghost use Rattle.station_top.specs.Status.{status_of, status_served};
+ghost use Rattle.station_top.specs.Status.{status_of, status_relayed, status_served};
 ghost use Rattle.station_top.specs.DrillWords.{MayDrill};
 ghost use Rattle.station_top.specs.ServeWords.{MayServe};
-ghost use Rattle.station_top.specs.Station.{Answers, CallConcludes, Concludes, DrillConcludes, FromYard, AnswersFault, IsStopped, IsWritten, MayAsk};
+ghost use Rattle.station_top.specs.Station.{Answers, CallConcludes, Concludes, RelayConcludes, DrillConcludes, FromYard, AnswersFault, IsStopped, IsWritten, MayAsk};
 
 use crate::Status;
 use crate::account::{Account, Replies};
@@ -26,6 +26,7 @@ use crate::words::{Call, Command, WordsFault, read_words};
 use bmp_message::{BodyReading, LenientReading, Reading};
 use bmp_specs::Cause;
 use core::mem::replace_with;
+use relay_out::{EmitFault, emit};
 use reply_text::put_stop;
 use station_doors::Yard;
 use station_run::{FromEnding, Outcome, drill, serve};
@@ -177,6 +178,59 @@ fn run_by<A: Account + Drop, Y: Yard, O: Sink>(
     }
 }
 
+// The status of a relay of what a stream left that stopped for this cause.
+fn status_relayed_by(relay: Result<(), EmitFault>, cause: Cause) -> Status
+    ensures { result ≡ status_relayed relay cause }
+{
+    match relay {
+        Ok(()) => status_after(cause),
+        Err(EmitFault::Failed) => Status::WriteFault,
+        Err(EmitFault::Unwritable) => Status::Unwritable,
+        Err(EmitFault::NoMemory) => Status::NoMemory,
+    }
+}
+
+// Takes the input, and relays what it left.
+fn run_relay<R: BodyReading + Drop, Y: Yard, O: Sink>(
+    alloc: Global,
+    yard: &mut Y,
+    out: &mut O,
+) -> Status
+    ensures concludes { RelayConcludes R.meaning (Y.told yard.old) (Y.told yard.new) (Y.calls yard.old) (O.told out.old) (O.told out.new) result }
+    ensures calls { Y.calls yard.new ≡ one_more (Y.calls yard.old) }
+    ensures out { AnswersFault (O.faults out.old) (O.faults out.new) result Status.WriteFault }
+    ensures yard { AnswersFault (Y.faults yard.old) (Y.faults yard.new) result Status.YardFault }
+    ensures aside { O.aside out.new ≡ O.aside out.old }
+{
+    match take_from::<Y, Replay, R>(alloc, yard) {
+        Ok((replay, taken)) => match replay.into_tables() {
+            Ok(tables) => {
+                let relay = emit(alloc, &tables, out);
+                // The command is over, and the system takes all memory back at once.
+                mem::forget(tables);
+                status_relayed_by(relay, taken.cause)
+            }
+            Err(_) => Status::NoMemory,
+        },
+        Err(status) => status,
+    }
+}
+
+// The same, where bodies are read leniently or by the RFCs alone.
+fn run_relay_by<Y: Yard, O: Sink>(alloc: Global, lenient: bool, yard: &mut Y, out: &mut O) -> Status
+    ensures concludes { RelayConcludes (meaning_of lenient) (Y.told yard.old) (Y.told yard.new) (Y.calls yard.old) (O.told out.old) (O.told out.new) result }
+    ensures calls { Y.calls yard.new ≡ one_more (Y.calls yard.old) }
+    ensures out { AnswersFault (O.faults out.old) (O.faults out.new) result Status.WriteFault }
+    ensures yard { AnswersFault (Y.faults yard.old) (Y.faults yard.new) result Status.YardFault }
+    ensures aside { O.aside out.new ≡ O.aside out.old }
+{
+    if lenient {
+        run_relay::<LenientReading, Y, O>(alloc, yard, out)
+    } else {
+        run_relay::<Reading, Y, O>(alloc, yard, out)
+    }
+}
+
 // The status of a station that served.
 fn status_served_by(outcome: Outcome) -> Status
     ensures { result ≡ status_served outcome }
@@ -266,6 +320,7 @@ where
             status_served_by(serve_by(rt, alloc, lenient, &words, yard, out))
         }
         Command::Drill(words) => run_drill(rt, alloc, words, out),
+        Command::Relay => run_relay_by(alloc, lenient, yard, out),
         Command::Help => write_text(out, help()),
         Command::Version => write_text(out, version()),
     }
@@ -287,11 +342,15 @@ where
 /// streams that follow from these numbers (`drill_streams`), side by side with askers; in the end it writes the replies of
 /// `cut`, `routers` and `count`, on the openings and the messages, and not on any closing.
 ///
+/// `relay` takes the input as `replay` does, gives the port back, and then writes a BMP stream of what its messages left:
+/// the router's name and description, each peer that is up, its rows and its complete tables (`relay_out`). It writes no
+/// stop line. Where that can't be written it answers `Unwritable`, and nothing is written.
+///
 /// `--help`, or `-h`, writes the help text, and `--version`, or `-V`, the line with the version. They ask the yard for
 /// nothing and take no memory.
 ///
 /// Other words are usage. The bodies of the messages are read by the RFCs alone, and with `--lenient`, which stands right
-/// behind `replay` or `check` or among the settings of `serve`, as routers send them (`lenient` of `bmp_specs`).
+/// behind `replay`, `check` or `relay` or among the settings of `serve`, as routers send them (`lenient` of `bmp_specs`).
 pub fn station<Y: Yard, O: Sink, R: Threads + Wait + Sync>(
     rt: &R,
     alloc: Global,

@@ -28,6 +28,9 @@ pub enum Command {
     /// `drill`: lanes over streams that follow from a few numbers.
     Drill(DrillWords),
 
+    /// `relay`: a BMP stream that rebuilds what the input leaves.
+    Relay,
+
     /// `--help`: what the commands are.
     Help,
 
@@ -78,6 +81,12 @@ fn is_drill(word: &str) -> bool
     ensures { IsTrue result ↔ (word.now ≡ codes "drill") }
 {
     word == "drill"
+}
+
+fn is_relay(word: &str) -> bool
+    ensures { IsTrue result ↔ (word.now ≡ codes "relay") }
+{
+    word == "relay"
 }
 
 fn is_lenient(word: &str) -> bool
@@ -156,8 +165,8 @@ fn read_replay(alloc: Global, given: &[String]) -> Result<(Query, bool), WordsFa
     }
 }
 
-// Whether the words behind `check` are none, or `--lenient` alone, and then whether it is there.
-fn read_check(given: &[String]) -> Option<bool>
+// Whether the words behind `check` or `relay` are none, or `--lenient` alone, and then whether it is there.
+fn read_plain(given: &[String]) -> Option<bool>
     ensures some { IfSome result (λ lenient. IsPlain lenient (map string_bytes given.now) []) }
     ensures none { IfNone result ((lenient : Bool) → IsPlain lenient (map string_bytes given.now) [] → ⊥) }
 {
@@ -194,9 +203,18 @@ fn read_call(alloc: Global, first: &str, given: &[String]) -> Result<Call, Words
         };
     }
     if is_check(first) {
-        return match read_check(given) {
+        return match read_plain(given) {
             Some(lenient) => Ok(Call {
                 command: Command::Check,
+                lenient,
+            }),
+            None => Err(WordsFault::Usage),
+        };
+    }
+    if is_relay(first) {
+        return match read_plain(given) {
+            Some(lenient) => Ok(Call {
+                command: Command::Relay,
                 lenient,
             }),
             None => Err(WordsFault::Usage),

@@ -13,5 +13,5 @@ returns-clause-front c =
     let r = c.requires in (
       fields inside c.flags.result c.raw_address.result,
       joined,
-      header_same inside c.args.key.now same c.args.view c.flags.result c.raw_address.result fits c.raw_address.ensures.size c.raw_address.ensures.same r.kind r.family r.view c.flags.ensures,
+      header_same inside c.args.key.now same c.args.view c.flags.result c.raw_address.result fits c.raw_address.ensures.size c.raw_address.ensures.same c.raw_address.ensures.octets r.kind r.family r.view c.flags.ensures,
     )

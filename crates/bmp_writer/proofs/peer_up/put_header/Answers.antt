@@ -13,5 +13,5 @@ returns-clause-ok c =
     let info : PeerInfoValue = record { asn = m.asn; identifier = m.identifier; local = m.local; local_port = m.local_port; remote_port = m.remote_port; sent = m.sent; received = m.received; filtered = m.filtered; table = m.table } in
     on_ok_weaker c.extend-4.result
     (header_put inside c.args.key.now c.key.view_is info c.args.info.now c.info.view_is c.flags.result c.to_be_bytes.result c.raw_address.result c.speaker.result c.args.out.now c.extend.new.self c.extend-2.new.self c.extend-3.new.self c.extend-4.new.self c.requires fits
-    c.raw_address.ensures.size c.raw_address.ensures.same c.speaker.ensures.fits.0 c.speaker.ensures.fits.1 c.flags.ensures c.to_be_bytes.ensures c.speaker.ensures.bytes c.in_ok-extend.ensures.ok c.in_ok-extend-2.ensures.ok c.in_ok-extend-3.ensures.ok)
+    c.raw_address.ensures.size c.raw_address.ensures.same c.raw_address.ensures.octets c.speaker.ensures.fits.0 c.speaker.ensures.fits.1 c.flags.ensures c.to_be_bytes.ensures c.speaker.ensures.bytes c.in_ok-extend.ensures.ok c.in_ok-extend-2.ensures.ok c.in_ok-extend-3.ensures.ok)
     c.extend-4.ensures.ok

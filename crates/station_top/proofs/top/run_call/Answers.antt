@@ -22,3 +22,6 @@ returns-in-Drill-clause-concludes g c = rw c.in-Drill.is (refl, refl, c.run_dril
 
 pub returns-in-Drill-clause-yard : goal.returns-in-Drill-clause-yard
 returns-in-Drill-clause-yard g c = record { rose = λ is. absurd (c.run_drill.ensures.yard is); calm = λ _. refl }
+
+pub returns-in-Relay-clause-concludes : goal.returns-in-Relay-clause-concludes
+returns-in-Relay-clause-concludes g c = rw c.in-Relay.is (c.run_relay_by.ensures.calls, c.run_relay_by.ensures.concludes)

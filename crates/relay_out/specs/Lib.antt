@@ -1,0 +1,10 @@
+pub mod Told
+pub mod Messages
+pub mod Relayed
+pub mod Writable
+pub mod Tables
+pub mod Items
+pub mod Handed
+pub mod Judging
+pub mod Writing
+pub mod Octets

@@ -1,0 +1,121 @@
+ghost use Rattle.std.specs.Prelude.{◌≡◌, [], ◌∷◌, map};
+ghost use Rattle.std.specs.List.{AllByRecursion};
+ghost use Rattle.std.specs.Option.{option_copied};
+ghost use Rattle.relay_out.specs.Handed.{Hands};
+ghost use Rattle.relay_out.specs.Messages.{announces};
+ghost use Rattle.query_eval.specs.Rows.{row_of};
+ghost use Rattle.relay_out.specs.Tables.{table_rows, view_rows, all_views};
+
+use crate::fault::EmitFault;
+use crate::item::Item;
+use crate::takes::Takes;
+use bgp_open::PeerInfo;
+use bmp_frames::PeerKey;
+use bmp_specs::View;
+use rib_model::RowKey;
+use route_runs::{Place, RouteTable, Walk};
+use router_tables::RouterTables;
+
+const VIEWS: [View; 5] = [
+    View::InPre,
+    View::InPost,
+    View::OutPre,
+    View::OutPost,
+    View::Loc,
+];
+
+// Hands on the routes that a walk gives.
+fn hand_walk<T: Takes>(
+    walk: Walk<'_>,
+    key: &PeerKey,
+    view: View,
+    info: &PeerInfo,
+    taker: &mut T,
+) -> Result<(), EmitFault>
+    requires { AllByRecursion T.may (map (announces info.now) (map (row_of key.now view) walk)) }
+    ensures { Hands T.of T.took T.stopped (map (announces info.now) (map (row_of key.now view) walk.entry)) taker.old result taker.new }
+{
+    let mut walk = walk;
+    while let Some(found) = walk.next() {
+        let row = RowKey {
+            key: *key,
+            view,
+            nlri: found.0,
+        };
+        taker.take(&Item::Announces {
+            info,
+            row,
+            route: found.1,
+        })?;
+    }
+    Ok(())
+}
+
+// Hands on the rows of a table.
+fn hand_table<T: Takes>(
+    table: &RouteTable,
+    key: &PeerKey,
+    view: View,
+    info: &PeerInfo,
+    taker: &mut T,
+) -> Result<(), EmitFault>
+    requires { AllByRecursion T.may (map (announces info.now) (table_rows key.now view (Some table.now))) }
+    ensures { Hands T.of T.took T.stopped (map (announces info.now) (table_rows key.now view (Some table.now))) taker.old result taker.new }
+{
+    table.see_order();
+    hand_walk(table.walk(Place::First), key, view, info, taker)
+}
+
+// Hands on the rows of a peer in a view.
+fn hand_view<T: Takes>(
+    tables: &RouterTables,
+    key: &PeerKey,
+    view: View,
+    info: &PeerInfo,
+    taker: &mut T,
+) -> Result<(), EmitFault>
+    requires { AllByRecursion T.may (map (announces info.now) (view_rows tables.now.tables key.now (view ∷ []))) }
+    ensures { Hands T.of T.took T.stopped (map (announces info.now) (view_rows tables.now.tables key.now (view ∷ []))) taker.old result taker.new }
+{
+    match tables.table(key, view) {
+        Some(table) => hand_table(table, key, view, info, taker),
+        None => Ok(()),
+    }
+}
+
+// Hands on the rows of a peer in these views.
+fn hand_views<T: Takes>(
+    tables: &RouterTables,
+    key: &PeerKey,
+    views: &[View],
+    info: &PeerInfo,
+    taker: &mut T,
+) -> Result<(), EmitFault>
+    requires { AllByRecursion T.may (map (announces info.now) (view_rows tables.now.tables key.now views.now)) }
+    ensures { Hands T.of T.took T.stopped (map (announces info.now) (view_rows tables.now.tables key.now views.now)) taker.old result taker.new }
+{
+    for view in views {
+        hand_view(tables, key, *view, info, taker)?;
+    }
+    Ok(())
+}
+
+// All views.
+pub(crate) fn views() -> &'static [View]
+    ensures { result.now ≡ all_views }
+{
+    &VIEWS
+}
+
+/// Hands on the rows of a peer.
+pub(crate) fn hand_rows<T: Takes>(
+    tables: &RouterTables,
+    key: &PeerKey,
+    info: &PeerInfo,
+    taker: &mut T,
+) -> Result<(), EmitFault>
+    requires { AllByRecursion T.may (map (announces info.now) (view_rows tables.now.tables key.now all_views)) }
+    ensures { Hands T.of T.took T.stopped (map (announces info.now) (view_rows tables.now.tables key.now all_views)) taker.old result taker.new }
+{
+    hand_views(tables, key, views(), info, taker)
+}

@@ -1,0 +1,95 @@
+ghost use Rattle.std.specs.Prelude.{◌≡◌, [], ◌++◌, OnOk, IfErr};
+ghost use Rattle.relay_out.specs.Writable.{IsWritable};
+ghost use Rattle.relay_out.specs.Writing.{HasWritten, IsStopped};
+
+use crate::fault::EmitFault;
+use crate::item::Item;
+use crate::put::put_item;
+use crate::takes::Takes;
+use std::alloc::Global;
+use std::marker::Model;
+use std::snapshot::Snapshot;
+use wire_io::{ByteList, Sink, write_all};
+
+/// So many bytes are gathered before they are written.
+const ENOUGH: usize = 32_768;
+
+/// Writes messages, gathered to larger pieces.
+pub(crate) struct Writer<O: Sink> {
+    alloc: Global,
+    first: Snapshot<O>,
+    out: O,
+    held: ByteList,
+}
+
+impl<O: Sink> Model for Writer<O> {
+    ghost use Rattle.relay_out.specs.Writing.{WriterValue};
+
+    ghost Value = { WriterValue O };
+
+    ghost view = { λ w. record { first = w.first.value; below = w.out; held = w.held } };
+}
+
+impl<O: Sink> Writer<O> {
+    pub(crate) fn new(alloc: Global, out: O) -> Writer<O>
+        ensures { result ≡ record { first = out; below = out; held = [] } }
+    {
+        let first = Snapshot::of(&out);
+        Writer {
+            alloc,
+            first,
+            out,
+            held: ByteList::new(alloc),
+        }
+    }
+}
+
+impl<O: Sink> Writer<O> {
+    ghost use Rattle.relay_out.specs.Messages.{ItemValue};
+    ghost use Rattle.std.specs.Prelude.{List};
+
+    /// Writes what is held back.
+    pub(crate) fn flush(&mut self) -> Result<(), EmitFault>
+        ensures ok { OnOk result ((items : List ItemValue) → HasWritten O.faults O.told O.aside self.old items → HasWritten O.faults O.told O.aside self.new items) }
+        ensures empty { OnOk result (self.new.held ≡ []) }
+        ensures err { IfErr result (λ fault. (items : List ItemValue) → HasWritten O.faults O.told O.aside self.old items → IsStopped O.faults O.told O.aside self.new.first self.new.below items fault) }
+        ensures first { self.new.first ≡ self.old.first }
+    {
+        write_all(&mut self.out, self.held.as_slice())?;
+        self.held.truncate(0);
+        Ok(())
+    }
+
+    /// The sink.
+    pub(crate) fn into_inner(self) -> O
+        ensures { result ≡ self.below }
+    {
+        let Writer {
+            alloc: _,
+            first: _,
+            out,
+            held: _,
+        } = self;
+        out
+    }
+}
+
+impl<O: Sink> Takes for Writer<O> {
+    type Of = O;
+
+    ghost of = { λ w. w.first };
+
+    ghost may = { IsWritable };
+
+    ghost took = { HasWritten O.faults O.told O.aside };
+
+    ghost stopped = { λ w items fault. IsStopped O.faults O.told O.aside w.first w.below items fault };
+
+    fn take(&mut self, item: &Item<'_>) -> Result<(), EmitFault> {
+        put_item(&mut self.held, self.alloc, item)?;
+        if self.held.as_slice().len() < ENOUGH {
+            return Ok(());
+        }
+        self.flush()
+    }
+}

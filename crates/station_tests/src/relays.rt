@@ -1,0 +1,84 @@
+ghost use Rattle.std.specs.Prelude.{IfOk, All};
+ghost use Rattle.station_doors.specs.MemYard.{IsUntouched, IsIdle};
+
+use station_doors::{LinkList, MemPort, MemYard, PortList};
+use station_top::station;
+use std::alloc::Global;
+use std::sync::Wait;
+use std::test::Fail;
+use std::thread::Threads;
+use wire_io::{ByteList, MemSink, NoMemory};
+
+// sysDescr `test`, sysName `r1`; and peer 192.0.2.1 of AS 64500 is up.
+const BEGINNING: &str =
+    "0300000014040001000474657374000200027231030000009a0300000000000000000000000000000000000000000000c00002010000fbf4c00002010000000000000000000000000000000000000000c00002fe00b3c350ffffffffffffffffffffffffffffffff002b0104fbf000b4c00002fe0e020c01040001000141040000fbf0ffffffffffffffffffffffffffffffff002b0104fbf400b4c00002010e020c01040001000141040000fbf4";
+
+// 252 prefixes of 24 bits follow, 1,008 bytes: the message has 1,099, its UPDATE 1,051.
+const MANY_ROUTES: &str =
+    "030000044b0000000000000000000000000000000000000000000000c00002010000fbf4c00002010000000000000000ffffffffffffffffffffffffffffffff041b02000000144001010040020602010000fbf4400304c0000201";
+
+// The bytes of a stream with 504 prefixes, 10.0.0.0/24 to 10.0.251.0/24 and 10.1.0.0/24 to 10.1.251.0/24.
+fn stream(alloc: Global) -> Result<ByteList, Fail> {
+    let mut bytes = ByteList::new(alloc);
+    bytes.extend(hex::decode(alloc, BEGINNING)?.as_slice())?;
+    for second in 0..2u8 {
+        bytes.extend(hex::decode(alloc, MANY_ROUTES)?.as_slice())?;
+        for third in 0..252u8 {
+            bytes.extend(&[24, 10, second, third])?;
+        }
+    }
+    Ok(bytes)
+}
+
+// A list of one port with that stream.
+fn ports(alloc: Global) -> Result<PortList, Fail>
+    ensures { IfOk result (All IsUntouched) }
+{
+    let port = MemPort::new(alloc, &[stream(alloc)?], &[4096], &[])?;
+    let mut ports = PortList::new(alloc);
+    match ports.push(port) {
+        Ok(()) => Ok(ports),
+        Err(_) => Err(Fail::from(NoMemory)),
+    }
+}
+
+// No link.
+fn links(alloc: Global) -> LinkList
+    ensures { All IsIdle result }
+{
+    LinkList::new(alloc)
+}
+
+// The exit status of `relay` on that stream, and what it wrote, where the writes with these numbers fail.
+fn relayed<R: Threads + Wait + Sync>(
+    rt: &R,
+    alloc: Global,
+    writes: &[u64],
+) -> Result<(u8, ByteList), Fail> {
+    let mut words = Vec::new(alloc);
+    words.push(String::from_str(alloc, "relay")?)?;
+    let mut yard: MemYard<()> = MemYard::new(alloc, ports(alloc)?, links(alloc), &[])?;
+    let mut out = MemSink::new(alloc, 60_000, writes)?;
+    let status = station(rt, alloc, words.as_slice(), &mut yard, &mut out);
+    let mut taken = ByteList::new(alloc);
+    taken.extend(out.taken())?;
+    Ok((status.code(), taken))
+}
+
+// An Initiation of 20 bytes, a Peer Up of 154, and 504 routes of 95: the header of 48, an UPDATE of 47. That is more than
+// one write hands on.
+#[test]
+fn a_failed_write_leaves_a_front_of_the_relayed_stream(rt: HostRuntime) -> Result<(), Fail> {
+    let alloc = rt.alloc();
+    let (status, whole) = relayed(&rt, alloc, &[])?;
+    assert_eq!(rt; status, 0);
+    assert_eq!(rt; whole.as_slice().len(), 48_054);
+    for write in 0..2u64 {
+        let (status, written) = relayed(&rt, alloc, &[write])?;
+        let written = written.as_slice();
+        assert_eq!(rt; status, 4);
+        assert!(rt; written.len() < 48_054);
+        assert_eq!(rt; written, &whole.as_slice()[..written.len()]);
+    }
+    Ok(())
+}
