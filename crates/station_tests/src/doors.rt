@@ -88,7 +88,6 @@ fn loses<K: Link>(link: &mut K) -> Result<bool, Failed> {
             break;
         }
     }
-    link.close();
     Ok(is_lost)
 }
 

@@ -1,7 +1,7 @@
 //! Stations that are opened and named.
-ghost use Rattle.std.specs.Prelude.{◌≡◌, ℕ, [], IfSome};
+ghost use Rattle.std.specs.Prelude.{◌≡◌, [], IfSome};
 ghost use Rattle.std.specs.Arc.{arc_value};
-ghost use Rattle.cut_publisher.specs.Opening.{IsOpened, AreAsksOf, AreFeedsOf};
+ghost use Rattle.cut_publisher.specs.Opening.{AreAsksOf, AreFeedsOf};
 ghost use Rattle.rib_model.specs.Entries.{entry_values};
 ghost use Rattle.router_tables.specs.Tables.{StandsFor};
 
@@ -16,7 +16,8 @@ pub(crate) fn named<S: Subject + Drop, J: Naming, R: Wait>(
     station: Station<S>,
 ) -> (Publisher<S, J>, FeedList<S>, AskList<S>)
     requires named { station.publisher.station ≡ J.site }
-    requires opened { (lanes : ℕ) × ((askers : ℕ) × IsOpened lanes askers station.publisher station.feeds station.asks) }
+    requires feeds { AreFeedsOf J.site station.feeds }
+    requires asks { AreAsksOf J.site station.asks }
     ensures feeds { AreFeedsOf J.site result.1 }
     ensures asks { AreAsksOf J.site result.2 }
 {

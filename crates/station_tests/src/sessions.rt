@@ -189,9 +189,7 @@ const ROWS: &[Row] = &[
 ];
 
 // The bytes of the row come in two pieces, divided at each place, and byte by byte.
-fn is_answered_in_pieces(alloc: Global, asker: &mut Asker, row: &Row) -> Option<bool>
-    ensures { asker.new.station ≡ asker.old.station }
-{
+fn is_answered_in_pieces(alloc: Global, asker: &mut Asker, row: &Row) -> Option<bool> {
     let bytes = sent(alloc, row.count, row.text)?;
     let reply = row.reply.as_bytes();
     let mut right = is_answered_byte_by_byte(alloc, asker, &bytes, reply)?;

@@ -119,7 +119,11 @@ fn are_of(row: &Row, serve: &ServeWords, lenient: bool) -> bool {
 // Whether the words of the row are read so.
 fn is_read(alloc: Global, row: &Row) -> Option<bool> {
     let words = words(alloc, row.words)?;
-    let Call { command, lenient } = read_words(alloc, words.as_slice()).ok()?;
+    let call = match read_words(alloc, words.as_slice()) {
+        Ok(call) => call,
+        Err(_) => return None,
+    };
+    let Call { command, lenient } = call;
     let Command::Serve(serve) = command else {
         return Some(false);
     };
