@@ -1,7 +1,7 @@
 -- Of lists of octets one alone has the form of a message: path attributes, UPDATE messages, OPEN messages and what they
 -- stand in.
-use Rattle.std.proofs.Common.{◌≡◌, ℕ, zero, suc, ◌+◌, ◌<◌, ◌≤◌, ◌==◌, Bool, true, false, List, [], ◌∷◌, ◌++◌, length, take, drop, Option, Some, None, refl, sym, ap, subst, ◌∙◌, arith, length-drop}
-use Rattle.std.specs.Prelude.{if◌then◌else◌, slice_index, ◌&&◌, ⊤}
+use Rattle.std.proofs.Common.{◌≡◌, ℕ, zero, suc, ◌+◌, ◌≤◌, ◌==◌, Bool, true, false, List, [], ◌∷◌, ◌++◌, length, take, drop, Option, Some, None, refl, sym, ap, subst, ◌∙◌, arith, length-drop}
+use Rattle.std.specs.Prelude.{if◌then◌else◌, slice_index, ⊤}
 use Rattle.std.specs.Option.{is_some}
 use Rattle.std.proofs.lemmas.List.{drop_all, drop_more, length-take-le, take-append-drop}
 use Rattle.byteorder.specs.Endian.{big_bytes, big_number}
@@ -9,14 +9,14 @@ use Rattle.bmp_specs.specs.declared.peers.View.{View}
 use Rattle.bmp_specs.specs.declared.wire.Family.{Family}
 use Rattle.bmp_specs.specs.declared.wire.Width.TheVariants.{Four}
 use Rattle.bmp_specs.specs.AddressFamily.{afi_of, unicast}
-use Rattle.bmp_specs.specs.AsPath.{ArePath, AreAsNumbers, IsAsNumber, IsSegment}
+use Rattle.bmp_specs.specs.AsPath.{ArePath, IsAsNumber, IsSegment}
 use Rattle.bmp_specs.specs.Attribute.{IsAttribute, extended_length, has_extended_length}
 use Rattle.bmp_specs.specs.Attributes.{IsAggregator, IsAtomic, Optional, aggregator, as_path, atomic_aggregate, communities, local_pref, mp_reach_nlri, mp_unreach_nlri, multi_exit_disc, next_hop, origin}
 use Rattle.bmp_specs.specs.BgpMessage.{IsBgpMessage, update_type}
 use Rattle.bmp_specs.specs.Coded.{IsCoded}
 use Rattle.bmp_specs.specs.Frame.{IsFrame}
 use Rattle.bmp_specs.specs.Initiation.{sys_descr, sys_name}
-use Rattle.bmp_specs.specs.MpNlri.{IsMpReach, IsMpUnreach, hop_length}
+use Rattle.bmp_specs.specs.MpNlri.{IsMpUnreach, hop_length}
 use Rattle.bmp_specs.specs.Nlri.{IsNlri}
 use Rattle.bmp_specs.specs.Number.{IsNumber}
 use Rattle.bmp_specs.specs.Open.{add_path, capabilities_type, entries, four_octet_as, multiprotocol}
@@ -24,7 +24,7 @@ use Rattle.bmp_specs.specs.Parts.{AreParts}
 use Rattle.bmp_specs.specs.PeerHeader.{is_set}
 use Rattle.bmp_specs.specs.Sequence.{IsField}
 use Rattle.bmp_specs.specs.Values.{AggregatorValue, AttrsValue, CapValue, CodedValue, KeyValue, MpValue, NlriValue, OpenValue, OtherValue, PeerInfoValue, SegmentValue}
-use Rattle.bmp_writer.specs.Capabilities.{AreCapabilities, HasEntries, HasNumber, IsAsCapability, IsFamilyCapability, IsPathCapability, IsPathEntry, as_family, capabilities_size}
+use Rattle.bmp_writer.specs.Capabilities.{AreCapabilities, IsAsCapability, IsFamilyCapability, IsPathCapability, IsPathEntry, as_family, capabilities_size}
 use Rattle.bmp_writer.specs.OpenMessage.{AreParametersOf, IsOpenOf, open_front, parameters_size}
 use Rattle.bmp_writer.specs.PeerMessage.{IsPeerMessage}
 use Rattle.bmp_writer.specs.PeerUpMessage.{IsLocal, IsTable, IsUpMessage, name_tlvs}
@@ -34,7 +34,6 @@ use Rattle.bmp_writer.specs.WrittenNlri.{AreOwnNlri, IsOwnNlri, id_size, prefix_
 use Rattle.bmp_writer.specs.WrittenRoutes.{IsRoutesMessage, family_of}
 use Rattle.bmp_writer.specs.WrittenUpdate.{IsField as IsAttributeField, IsUpdateOf, PlacesValue, counted, places}
 use Rattle.relay_out.specs.Octets.{AreOctets}
-use Rattle.relay_out.proofs.Members.{all_parts}
 use Rattle.relay_out.proofs.OneForm.{IsOne, behind, body_octets, field_one, frame_one, joined_one, message_one, number_at, number_one, octets_at, octets_of, parts_one, peer_message_one, tlvs_one, up_header_one}
 
 -- ---- path attributes

@@ -1,45 +1,44 @@
-ghost use Rattle.std.specs.Prelude.{IfOk, All};
+//! A relayed stream whose writes fail.
+ghost use Rattle.std.specs.Prelude.{IfSome, All};
 ghost use Rattle.station_doors.specs.MemYard.{IsUntouched, IsIdle};
 
+use crate::streams::{INITIATION, PEER_UP, bytes};
+use crate::words::words;
 use station_doors::{LinkList, MemPort, MemYard, PortList};
 use station_top::station;
 use std::alloc::Global;
 use std::sync::Wait;
 use std::test::Fail;
 use std::thread::Threads;
-use wire_io::{ByteList, MemSink, NoMemory};
-
-// sysDescr `test`, sysName `r1`; and peer 192.0.2.1 of AS 64500 is up.
-const BEGINNING: &str =
-    "0300000014040001000474657374000200027231030000009a0300000000000000000000000000000000000000000000c00002010000fbf4c00002010000000000000000000000000000000000000000c00002fe00b3c350ffffffffffffffffffffffffffffffff002b0104fbf000b4c00002fe0e020c01040001000141040000fbf0ffffffffffffffffffffffffffffffff002b0104fbf400b4c00002010e020c01040001000141040000fbf4";
+use wire_io::{ByteList, MemSink};
 
 // 252 prefixes of 24 bits follow, 1,008 bytes: the message has 1,099, its UPDATE 1,051.
 const MANY_ROUTES: &str =
     "030000044b0000000000000000000000000000000000000000000000c00002010000fbf4c00002010000000000000000ffffffffffffffffffffffffffffffff041b02000000144001010040020602010000fbf4400304c0000201";
 
-// The bytes of a stream with 504 prefixes, 10.0.0.0/24 to 10.0.251.0/24 and 10.1.0.0/24 to 10.1.251.0/24.
-fn stream(alloc: Global) -> Result<ByteList, Fail> {
-    let mut bytes = ByteList::new(alloc);
-    bytes.extend(hex::decode(alloc, BEGINNING)?.as_slice())?;
+// A stream of 504 prefixes, 10.0.0.0/24 to 10.0.251.0/24 and 10.1.0.0/24 to 10.1.251.0/24.
+fn stream(alloc: Global) -> Option<ByteList> {
+    let mut stream = bytes(alloc, &[INITIATION, PEER_UP])?;
     for second in 0..2u8 {
-        bytes.extend(hex::decode(alloc, MANY_ROUTES)?.as_slice())?;
+        stream
+            .extend(bytes(alloc, &[MANY_ROUTES])?.as_slice())
+            .ok()?;
         for third in 0..252u8 {
-            bytes.extend(&[24, 10, second, third])?;
+            stream.extend(&[24, 10, second, third]).ok()?;
         }
     }
-    Ok(bytes)
+    Some(stream)
 }
 
 // A list of one port with that stream.
-fn ports(alloc: Global) -> Result<PortList, Fail>
-    ensures { IfOk result (All IsUntouched) }
+fn ports(alloc: Global) -> Option<PortList>
+    ensures { IfSome result (All IsUntouched) }
 {
-    let port = MemPort::new(alloc, &[stream(alloc)?], &[4096], &[])?;
+    let connections = [stream(alloc)?];
+    let port = MemPort::new(alloc, &connections, &[4096], &[]).ok()?;
     let mut ports = PortList::new(alloc);
-    match ports.push(port) {
-        Ok(()) => Ok(ports),
-        Err(_) => Err(Fail::from(NoMemory)),
-    }
+    ports.push(port).ok()?;
+    Some(ports)
 }
 
 // No link.
@@ -54,15 +53,14 @@ fn relayed<R: Threads + Wait + Sync>(
     rt: &R,
     alloc: Global,
     writes: &[u64],
-) -> Result<(u8, ByteList), Fail> {
-    let mut words = Vec::new(alloc);
-    words.push(String::from_str(alloc, "relay")?)?;
-    let mut yard: MemYard<()> = MemYard::new(alloc, ports(alloc)?, links(alloc), &[])?;
-    let mut out = MemSink::new(alloc, 60_000, writes)?;
+) -> Option<(u8, ByteList)> {
+    let words = words(alloc, "relay")?;
+    let mut yard: MemYard<()> = MemYard::new(alloc, ports(alloc)?, links(alloc), &[]).ok()?;
+    let mut out = MemSink::new(alloc, 60_000, writes).ok()?;
     let status = station(rt, alloc, words.as_slice(), &mut yard, &mut out);
     let mut taken = ByteList::new(alloc);
-    taken.extend(out.taken())?;
-    Ok((status.code(), taken))
+    taken.extend(out.taken()).ok()?;
+    Some((status.code(), taken))
 }
 
 // An Initiation of 20 bytes, a Peer Up of 154, and 504 routes of 95: the header of 48, an UPDATE of 47. That is more than
@@ -70,11 +68,11 @@ fn relayed<R: Threads + Wait + Sync>(
 #[test]
 fn a_failed_write_leaves_a_front_of_the_relayed_stream(rt: HostRuntime) -> Result<(), Fail> {
     let alloc = rt.alloc();
-    let (status, whole) = relayed(&rt, alloc, &[])?;
+    let (status, whole) = relayed(&rt, alloc, &[]).ok_or("memory")?;
     assert_eq!(rt; status, 0);
     assert_eq!(rt; whole.as_slice().len(), 48_054);
     for write in 0..2u64 {
-        let (status, written) = relayed(&rt, alloc, &[write])?;
+        let (status, written) = relayed(&rt, alloc, &[write]).ok_or("memory")?;
         let written = written.as_slice();
         assert_eq!(rt; status, 4);
         assert!(rt; written.len() < 48_054);

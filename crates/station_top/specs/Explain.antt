@@ -32,7 +32,7 @@ help_text = codes "bmpstation: a station for the BGP Monitoring Protocol (RFC 78
     ++ codes "\n"
     ++ codes "statuses: 0 done, 1 the stream stopped early, 2 usage, 3 a read failed,\n"
     ++ codes "4 a write failed, 5 want of memory, 6 no input, or a port can't be had,\n"
-    ++ codes "8 what the stream left can't be relayed\n"
+    ++ codes "8 what that stream left can't be relayed\n"
     ++ codes "\n"
     ++ codes "The manual is bmpstation(1); bmpstation-query(7) has the queries.\n"
 

@@ -36,7 +36,7 @@ pub(crate) fn help() -> &'static str
         "\n",
         "statuses: 0 done, 1 the stream stopped early, 2 usage, 3 a read failed,\n",
         "4 a write failed, 5 want of memory, 6 no input, or a port can't be had,\n",
-        "8 what the stream left can't be relayed\n",
+        "8 what that stream left can't be relayed\n",
         "\n",
         "The manual is bmpstation(1); bmpstation-query(7) has the queries.\n",
     )
