@@ -4,12 +4,13 @@
 #   bench/frames.sh OTHER [MESSAGES]
 #
 # OTHER is a program that walks the message headers of standard input for the word `limit`, and that
-# writes a stream of so many messages for the words `gen SEED LANES MESSAGES LANE`. The two run in
-# turn on one stream, ROUNDS times (7), from a file in the cache. The last line is the ratio of
-# their least processor times: below 1 the cutter is the faster.
+# writes a stream of so many messages for the words `gen SEED LANES MESSAGES LANE`, as
+# bench/plain/target/release/plain does (bench/plain/README.md). The two run in turn on one stream,
+# ROUNDS times (7), from a file in the cache. The last line is the ratio of their least processor
+# times: below 1 the cutter is the faster.
 set -euo pipefail
 
-other=${1:?usage: bench/frames.sh OTHER [MESSAGES]}
+other=${1:?usage: bench/frames.sh OTHER [MESSAGES], OTHER such as bench/plain/target/release/plain}
 messages=${2:-1500000}
 rounds=7
 . "$(dirname "$0")/measure.sh"

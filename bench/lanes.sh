@@ -4,10 +4,11 @@
 #
 #   bench/lanes.sh OTHER [PREFIXES]
 #
-# OTHER is a program that counts for `replay count` the routes that standard input leaves. The stream is that of one peer
-# with so many IPv4 prefixes (1,000,000), and a fifth as many of IPv6 (`bench/table`), with its UPDATEs in prefix order,
-# and with one prefix an UPDATE; and that of a lane of a drill, with a million messages for 4,096 prefixes of four peers
-# that come and go. For each, these run in turn, ROUNDS times (5), from a file in the cache:
+# OTHER is a program that counts for `replay count` the routes that standard input leaves, as
+# bench/plain/target/release/plain does (bench/plain/README.md). The stream is that of one peer with so many IPv4 prefixes
+# (1,000,000), and a fifth as many of IPv6 (`bench/table`), with its UPDATEs in prefix order, and with one prefix an UPDATE;
+# and that of a lane of a drill, with a million messages for 4,096 prefixes of four peers that come and go. For each, these
+# run in turn, ROUNDS times (5), from a file in the cache:
 #
 #   quiet      takes the stream in reads of 64 KiB, and publishes after each; the client beside it does nothing
 #   asks       the same, with a client that takes a snapshot after each publication
@@ -37,7 +38,7 @@
 # many programs of one lane at once as there are processors, the sum of their paces, and which part of it the lanes have.
 set -euo pipefail
 
-other=${1:?usage: bench/lanes.sh OTHER [PREFIXES]}
+other=${1:?usage: bench/lanes.sh OTHER [PREFIXES], OTHER such as bench/plain/target/release/plain}
 prefixes=${2:-1000000}
 rounds=5
 . "$(dirname "$0")/measure.sh"

@@ -3,17 +3,18 @@
 #
 #   bench/replay.sh OTHER [PREFIXES]
 #
-# OTHER is a program that takes the same words and writes the same bytes. The stream is that of one peer with so
-# many IPv4 prefixes (1,000,000), and a fifth as many of IPv6 (`bench/table`). It comes with its UPDATEs in prefix order, and shuffled. The two run in turn on one stream,
-# ROUNDS times (5), from a file in the cache, with their output to /dev/null. Prints for each command the
+# OTHER is a program that takes the same words and writes the same bytes, as bench/plain/target/release/plain does
+# (bench/plain/README.md). The stream is that of one peer with so many IPv4 prefixes (1,000,000), and a fifth as many
+# of IPv6 (`bench/table`). It comes with its UPDATEs in prefix order, and shuffled. The two run in turn on one
+# stream, ROUNDS times (5), from a file in the cache, with their output to /dev/null. Prints for each command the
 # least processor times and the peak memories, and their ratios: below 1 ours is the better. The prefix, the
 # address and the origin that are asked for stand in the stream, in the middle of its IPv4 prefixes. The bytes
 # of the two are compared for each command, and for more of them that aren't measured. At the end come the
-# peak memory of `check` on the stream once, twice and four times over, and what a relayed row costs: the processor
-# time and the peak memory of `relay` beyond those of `replay count`, which has the same tables.
+# peak memory of `check` on the stream once, twice and four times over, and what a relayed row costs: the
+# processor time and the peak memory of `relay` beyond those of `replay count`, which has the same tables.
 set -euo pipefail
 
-other=${1:?usage: bench/replay.sh OTHER [PREFIXES]}
+other=${1:?usage: bench/replay.sh OTHER [PREFIXES], OTHER such as bench/plain/target/release/plain}
 prefixes=${2:-1000000}
 rounds=5
 program=bmpstation

@@ -4,9 +4,10 @@
 #
 #   bench/tables.sh OTHER [PREFIXES]
 #
-# OTHER is a program that counts for `replay count` the routes that standard input leaves. The stream is that of
-# one peer with so many IPv4 prefixes (1,000,000), and a fifth as many of IPv6 (`bench/table`). It comes with its UPDATEs in prefix order, shuffled, and with one prefix an
-# UPDATE. For each, these run in turn, ROUNDS times (5), from a file in the cache:
+# OTHER is a program that counts for `replay count` the routes that standard input leaves, as
+# bench/plain/target/release/plain does (bench/plain/README.md). The stream is that of one peer with so many IPv4
+# prefixes (1,000,000), and a fifth as many of IPv6 (`bench/table`). It comes with its UPDATEs in prefix order,
+# shuffled, and with one prefix an UPDATE. For each, these run in turn, ROUNDS times (5), from a file in the cache:
 #
 #   lane       takes the stream, and makes new tables for each read of 64 KiB
 #   keep       the same, and keeps every tenth version to the end
@@ -23,7 +24,7 @@
 # a look-up includes the draw of its NLRI.
 set -euo pipefail
 
-other=${1:?usage: bench/tables.sh OTHER [PREFIXES]}
+other=${1:?usage: bench/tables.sh OTHER [PREFIXES], OTHER such as bench/plain/target/release/plain}
 prefixes=${2:-1000000}
 rounds=5
 . "$(dirname "$0")/measure.sh"
