@@ -4,13 +4,19 @@
 and lists as lists, and raises `UnknownLine` for a line that it doesn't know. `Station` holds one connection
 and gives the reply of a query.
 """
+import collections
+import functools
 import re
 import socket
 
+# Of a query, and of a line of a reply: a BGP message of 65,535 bytes can't give as much text.
 MOST_LINE = 1024
+MOST_REPLY_LINE = 1 << 20
+PIECE = 1 << 18
 
 # The selectors, in the order in which they stand, and the queries that take all of them.
 SELECTORS = ("router", "peer", "view", "family")
+VIEWS = ("adj-in-pre", "adj-in-post", "adj-out-pre", "adj-out-post", "loc")
 SELECTED = ("marks", "table", "count", "prefix", "match", "within", "origin")
 
 ROUTE_FIELDS = ("next", "origin", "path", "med", "pref", "atomic", "agg", "comm", "other")
@@ -31,8 +37,10 @@ class StationError(Exception):
     """The station answered `error query` or `error line`."""
 
 
+# Most words of a table stand in it often, so what was read last is kept.
+@functools.lru_cache(maxsize=65536)
 def number(text):
-    if not re.fullmatch(r"0|[1-9][0-9]*", text):
+    if not (text.isascii() and text.isdigit()) or text[0] == "0" and text != "0" or len(text) > 20:
         raise ValueError(text)
     return int(text)
 
@@ -77,6 +85,32 @@ def path_of(text):
     return [] if text == "empty" else [segment_of(piece) for piece in text.split("_")]
 
 
+def origin_of(path):
+    """The AS that a path ends in, as the query `origin` takes it: None where its last segment is no sequence."""
+    return path[-1] if path and isinstance(path[-1], int) else None
+
+
+@functools.lru_cache(maxsize=65536)
+def key_of(text):
+    if not re.fullmatch(r"[0-9]+-[0-9a-f]{16}-[0-9a-f.:]+", text):
+        raise ValueError(text)
+    return text
+
+
+def view_of(text):
+    if text not in VIEWS:
+        raise ValueError(text)
+    return text
+
+
+@functools.lru_cache(maxsize=65536)
+def community_of(text):
+    high, colon, low = text.partition(":")
+    if not colon or max(number(high), number(low)) > 0xFFFF:
+        raise ValueError(text)
+    return text
+
+
 def aggregator_of(text):
     asn, colon, identifier = text.partition(":")
     if not colon:
@@ -104,24 +138,34 @@ def cause_of(words):
     return fields
 
 
+@functools.lru_cache(maxsize=16384)
+def attributes_of(text):
+    """The attributes of a route line. Routes with the same ones share the lists in them."""
+    values = pairs(text.split(" "), ROUTE_FIELDS)
+    return {
+        "next": optional(values["next"], str),
+        "origin": optional(values["origin"], str),
+        "path": optional(values["path"], path_of),
+        "med": optional(values["med"], number),
+        "pref": optional(values["pref"], number),
+        "atomic": flag(values["atomic"]),
+        "agg": optional(values["agg"], aggregator_of),
+        "comm": listed(values["comm"], community_of),
+        "other": listed(values["other"], number),
+    }
+
+
+def split_attributes(text):
+    """The attributes of a route line as it has them, and the path identifier behind them."""
+    attributes, found, identifier = text.partition(" id=")
+    return attributes, number(identifier) if found else None
+
+
 def route_of(words):
-    """The fields of a route line from KEY on."""
-    peer, view, prefix, *rest = words
-    fields = {"peer": peer, "view": view, "prefix": prefix, "id": None}
-    if len(rest) == len(ROUTE_FIELDS) + 1:
-        fields["id"] = number(pairs(rest[-1:], ("id",))["id"])
-        rest = rest[:-1]
-    values = pairs(rest, ROUTE_FIELDS)
-    fields["next"] = optional(values["next"], str)
-    fields["origin"] = optional(values["origin"], str)
-    fields["path"] = optional(values["path"], path_of)
-    fields["med"] = optional(values["med"], number)
-    fields["pref"] = optional(values["pref"], number)
-    fields["atomic"] = flag(values["atomic"])
-    fields["agg"] = optional(values["agg"], aggregator_of)
-    fields["comm"] = listed(values["comm"], str)
-    fields["other"] = listed(values["other"], number)
-    return fields
+    """The fields of a route line from KEY on; the attributes are one word."""
+    peer, view, prefix, rest = words
+    attributes, identifier = split_attributes(rest)
+    return {"peer": key_of(peer), "view": view_of(view), "prefix": prefix, "id": identifier} | attributes_of(attributes)
 
 
 def read_router(words):
@@ -139,7 +183,7 @@ def read_router(words):
 
 
 def read_peer(words):
-    fields = {"router": number(words[0]), "peer": words[1], "state": words[2]}
+    fields = {"router": number(words[0]), "peer": key_of(words[1]), "state": words[2]}
     if words[2] == "down":
         reason, name, detail = words[3:]
         fields |= {"reason": number(reason), "name": name}
@@ -167,18 +211,24 @@ def read_mark(words):
     router, peer, view, family, state = words
     if state not in ("complete", "waiting"):
         raise ValueError(state)
-    return {"router": number(router), "peer": peer, "view": view, "family": number(family), "complete": state == "complete"}
+    return {"router": number(router), "peer": key_of(peer), "view": view_of(view), "family": number(family),
+            "complete": state == "complete"}
 
 
 def read_stat(words):
     router, peer, code, name, *rest = words
-    fields = {"router": number(router), "peer": peer, "code": number(code), "name": name}
+    fields = {"router": number(router), "peer": key_of(peer), "code": number(code), "name": name}
     if len(rest) == 2:
         afi, slash, safi = rest[0].partition("/")
         fields |= {"afi": number(afi), "safi": number(safi)}
         rest = rest[1:]
     (value,) = rest
     return fields | {"value": number(value)}
+
+
+def read_route(words):
+    router, *rest = words
+    return {"router": number(router)} | route_of(rest)
 
 
 def read_change(words):
@@ -190,16 +240,16 @@ def read_change(words):
         return fields | cause_of(rest)
     if what in ("up", "down"):
         (peer,) = rest
-        return fields | {"peer": peer}
+        return fields | {"peer": key_of(peer)}
     if what == "withdraw":
         peer, view, prefix, *more = rest
-        fields |= {"peer": peer, "view": view, "prefix": prefix, "id": None}
+        fields |= {"peer": key_of(peer), "view": view_of(view), "prefix": prefix, "id": None}
         if more:
             fields["id"] = number(pairs(more, ("id",))["id"])
         return fields
     if what != "announce":
         raise ValueError(what)
-    return fields | route_of(rest)
+    return fields | route_of(" ".join(rest).split(" ", 3))
 
 
 def read_lane(words):
@@ -230,7 +280,7 @@ READERS = {
     "peer": read_peer,
     "mark": read_mark,
     "stat": read_stat,
-    "route": lambda words: {"router": number(words[0])} | route_of(words[1:]),
+    "route": read_route,
     "steps": read_steps,
     "change": read_change,
     "stop": cause_of,
@@ -241,7 +291,9 @@ def parse(line):
     """The fields of a line without its end, with its first word as `line`."""
     try:
         text = line.decode("ascii")
-        word, *words = text.split(" ")
+        if not text.isprintable():
+            raise ValueError(text)
+        word, *words = text.split(" ", 5 if text.startswith("route ") else -1)
         return {"line": word} | READERS[word](words)
     except (UnicodeDecodeError, ValueError, KeyError, IndexError, TypeError) as fault:
         raise UnknownLine(line.decode("ascii", "backslashreplace")) from fault
@@ -255,7 +307,8 @@ class Station:
             self.socket = socket.create_connection((host, port), timeout=seconds)
         except OSError as fault:
             raise Unreachable(f"{host} port {port}: {fault}") from fault
-        self.lines = self.socket.makefile("rb")
+        self.whole = collections.deque()
+        self.rest = b""
 
     def __enter__(self):
         return self
@@ -264,17 +317,24 @@ class Station:
         self.close()
 
     def close(self):
-        self.lines.close()
         self.socket.close()
 
     def line(self):
+        while not self.whole:
+            self.read()
+        return self.whole.popleft()
+
+    def read(self):
         try:
-            line = self.lines.readline()
+            data = self.socket.recv(PIECE)
         except OSError as fault:
             raise Unreachable(f"no reply: {fault}") from fault
-        if not line.endswith(b"\n"):
+        if not data:
             raise Unreachable("the station closed the connection")
-        return line[:-1]
+        *lines, self.rest = (self.rest + data).split(b"\n")
+        if len(self.rest) > MOST_REPLY_LINE:
+            raise UnknownLine(f"a line of more than {MOST_REPLY_LINE} bytes")
+        self.whole.extend(lines)
 
     def ask(self, query):
         """The lines of the reply, as they come, from `at` to `end`."""
@@ -293,9 +353,14 @@ class Station:
     def rows(self, query):
         """The revision of the reply, and its lines between `at` and `end`, by their fields."""
         at, *rows, end = [parse(line) for line in self.ask(query)]
-        if at["line"] != "at" or end["line"] != "end" or end["lines"] != len(rows):
-            raise UnknownLine("a reply that isn't `at`, its lines and `end` with their number")
+        check_reply(at, len(rows), end)
         return at["revision"], rows
+
+
+def check_reply(at, count, end):
+    """That a reply of so many lines begins with `at` and ends with `end` and their number."""
+    if at["line"] != "at" or end["line"] != "end" or end["lines"] != count:
+        raise UnknownLine("a reply that isn't `at`, its lines and `end` with their number")
 
 
 def is_query(query):

@@ -1,0 +1,85 @@
+"""The line of a station that a JSON object was made of."""
+import re
+
+from harness import same
+
+
+def escaped(text):
+    data = re.sub(rb"\\x([0-9a-f]{2})", lambda m: bytes([int(m[1], 16)]), text.encode("utf-8"))
+    return "".join(chr(b) if 0x21 <= b <= 0x7E and b != 0x25 else f"%{b:02X}" for b in data)
+
+
+def piece_text(piece):
+    if isinstance(piece, int):
+        return str(piece)
+    [(name, numbers)] = piece.items()
+    left, right = {"set": "{}", "confed-sequence": "()", "confed-set": "[]"}[name]
+    return left + ",".join(map(str, numbers)) + right
+
+
+def or_dash(value, write=str):
+    return "-" if value is None else write(value)
+
+
+def route_text(f):
+    path = or_dash(f["path"], lambda pieces: "_".join(map(piece_text, pieces)) or "empty")
+    text = (f"{f['peer']} {f['view']} {f['prefix']} next={or_dash(f['next'])} origin={or_dash(f['origin'])} path={path}"
+            f" med={or_dash(f['med'])} pref={or_dash(f['pref'])} atomic={'yes' if f['atomic'] else 'no'}"
+            f" agg={or_dash(f['agg'], lambda a: str(a['asn']) + ':' + a['id'])} comm={','.join(f['comm']) or '-'}"
+            f" other={','.join(map(str, f['other'])) or '-'}")
+    return text + (f" id={f['id']}" if f["id"] is not None else "")
+
+
+def cause_text(f):
+    return " ".join(str(f[name]) for name in ("cause", "offset", "why") if name in f)
+
+
+def detail_text(f):
+    if "notification" in f:
+        return f"notification={f['notification']['code']}/{f['notification']['subcode']}"
+    return f"event={f['event']}" if "event" in f else "-"
+
+
+def text_of(f):
+    """The line that a JSON object was made of."""
+    kind = f["line"]
+    if kind == "route":
+        return f"route {f['router']} {route_text(f)}"
+    if kind == "count":
+        return f"count {f['rows']}"
+    if kind == "lane":
+        return f"lane {f['router']} {f['entries']}"
+    if kind == "mark":
+        return f"mark {f['router']} {f['peer']} {f['view']} {f['family']} {'complete' if f['complete'] else 'waiting'}"
+    if kind == "stat":
+        family = f"{f['afi']}/{f['safi']} " if "afi" in f else ""
+        return f"stat {f['router']} {f['peer']} {f['code']} {f['name']} {family}{f['value']}"
+    if kind == "stop":
+        return f"stop {cause_text(f)}"
+    if kind == "steps":
+        return f"steps {f['router']} {f['steps']}"
+    if kind == "missed":
+        return f"missed {f['steps']}"
+    if kind == "router":
+        if f["state"] == "closed":
+            return f"router {f['router']} closed {cause_text(f)}"
+        if f["state"] == "idle":
+            return f"router {f['router']} idle"
+        counts = " ".join(f"{name}={f[name]}" for name in ("peers", "messages", "bytes", "orphans", "unread", "mirrored", "passed"))
+        return f"router {f['router']} live {counts} name={escaped(f['name'])} descr={escaped(f['descr'])}"
+    if kind == "peer":
+        if f["state"] == "down":
+            return f"peer {f['router']} {f['peer']} down {f['reason']} {f['name']} {detail_text(f)}"
+        text = f"peer {f['router']} {f['peer']} up asn={f['asn']} id={f['id']} local={f['local']} ports={f['ports'][0]},{f['ports'][1]}"
+        if "filtered" in f:
+            text += f" filtered={'yes' if f['filtered'] else 'no'} table={or_dash(f['table'], escaped)}"
+        return text
+    same(kind, "change", "a line")
+    head = f"change {f['router']} {f['step']} {f['change']}"
+    if f["change"] == "announce":
+        return f"{head} {route_text(f)}"
+    if f["change"] == "closed":
+        return f"{head} {cause_text(f)}"
+    if f["change"] == "withdraw":
+        return f"{head} {f['peer']} {f['view']} {f['prefix']}" + (f" id={f['id']}" if f["id"] is not None else "")
+    return f"{head} {f['peer']}" if "peer" in f else head
