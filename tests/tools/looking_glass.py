@@ -1,0 +1,283 @@
+"""Tests of bmp-lookingglass: its JSON, what it refuses, a station that fails, many visitors, the page in a browser."""
+import http.client
+import json
+import pathlib
+import re
+import shutil
+import socket
+import sys
+import tempfile
+import threading
+import time
+import urllib.parse
+
+import harness
+from harness import (CONTRIB, EXAMPLES, SECONDS, TOP, LookingGlass, Serving, Shared, Stub, closed_port, initiation, loc_rib_up,
+                     replay, reply, run, same, test)
+from texts import text_of
+
+STREAM = EXAMPLES / "frr10-sessions-come-and-go.bmp"
+ROW = b"route 0 0-0000000000000000-192.0.2.1 adj-in-pre %s next=192.0.2.1 origin=igp path=64500 med=- pref=- atomic=no agg=- comm=- other=-"
+
+
+def asked(glass, target, status=200):
+    found, headers, body = glass.get(target)
+    same((found, headers["Content-Type"]), (status, "application/json"), f"{target[:100]}: {body[:200]}")
+    return json.loads(body)
+
+
+def lines_of(query, stream=STREAM):
+    return replay(stream, query).decode().splitlines()[1:-2]
+
+
+@test
+def a_looking_glass_answers_what_the_station_does():
+    key = "0-0000000000000000-10.0.0.11"
+    questions = [("routes?prefix=203.0.113.0/24", "prefix 203.0.113.0/24"), ("routes?address=198.51.100.7", "match 198.51.100.7"),
+                 ("routes?within=2001:DB8::/32&view=loc", "within 2001:db8::/32 view loc"), ("routes?origin=64501", "origin 64501"),
+                 (f"routes?origin=64501&router=0&peer={key}&view=adj-in-pre&family=4",
+                  f"origin 64501 router 0 peer {key} view adj-in-pre family 4"),
+                 ("routes?prefix=192.0.2.77/32", "prefix 192.0.2.77/32"), ("routes?origin=64501&router=5", "origin 64501 router 5"),
+                 ("routers", "routers"), ("peers", "peers"), (f"peers?router=0&peer={key}", f"peers router 0 peer {key}"),
+                 ("marks?view=loc", "marks view loc")]
+    with Serving(1, 2) as station, LookingGlass(station.ask_port, "--connections", 1) as glass:
+        same([row["state"] for row in asked(glass, "/api/routers")["rows"]], ["idle"], "before any router")
+        link = station.feed(0, STREAM.read_bytes())
+        harness.wait_for(lambda: asked(glass, "/api/routers")["rows"][0].get("messages") == 564, "the stream")
+        for target, query in questions:
+            answer = asked(glass, f"/api/{target}")
+            same([text_of(row) for row in answer["rows"]], lines_of(query), target)
+            same((answer["revision"], answer["truncated"]), (565, False), target)
+        same(asked(glass, "/api/count?view=adj-in-post")["count"], 30, "count")
+        answer = asked(glass, "/api/changes?router=0&from=168&prefix=203.0.113.0/24")
+        wanted = lines_of("changes 0 168 203.0.113.0/24")
+        same([f"steps 0 {answer['steps']}"] + [text_of(row) for row in answer["rows"]], wanted, "changes")
+        same(asked(glass, "/api/changes?router=0&from=258&prefix=203.0.113.0/24")["rows"], [], "no change since")
+        told = asked(glass, "/api/routes?prefix=203.0.113.0/24")
+        states = {text_of({"line": "mark"} | table) for table in told["tables"]}
+        marks = lines_of("marks family 4")
+        same(states, {mark for mark in marks if mark.split(" ")[2] in {row["peer"] for row in told["rows"]} or " loc " in mark}, "completeness")
+        same(told["counts"], {state: sum(mark.endswith(state) for mark in marks) for state in ("complete", "waiting")}, "counts")
+        link.close()
+
+
+@test
+def a_looking_glass_refuses_with_a_reason():
+    long = "1" * 100_000
+    with Stub(lambda query: reply()) as stub, LookingGlass(stub.port) as glass:
+        for target in ("routes", "routes?", "routes?prefix", "routes?prefix=", "routes?prefix=10.0.0.0", "routes?prefix=10.0.0.0/33",
+                       "routes?prefix=010.0.0.0/8", "routes?prefix=10.0.0.0/8&within=10.0.0.0/8", "routes?prefix=10.0.0.0/8&prefix=10.0.0.0/8",
+                       "routes?prefix=10.0.0.0/8%0Aquit", "routes?prefix=10.0.0.0/8+router+0", "routes?address=1.2.3",
+                       "routes?address=fe80::1%25eth0", "routes?address=::ffff:1.2.3.4", "routes?origin=-1", "routes?origin=4294967296",
+                       "routes?origin=AS1", "routes?origin=%EF%BC%91",
+                       "routes?prefix=10.0.0.0/8&view=LOC", "routes?prefix=10.0.0.0/8&family=6", "routes?prefix=10.0.0.0/8&peer=x",
+                       "routes?prefix=10.0.0.0/8&router=01", "routes?%ff=1", "routes?color=red", "routers?router=0", "peers?view=loc",
+                       "changes?router=0", "changes?prefix=10.0.0.0/8", "changes?router=0&prefix=10.0.0.0/8&from=18446744073709551616",
+                       "count?from=1", "routes?prefix=" + long[:9000], "routes?" + "&".join(f"a{n}=1" for n in range(99))):
+            answer = asked(glass, f"/api/{target}", 400)
+            same((list(answer), answer["error"] != ""), (["error"], True), target[:80])
+        same(stub.connections, 0, "questions of the station")
+        for target in (f"/api/routes?prefix={long}", f"/{long}", f"/api/routes?{'a=1&' * 25_000}"):
+            same(glass.get(target)[0], 414, "100 kB")
+        for target in ("/nowhere", "/api/", "/api/routers/", "/../bmpq", "/page.html", "/%2e%2e/bmpq", "//"):
+            same(glass.get(target)[0], 404, target)
+        same([glass.get("/", method)[0] for method in ("POST", "PUT", "DELETE", "OPTIONS")], [405] * 4, "methods")
+        for said in (b"\r\n\r\n", b"GET\r\n\r\n", b"GET / HTTP/2.0\r\n\r\n", b"GET http://x/ HTTP/1.1\r\n\r\n",
+                     b"\x16\x03\x01\r\n\r\n", b"GET /\xff HTTP/1.1\r\n\r\n",
+                     b"GET / HTTP/1.1\r\nContent-Length: 5\r\n\r\nhello", b"GET / HTTP/1.1\r\nTransfer-Encoding: chunked\r\n\r\n"):
+            with socket.create_connection(("127.0.0.1", glass.port), timeout=SECONDS) as link:
+                link.sendall(said)
+                got = link.makefile("rb").read()
+                same(got.split(b"\r\n")[0], b"HTTP/1.1 400 Bad Request", str(said))
+        same(asked(glass, "/api/routers")["rows"], [], "afterwards")
+
+
+@test
+def a_looking_glass_is_read_only_and_says_so():
+    with Stub(lambda query: reply()) as stub, LookingGlass(stub.port) as glass:
+        scripts = [f"/{path.name}" for path in sorted((CONTRIB / "lookingglass").glob("*.js"))]
+        for target in ("/", "/routers", "/live", "/page.css", "/icon.svg", *scripts, "/api/routers", "/nowhere"):
+            status, headers, body = glass.get(target)
+            same(headers["X-Content-Type-Options"], "nosniff", target)
+            same("default-src 'none'" in headers["Content-Security-Policy"] and "unsafe" not in headers["Content-Security-Policy"], True, target)
+            same([headers[name] for name in ("Set-Cookie", "Access-Control-Allow-Origin", "Server")], [None] * 3, target)
+            same(int(headers["Content-Length"]), len(body), target)
+            found, again, nothing = glass.get(target, "HEAD")
+            same((found, again["Content-Length"], nothing), (status, headers["Content-Length"], b""), f"HEAD {target}")
+        page = b"".join(glass.get(target)[2] for target in ("/", "/page.css", *scripts))
+        unwanted = (rb"https?://[^'\"\s]*", rb"//[a-z0-9.-]+\.[a-z]+/", rb"innerHTML|outerHTML|insertAdjacentHTML|document\.write",
+                    rb"eval\(|@import|\bon[a-z]+=|style=")
+        same([re.findall(what, page) for what in unwanted], [[]] * 4, "what comes from outside, or is read as markup")
+
+
+@test
+def a_station_that_fails_is_no_answer():
+    half = [b"at 7\nroute 0 0-0000000000000000-192.0.2.1 adj-in-pre 10."]
+    faults = {"half a line": (half, 503), "nothing": ([b""], 503), "no end": ([b"at 7\n"], 503),
+              "an unknown line": (reply(b"route 0 gone"), 502), "another line": (reply(b"<script>alert(1)</script>"), 502),
+              "another count": (b"at 7\nend 3\n", 502), "no at": (b"hello\n", 502), "error": (b"error query\n", 502),
+              "bytes": (b"\x00\xff\xfe\n" * 9, 502), "an endless line": (b"at 7\n" + b"x" * (3 << 20), 502), "silence": (b"", 503)}
+    said = b""
+    # The tables are told; what fails is the reply to the question.
+    with Stub(lambda query: reply() if query.startswith("marks") else said) as stub, LookingGlass(stub.port, "--timeout", 0.5) as glass:
+        for name, (said, status) in faults.items():
+            answer = asked(glass, "/api/routes?prefix=10.0.0.0/8", status)
+            same((list(answer), "\n" in answer["error"]), (["error"], False), name)
+            same(asked(glass, "/api/count", status)["error"] != "", True, name)
+    with closed_port() as port, LookingGlass(port) as glass:
+        asked(glass, "/api/routes?prefix=10.0.0.0/8", 503)
+        same(glass.get("/")[0], 200, "the page without a station")
+
+
+@test
+def a_connection_that_was_lost_is_opened_anew():
+    with Stub(lambda query: [reply(b"count 3")]) as stub, LookingGlass(stub.port, "--connections", 1) as glass:
+        same([asked(glass, "/api/count")["count"] for _ in range(4)], [3] * 4, "each on a connection that the station then closed")
+        same(stub.connections, 4, "connections")
+
+
+@test
+def long_answers_are_cut_and_the_place_is_given_back():
+    stream = run([sys.executable, TOP / "bench" / "table", 12_000]).stdout
+    with Shared(1, 1) as station:
+        _, link = station.send(stream)
+        with LookingGlass(station.ask_port, "--connections", 2) as glass:
+            answer = asked(glass, "/api/routes?within=0.0.0.0/0")
+            same((len(answer["rows"]), answer["truncated"]), (10_000, True), "rows")
+            # The station's one place for a client is free soon.
+            harness.bmpq("--port", station.ask_port, "--timeout", "10", "cut")
+            answer = asked(glass, "/api/routes?within=0.0.0.0/0&family=4&view=loc")
+            same((answer["rows"], answer["truncated"]), ([], False), "rows of another view")
+        link.close()
+    long = ROW.replace(b"comm=-", b"comm=" + b",".join([b"65535:65535"] * 16_000)) % b"10.0.0.0/8"
+    with Stub(lambda query: reply() if query.startswith("marks") else reply(*[long] * 200)) as stub, LookingGlass(stub.port) as glass:
+        answer = asked(glass, "/api/routes?prefix=10.0.0.0/8")
+        same((0 < len(answer["rows"]) < 60, answer["truncated"]), (True, True), "long rows")
+
+
+@test
+def slow_visitors_hold_up_nobody():
+    with Stub(lambda query: reply()) as stub, LookingGlass(stub.port, "--visitors", 40) as glass:
+        slow = [socket.create_connection(("127.0.0.1", glass.port), timeout=SECONDS) for _ in range(38)]
+        for link in slow:
+            link.sendall(b"GET /api/routers HTTP/1.1\r\nX: ")
+        begun = time.monotonic()
+        same(asked(glass, "/api/routers")["rows"], [], "beside 38 slow visitors")
+        same(time.monotonic() - begun < 2, True, "its time")
+        last = [socket.create_connection(("127.0.0.1", glass.port), timeout=SECONDS) for _ in range(2)]
+        harness.wait_for(lambda: glass.get("/")[0] == 503, "one visitor too many")
+        for link in slow + last:
+            link.close()
+        harness.wait_for(lambda: glass.get("/")[0] == 200, "a visitor afterwards")
+
+
+@test
+def fifty_visitors_at_once():
+    stream = run([sys.executable, TOP / "bench" / "table", 20_000]).stdout
+    faults, times = [], []
+    with Shared(2, 3) as station, LookingGlass(station.ask_port) as glass:
+        lane, first = station.send(STREAM.read_bytes())
+
+        def visit(number):
+            link = http.client.HTTPConnection("127.0.0.1", glass.port, timeout=SECONDS)
+            for _ in range(8):
+                begun = time.monotonic()
+                link.request("GET", "/api/routes?" + urllib.parse.urlencode({"prefix": "203.0.113.0/24", "router": lane}))
+                answer = link.getresponse()
+                rows = json.loads(answer.read()).get("rows")
+                times.append(time.monotonic() - begun)
+                if answer.status != 200 or not rows:
+                    faults.append((number, answer.status))
+            link.close()
+
+        threads = [threading.Thread(target=visit, args=(number,)) for number in range(50)]
+        for thread in threads:
+            thread.start()
+        second = station.feed(0, stream)
+        for thread in threads:
+            thread.join()
+        same((faults, len(times)), ([], 400), "answers")
+        for link in (first, second):
+            link.close()
+
+
+# The page.
+
+CHROMIUM = shutil.which("chromium")
+
+
+def shown(url, *options):
+    """What a browser makes of a page."""
+    with tempfile.TemporaryDirectory() as folder:
+        done = run([CHROMIUM, "--headless=new", "--no-sandbox", "--disable-gpu", f"--user-data-dir={folder}",
+                    "--virtual-time-budget=5000", *options, url])
+        same(done.returncode, 0, done.stderr[-500:])
+        return done.stdout.decode("utf-8")
+
+
+def dom(glass, target):
+    text = shown(f"http://127.0.0.1:{glass.port}{target}", "--dump-dom")
+    return re.sub(r"<[^>]*>", "\n", text[text.index("<main"):]), text
+
+
+@test
+def the_page_in_a_browser():
+    if CHROMIUM is None:
+        print("the_page_in_a_browser: passed over, since chromium isn't installed")
+        return
+    hostile = b"<script>document.title='taken'</script><img src=x onerror=\"document.title='taken'\">\"'&amp;"
+    with Shared(2, 4) as station, LookingGlass(station.ask_port) as glass:
+        lane, first = station.send(STREAM.read_bytes())
+        other, second = station.send(initiation(hostile, hostile * 2) + loc_rib_up(hostile))
+        for target in ("/routers", f"/live?router={other}&prefix=10.0.0.0/8"):
+            text, whole = dom(glass, target)
+            same(("taken" in re.search(r"<title>(.*?)</title>", whole)[1], whole.count("<script"), "<img" in whole), (False, 1, False), target)
+            same("&lt;script&gt;document.title='taken'&lt;/script&gt;&lt;img src=x" in text, True, f"the name at {target}")
+            words = ("FRRouting 10.3", "reason 4: remote silent", "before policy IPv4 complete", "Unread parts", "282")
+            same([word for word in words if word not in text], [] if target == "/routers" else list(words), target)
+        for target, words in (
+                ("/?q=198.51.100.7", ("As of revision", "AS65011", "64500", "changed by policy", "table complete", "65001:999", "77", "Loc-RIB")),
+                ("/?q=203.0.113.0/24", ("{", "200", "}", "More specifics")),
+                ("/?q=AS64501", ("Routes that AS64501 originates", "198.51.100.0/24")),
+                ("/?q=192.0.2.77/32", ("No table has such a route so far", "wait for their End-of-RIB")),
+                (f"/live?router={lane}&prefix=203.0.113.0/24&past=1", ("announced", "peer down", "Loc-RIB"))):
+            text, _ = dom(glass, target)
+            same([word for word in words if word not in text], [], f"{target}: {text}")
+        with tempfile.TemporaryDirectory() as folder:
+            picture = pathlib.Path(folder, "page.png")
+            shown(f"http://127.0.0.1:{glass.port}/?q=198.51.100.7", "--window-size=360,800", "--hide-scrollbars", f"--screenshot={picture}")
+            same(picture.read_bytes()[:4], b"\x89PNG", "a picture")
+        for link in (first, second):
+            link.close()
+    # A route that is before policy alone was dropped, where the whole of the prefix was asked for and both tables are complete.
+    key = b"0-0000000000000000-192.0.2.1"
+    said = {"routers": reply(b"router 0 idle"), "peers": reply(), "prefix": reply(ROW % b"10.0.0.0/8"), "origin": reply(ROW % b"10.0.0.0/8")}
+    tables = {True: [b"complete", b"complete"], False: [b"complete", b"waiting"]}
+    for target, are_complete, wanted in (("/?q=10.0.0.0/8", True, "dropped by policy"), ("/?q=10.0.0.0/8", False, "not known"),
+                                         ("/?q=AS64500", True, "not in this answer"), ("/?q=10.0.0.0/8&view=adj-in-pre", True, "not in this answer")):
+        said["marks"] = reply(*(b"mark 0 %s %s 4 %s" % (key, view, state) for view, state in zip((b"adj-in-pre", b"adj-in-post"), tables[are_complete])))
+        with Stub(lambda query: said[query.split(" ")[0]]) as stub, LookingGlass(stub.port) as glass:
+            text, _ = dom(glass, target)
+            same((wanted in text, "dropped by policy" in text), (True, wanted == "dropped by policy"), f"{target}: {text}")
+    # What was missed, a station that began anew, one that goes away: each is said, and the next question goes on from there.
+    asked_from = []
+
+    def say(query):
+        if query == "routers":
+            return reply(b"router 0 idle")
+        if not query.startswith("changes"):
+            return reply()
+        asked_from.append(query.split(" ")[2])
+        turns = [reply(b"steps 0 100"), reply(b"steps 0 2000", b"missed 876"), reply(b"steps 0 50"), [b""]]
+        return turns[min(len(asked_from), len(turns)) - 1]
+
+    with Stub(say) as stub, LookingGlass(stub.port) as glass:
+        text, _ = dom(glass, "/live?router=0&prefix=10.0.0.0/8")
+        words = ("876 steps of this router meanwhile are kept no more", "The station began anew", "nothing is known", "Asking again from step 50.")
+        same([word for word in words if word not in text], [], f"a live page: {text}")
+        same(asked_from[:4], [str(2**64 - 1), "100", "2000", "50"], "steps")
+    with closed_port() as port, LookingGlass(port) as glass:
+        for target in ("/?q=198.51.100.7", "/routers"):
+            text, _ = dom(glass, target)
+            found = ("nothing is known" in text, "No table has" in text, "No change yet" in text)
+            same(found, (True, False, False), f"no station at {target}: {text}")
