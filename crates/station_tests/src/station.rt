@@ -58,18 +58,25 @@ fn last(yard: &Keeping) -> Option<u64> {
     }
 }
 
-fn is_right<R: Abort>(rt: &R, row: Row, left: &Left) {
-    assert_eq!(rt; left.status, row.status, "{}", row.words);
-    assert!(rt; left.out.taken() == row.written.as_bytes(), "{}", row.words);
-    assert!(rt;
-        left.yard.written(0).starts_with(row.replies.as_bytes()),
-        "{}",
-        row.words
-    );
-    if row.replies.is_empty() {
-        assert!(rt; left.yard.written(0).is_empty(), "{}", row.words);
+// Whether link 0 was written the replies first, and nothing where there are none.
+fn has_replies(yard: &Keeping, replies: &str) -> bool {
+    let written = yard.written(0);
+    let replies = replies.as_bytes();
+    if replies.is_empty() {
+        return written.is_empty();
     }
-    assert_eq!(rt; last(&left.yard), row.last, "{}", row.words);
+    match written.get(..replies.len()) {
+        Some(first) => first == replies,
+        None => false,
+    }
+}
+
+// Whether a call left what its row has.
+fn is_right(row: &Row, left: &Left) -> bool {
+    left.status == row.status
+        && left.out.taken() == row.written.as_bytes()
+        && has_replies(&left.yard, row.replies)
+        && last(&left.yard) == row.last
 }
 
 // Nobody, and one line that is never said: a call of nothing.
@@ -248,7 +255,7 @@ fn calls_and_what_they_leave(rt: HostRuntime) -> Result<(), Fail> {
     let alloc = rt.alloc();
     for row in ROWS.iter() {
         let left = called(&rt, alloc, *row).ok_or("no memory")?;
-        is_right(&rt, *row, &left);
+        assert!(rt; is_right(row, &left), "{}", row.words);
     }
     Ok(())
 }

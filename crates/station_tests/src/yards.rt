@@ -45,7 +45,14 @@ fn ports(alloc: Global, around: Around) -> Option<PortList>
     ports_of(alloc, around.ports, &stream, around.reads).ok()
 }
 
-// So many ports with these connections, given in small pieces first.
+// A port with these connections, given in small pieces first.
+fn port(alloc: Global, connections: &[ByteList], reads: &[u64]) -> Result<MemPort, NoMemory>
+    ensures { IfOk result IsUntouched }
+{
+    Ok(MemPort::new(alloc, connections, &[1, 1, 4, 1, 30, 7], reads)?)
+}
+
+// So many of them.
 fn ports_of(
     alloc: Global,
     count: u32,
@@ -56,35 +63,50 @@ fn ports_of(
 {
     let mut ports = PortList::new(alloc);
     for _ in 0..count {
-        let port = MemPort::new(alloc, connections, &[1, 1, 4, 1, 30, 7], reads)?;
-        if ports.push(port).is_err() {
-            return Err(NoMemory);
+        let port = port(alloc, connections, reads)?;
+        match ports.push(port) {
+            Ok(()) => {}
+            Err(_) => return Err(NoMemory),
         }
     }
     Ok(ports)
 }
 
-fn links(alloc: Global, around: Around) -> Option<LinkList>
-    ensures { IfSome result (All IsIdle) }
-{
+// A connection for each of these lines.
+fn connections(alloc: Global, lines: &[&str]) -> Option<Vec<ByteList>> {
     let mut connections = Vec::new(alloc);
-    for line in around.lines {
+    for line in lines {
         let mut connection = ByteList::new(alloc);
         connection.extend(line.as_bytes()).ok()?;
         connections.push(connection).ok()?;
     }
-    links_of(alloc, around.links, connections.as_slice()).ok()
+    Some(connections)
 }
 
-// So many links with these connections, given in small pieces first.
+fn links(alloc: Global, around: Around) -> Option<LinkList>
+    ensures { IfSome result (All IsIdle) }
+{
+    let connections = connections(alloc, around.lines)?;
+    links_of(alloc, around.links, &connections).ok()
+}
+
+// A link with these connections, given in small pieces first.
+fn link(alloc: Global, connections: &[ByteList]) -> Result<MemLink, NoMemory>
+    ensures { IfOk result IsIdle }
+{
+    Ok(MemLink::new(alloc, connections, &[3, 9], 100, &[])?)
+}
+
+// So many of them.
 fn links_of(alloc: Global, count: u32, connections: &[ByteList]) -> Result<LinkList, NoMemory>
     ensures { IfOk result (All IsIdle) }
 {
     let mut links = LinkList::new(alloc);
     for _ in 0..count {
-        let link = MemLink::new(alloc, connections, &[3, 9], 100, &[])?;
-        if links.push(link).is_err() {
-            return Err(NoMemory);
+        let link = link(alloc, connections)?;
+        match links.push(link) {
+            Ok(()) => {}
+            Err(_) => return Err(NoMemory),
         }
     }
     Ok(links)

@@ -128,35 +128,44 @@ fn told(end: End, steps: u64) -> Shown {
     }
 }
 
+// One look more.
+fn add(looks: &mut Vec<Look>, look: Look) -> Option<()> {
+    looks.push(look).ok()
+}
+
+// The look before this call, where all of the connection's bytes are taken.
+fn at_end(call: Call, end: End, revision: u64, steps: u64) -> Look {
+    Look {
+        call,
+        taken: FRONT.saturating_add(end.rest().len() as u64 / 2),
+        revision,
+        shown: told(end, steps),
+    }
+}
+
+// The look before the read that finds the end, where there is one.
+fn add_last_read(looks: &mut Vec<Look>, end: End, revision: u64, steps: u64) -> Option<()> {
+    if end.reads_on() {
+        add(looks, at_end(Call::Read, end, revision, steps))
+    } else {
+        Some(())
+    }
+}
+
 // The looks at the connection that ends so, and what the lane then comes to.
 fn look_at(looks: &mut Vec<Look>, at: &Place, end: End) -> Option<Place> {
     let steps = at.shown.steps;
     let opened = at.revision.saturating_add(1);
-    let told = told(end, steps);
-    let revision = opened.saturating_add(told.counts.messages);
-    let last = Look {
-        call: Call::Close,
-        taken: FRONT.saturating_add(end.rest().len() as u64 / 2),
-        revision,
-        shown: told,
+    let revision = opened.saturating_add(told(end, steps).counts.messages);
+    let first = Look {
+        call: Call::Read,
+        taken: 0,
+        revision: opened,
+        shown: nothing(LaneState::Live, steps.saturating_add(1)),
     };
-    looks
-        .push(Look {
-            call: Call::Read,
-            taken: 0,
-            revision: opened,
-            shown: nothing(LaneState::Live, steps.saturating_add(1)),
-        })
-        .ok()?;
-    if end.reads_on() {
-        looks
-            .push(Look {
-                call: Call::Read,
-                ..last
-            })
-            .ok()?;
-    }
-    looks.push(last).ok()?;
+    add(looks, first)?;
+    add_last_read(looks, end, revision, steps)?;
+    add(looks, at_end(Call::Close, end, revision, steps))?;
     Some(Place {
         revision: revision.saturating_add(1),
         shown: nothing(LaneState::Closed(end.cause()), steps.saturating_add(5)),

@@ -96,12 +96,21 @@ const IDLE: &[Plan] = &[
     Plan::Tell(0, 9),
 ];
 
+// What these events come to, one list after the other.
+fn ran_through(alloc: Global, before: &[Plan], plans: &[Plan], behind: &[Plan]) -> Option<Ran> {
+    let mut events = Vec::new(alloc);
+    put(alloc, &mut events, before)?;
+    put(alloc, &mut events, plans)?;
+    put(alloc, &mut events, behind)?;
+    run(alloc, 2, 1, &events, 1024, &[])
+}
+
 // What the worked schedule comes to with these events before this place, and so many of its own left out there. None past
 // its end.
 fn ran_with(alloc: Global, place: usize, plans: &[Plan], left_out: usize) -> Option<Ran> {
     let before = WORKED.get(..place)?;
     let behind = WORKED.get(place.saturating_add(left_out)..)?;
-    ran(alloc, 2, &[before, plans, behind])
+    ran_through(alloc, before, plans, behind)
 }
 
 fn are_two_cuts<R: Abort>(rt: &R, ran: &Ran) {
