@@ -1,7 +1,7 @@
 //! Whole calls of the station over yards in memory: what it answers and writes, and what the yard has then.
 ghost use Rattle.std.specs.Prelude.{◌≡◌};
 
-use crate::streams::{INITIATION, PEER_UP};
+use crate::streams::{INITIATION, PEER_UP, PEER_UP_OF_TWO_OCTETS, ROUTE_IN_TWO_OCTETS};
 use crate::words::words;
 use crate::yards::{Around, yard};
 use bmp_message::Reading;
@@ -21,7 +21,8 @@ use wire_io::MemSink;
 type Keeping = MemYard<Ending<RouterTables>>;
 
 // A call of the station: its words, what stands round it, how much may be written, and which writes fail; its exit
-// status, what is written, what each link is written begins with, and the last revision, where there is an ending.
+// status, what is written or only its front, what each link is written begins with, and the last revision, where there
+// is an ending.
 #[derive(Clone, Copy)]
 struct Row {
     words: &'static str,
@@ -30,6 +31,7 @@ struct Row {
     writes: &'static [u64],
     status: u8,
     written: &'static str,
+    is_front: bool,
     replies: &'static str,
     last: Option<u64>,
 }
@@ -71,10 +73,20 @@ fn has_replies(yard: &Keeping, replies: &str) -> bool {
     }
 }
 
+// Whether the station wrote what the row has.
+fn has_written(row: &Row, taken: &[u8]) -> bool {
+    let written = row.written.as_bytes();
+    if row.is_front {
+        taken.starts_with(written)
+    } else {
+        taken == written
+    }
+}
+
 // Whether a call left what its row has.
 fn is_right(row: &Row, left: &Left) -> bool {
     left.status == row.status
-        && left.out.taken() == row.written.as_bytes()
+        && has_written(row, left.out.taken())
         && has_replies(&left.yard, row.replies)
         && last(&left.yard) == row.last
 }
@@ -87,8 +99,37 @@ const NONE: Row = Row {
     writes: &[],
     status: 0,
     written: "",
+    is_front: false,
     replies: "",
     last: None,
+};
+
+// Words that are no command, beside a yard whose first call would fail.
+const USAGE: Row = Row {
+    around: UNASKED,
+    status: 2,
+    written: "usage: bmpstation replay QUERY, check, serve OPTIONS, or drill SEED LANES MESSAGES\n",
+    ..NONE
+};
+
+// What answers without the yard.
+const UNASKED: Around = Around {
+    calls: &[0],
+    ..Around::NOTHING
+};
+
+const HELP: Row = Row {
+    around: UNASKED,
+    written: "bmpstation: a station for the BGP Monitoring Protocol (RFC 7854)\n\nusage: bmpstation COMMAND\n",
+    is_front: true,
+    ..NONE
+};
+
+const VERSION: Row = Row {
+    around: UNASKED,
+    written: "bmpstation ",
+    is_front: true,
+    ..NONE
 };
 
 const ONE_LANE: Around = Around {
@@ -98,6 +139,14 @@ const ONE_LANE: Around = Around {
     links: 0,
     lines: &[],
     calls: &[],
+};
+
+// A lane whose router sends a route that the lenient reading alone takes, and an asker.
+const TWO_OCTETS: Around = Around {
+    ports: 1,
+    stream: &[PEER_UP_OF_TWO_OCTETS, ROUTE_IN_TWO_OCTETS],
+    links: 1,
+    ..Around::NOTHING
 };
 
 // Two lanes with a connection each, and two askers.
@@ -241,6 +290,86 @@ const ROWS: &[Row] = &[
         written: "at 2\nend 0\nstop ended\n",
         ..NONE
     },
+    // help and version ask the yard for nothing
+    Row {
+        words: "--help",
+        ..HELP
+    },
+    Row {
+        words: "-h",
+        ..HELP
+    },
+    Row {
+        words: "--version",
+        ..VERSION
+    },
+    Row {
+        words: "-V",
+        ..VERSION
+    },
+    // 64 lanes at one port, beside one for the asker: an opening and a closing each
+    Row {
+        words: "serve --ports shared --feed-port 5 --ask-port 6 --feeds 64 --askers 1 --rounds 1",
+        around: Around {
+            ports: 64,
+            stream: &[],
+            links: 1,
+            ..Around::NOTHING
+        },
+        written: "ready\ndone 128\n",
+        last: Some(128),
+        ..NONE
+    },
+    // the least and the greatest number of seconds
+    Row {
+        words: "serve --feeds=1 --askers=1 --feed-port=5 --ask-port=6 --rounds 1 --idle 1 --ask-idle=86400",
+        around: Around {
+            links: 1,
+            ..ONE_LANE
+        },
+        written: "ready\ndone 3\n",
+        last: Some(3),
+        ..NONE
+    },
+    Row {
+        words: "serve --feeds=1 --askers=1 --feed-port=5 --ask-port=6 --idle=86400 --rounds forever --ask-idle 1",
+        around: Around {
+            links: 1,
+            ..ONE_LANE
+        },
+        written: "ready\ndone 3\n",
+        last: Some(3),
+        ..NONE
+    },
+    // read leniently, with the flag in the middle, at the end and as the second word; and by the RFCs
+    Row {
+        words: "serve --feeds=1 --askers=1 --lenient --feed-port=5 --ask-port=6 --rounds=1",
+        around: TWO_OCTETS,
+        written: "ready\ndone 4\n",
+        last: Some(4),
+        ..NONE
+    },
+    Row {
+        words: "serve --feeds=1 --askers=1 --feed-port=5 --ask-port=6 --rounds=1 --lenient",
+        around: TWO_OCTETS,
+        written: "ready\ndone 4\n",
+        last: Some(4),
+        ..NONE
+    },
+    Row {
+        words: "serve --lenient --feeds=1 --askers=1 --feed-port=5 --ask-port=6 --rounds=1",
+        around: TWO_OCTETS,
+        written: "ready\ndone 4\n",
+        last: Some(4),
+        ..NONE
+    },
+    Row {
+        words: "serve --feeds=1 --askers=1 --feed-port=5 --ask-port=6 --rounds=1",
+        around: TWO_OCTETS,
+        written: "ready\ndone 3\n",
+        last: Some(3),
+        ..NONE
+    },
     // the usage can't be written
     Row {
         writes: &[0],
@@ -249,13 +378,52 @@ const ROWS: &[Row] = &[
     },
 ];
 
+// Words that are no command.
+const NO_COMMANDS: &[&str] = &[
+    // a word more, none of the commands, another case
+    "--help x",
+    "help",
+    "--Version",
+    // shared ports that meet, and ports of each that do
+    "serve --ports shared --feed-port 5 --ask-port 5 --feeds 1 --askers 1 --rounds 1",
+    "serve --ports each --feeds 2 --askers 1 --feed-port 5 --ask-port 6 --rounds 1",
+    // no number of rounds from 1 to 4096, and `forever` twice
+    "serve --feeds=1 --askers=1 --feed-port=5 --ask-port=6 --rounds 0",
+    "serve --feeds=1 --askers=1 --feed-port=5 --ask-port=6 --rounds 4097",
+    "serve --feeds=1 --askers=1 --feed-port=5 --ask-port=6 --rounds Forever",
+    "serve --feeds=1 --askers=1 --feed-port=5 --ask-port=6 --rounds forever --rounds forever",
+    "serve --feeds=1 --askers=1 --feed-port=5 --ask-port=6 --rounds 4294967295",
+    // no number of seconds from 1 to 86400
+    "serve --feeds=1 --askers=1 --feed-port=5 --ask-port=6 --rounds 1 --idle 0",
+    "serve --feeds=1 --askers=1 --feed-port=5 --ask-port=6 --rounds 1 --idle 86401",
+    "serve --feeds=1 --askers=1 --feed-port=5 --ask-port=6 --rounds 1 --idle",
+    "serve --feeds=1 --askers=1 --feed-port=5 --ask-port=6 --rounds 1 --ask-idle 0",
+    "serve --feeds=1 --askers=1 --feed-port=5 --ask-port=6 --rounds 1 --ask-idle 86401",
+    "serve --feeds=1 --askers=1 --feed-port=5 --ask-port=6 --rounds 1 --ask-idle",
+    // the flag twice, with a value, between a name and its value
+    "serve --feeds=1 --askers=1 --feed-port=5 --ask-port=6 --lenient --rounds 1 --lenient",
+    "serve --feeds=1 --askers=1 --feed-port=5 --ask-port=6 --rounds 1 --lenient=yes",
+    "serve --feeds=1 --askers=1 --feed-port=5 --ask-port=6 --rounds --lenient 1",
+];
+
+// Whether a call leaves what its row has; without memory for what stands round it, nothing.
+fn leaves<R: Threads + Wait + Sync>(rt: &R, alloc: Global, row: Row) -> Option<bool> {
+    let left = called(rt, alloc, row)?;
+    Some(is_right(&row, &left))
+}
+
 // The replies of an asker and of a whole stream are those of the program's rows too.
 #[test]
 fn calls_and_what_they_leave(rt: HostRuntime) -> Result<(), Fail> {
-    let alloc = rt.alloc();
     for row in ROWS.iter() {
-        let left = called(&rt, alloc, *row).ok_or("no memory")?;
-        assert!(rt; is_right(row, &left), "{}", row.words);
+        assert_eq!(rt; leaves(&rt, rt.alloc(), *row), Some(true), "{}", row.words);
+    }
+    for words in NO_COMMANDS.iter() {
+        let row = Row {
+            words: *words,
+            ..USAGE
+        };
+        assert_eq!(rt; leaves(&rt, rt.alloc(), row), Some(true), "{words}");
     }
     Ok(())
 }
