@@ -1,4 +1,6 @@
-ghost use Rattle.std.specs.Prelude.{◌≡◌, ◌<◌, ◌≤◌, length, IfOk, IfSome};
+ghost use Rattle.std.specs.Prelude.{◌≡◌, ◌+◌, ◌-◌, ◌^◌, ◌<◌, ◌≤◌, None, min, length, IfOk, IfSome, OnErr};
+ghost use Rattle.std.specs.Io.KnownBytes.{WriteAppends};
+ghost use Rattle.wire_io.specs.Faults.{HasCause};
 
 use crate::Link;
 use crate::counts::Counts;
@@ -61,7 +63,15 @@ impl<'a, N: Clock> Sink for HostLink<'a, N> {
 
     ghost aside = { λ k. k.counts };
 
-    fn write(&mut self, piece: &[u8]) -> Result<usize, Failed> {
+    fn write(&mut self, piece: &[u8]) -> Result<usize, Failed>
+        requires { 0 < length piece.now }
+        ensures some { IfOk result (λ n. 0 < n) }
+        ensures bound { IfOk result (λ n. n ≤ length piece.now) }
+        ensures told { WriteAppends None None result piece.now }
+        ensures aside { self.new.counts ≡ self.old.counts }
+        ensures counted { OnErr result (self.new.faults ≡ min (self.old.faults + 1) (2 ^ 64 - 1)) }
+        ensures cause { HasCause self.old.faults self.new.faults result }
+    {
         match write_to(&mut self.stream, piece) {
             Some(count) => Ok(count),
             None => {
