@@ -142,6 +142,11 @@ pub record ReturnedLink : Type 0 where
   pub written : Option (List ℕ)
   pub faults : ℕ
 
+-- a file of a yard: under which path, and its bytes
+pub record FileValue : Type 0 where
+  pub path : List ℕ
+  pub bytes : List ℕ
+
 -- what a yard tells
 pub record YardValue : Type 0 where
   -- the plans of the ports that it will hand out, in order, of which none has answered a call yet
@@ -158,6 +163,8 @@ pub record YardValue : Type 0 where
   pub back : List Returned
   -- the links that were given back
   pub links_back : List ReturnedLink
+  -- its files; of two under one path the first counts
+  pub files : List FileValue
 
 -- how many lanes and askers were asked for, where it was asked to listen
 abbrev pub feeds_of : Option Listening → ℕ

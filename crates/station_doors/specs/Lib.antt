@@ -1,4 +1,6 @@
 pub mod Doors
+pub mod Paths
+pub mod Files
 pub mod LastRead
 pub mod Connections
 pub mod MemPort

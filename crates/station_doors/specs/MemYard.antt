@@ -4,8 +4,9 @@ use Rattle.wire_io.specs.Aside.{Plan}
 use Rattle.station_doors.specs.Connections.{no_plan}
 use Rattle.station_doors.specs.MemPort.{MemPortValue}
 use Rattle.station_doors.specs.MemLink.{MemLinkValue}
-use Rattle.station_doors.specs.Doors.{YardValue, Returned, ReturnedLink, untouched, untouched_link}
+use Rattle.station_doors.specs.Doors.{FileValue, YardValue, Returned, ReturnedLink, untouched, untouched_link}
 use Rattle.station_doors.specs.declared.listening.Listening.{Listening}
+use Rattle.station_doors.specs.declared.files.MemFile.{MemFile}
 use Rattle.station_doors.specs.declared.mem_yard.Back.{Back}
 use Rattle.station_doors.specs.declared.mem_yard.LinkBack.{LinkBack}
 
@@ -39,9 +40,13 @@ returned_of b = record { lane = b.lane; shows = b.port.shows }
 abbrev pub returned_link_of : LinkBack → ReturnedLink
 returned_link_of b = record { number = b.number; shows = b.link.shows; written = Some b.link.written; faults = b.link.faults }
 
--- what it tells with these ports and links left, these numbers handed out and these ports and links given back
-abbrev pub tells_of : List MemPortValue → List MemLinkValue → List ℕ → List ℕ → List ℕ → List Back → List LinkBack → YardValue
-tells_of ports links fails out links_out back links_back = record { ports = map plan_of ports; links = map link_plan_of links; fails = fails; out = out; links_out = links_out; back = map returned_of back; links_back = map returned_link_of links_back }
+abbrev pub file_value : MemFile → FileValue
+file_value f = record { path = f.path; bytes = f.bytes }
+
+-- what it tells with these ports and links left, these numbers handed out, these ports and links given back, and these
+-- files
+abbrev pub tells_of : List MemPortValue → List MemLinkValue → List ℕ → List ℕ → List ℕ → List Back → List LinkBack → List MemFile → YardValue
+tells_of ports links fails out links_out back links_back files = record { ports = map plan_of ports; links = map link_plan_of links; fails = fails; out = out; links_out = links_out; back = map returned_of back; links_back = map returned_link_of links_back; files = map file_value files }
 
 -- what was written to the first link that was given back under this number
 abbrev pub written_by : ℕ → List ReturnedLink → List ℕ

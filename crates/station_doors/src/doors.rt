@@ -1,13 +1,15 @@
-ghost use Rattle.std.specs.Prelude.{◌≡◌, ℕ, ◌<◌, Option, Some, None, [], IsTrue, IfSome, OnErr, length};
+ghost use Rattle.std.specs.Prelude.{◌≡◌, ℕ, ◌<◌, ◌≤◌, Option, Some, None, [], IsTrue, IfSome, OnErr, length};
 ghost use Rattle.std.specs.Io.{ReadsAtMost};
 ghost use Rattle.std.specs.Io.KnownBytes.{Keeps};
 ghost use Rattle.wire_io.specs.Aside.{Aside};
 ghost use Rattle.wire_io.specs.Faults.{HasCause};
 ghost use Rattle.station_doors.specs.Doors.{Opens, Reads, Closes, AsPlanned, noted_writes, read_size, YardValue, IsLane, askers_of, Listens, HandsOut, HandsOutLink, TakesBack, TakesLinkBack, KeepsEnding, one_more};
+ghost use Rattle.station_doors.specs.Files.{GivesFile, HasFileCause};
 ghost use Rattle.station_doors.specs.declared.listening.Listening.{Listening};
 
-use crate::Listening;
-use wire_io::{Failed, Sink};
+use crate::{FileFault, Listening};
+use std::alloc::Global;
+use wire_io::{ByteList, Failed, Sink};
 
 /// The place of one router, which gives one connection after another.
 pub trait Port {
@@ -77,7 +79,7 @@ pub trait Link: Sink {
         ensures calls { calls self.new ≡ calls self.old };
 }
 
-/// Hands out ports and links by number, takes them back, and takes what a station's end gave.
+/// Hands out ports and links by number, takes them back, gives files by path, and takes what a station's end gave.
 pub trait Yard {
     type Port: Port + Send + Drop;
 
@@ -130,6 +132,17 @@ pub trait Yard {
         ensures listened { listened self.new ≡ listened self.old }
         ensures calls { calls self.new ≡ one_more (calls self.old) }
         ensures cause { HasCause (faults self.old) (faults self.new) result }
+        ensures endings { endings self.new ≡ endings self.old }
+        ensures ending { last_ending self.new ≡ last_ending self.old };
+
+    /// Gives the whole file of this path, which has at most 2^26 bytes. A file that has more is `TooLong`, which is no
+    /// fault; it fails where there is no such file, or it can't be read. The yard stays as it is.
+    fn file(&mut self, alloc: Global, path: &str) -> Result<ByteList, FileFault>
+        ensures told { GivesFile path.now (calls self.old) (told self.old) (told self.new) result }
+        ensures listened { listened self.new ≡ listened self.old }
+        ensures calls { calls self.new ≡ one_more (calls self.old) }
+        ensures cause { HasFileCause (faults self.old) (faults self.new) result }
+        ensures later { faults self.old ≤ faults self.new }
         ensures endings { endings self.new ≡ endings self.old }
         ensures ending { last_ending self.new ≡ last_ending self.old };
 

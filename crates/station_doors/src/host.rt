@@ -2,15 +2,18 @@ ghost use Rattle.std.specs.Prelude.{◌≡◌, ◌↔◌, None, Some, IfOk, IsOk
 ghost use Rattle.wire_io.specs.Faults.{HasCause};
 ghost use Rattle.station_doors.specs.Doors.{one_more, askers_of};
 
+use crate::files::read_whole;
 use crate::sockets::{MOST, listen_at, take_listener};
-use crate::{HostLink, HostPort, Listening, Yard};
+use crate::{FileFault, HostLink, HostPort, Listening, Yard};
 use std::alloc::Global;
+use std::fs;
+use std::fs::Files;
 use std::io::Read;
 use std::net::{Net, TcpListener, TcpStream};
 use std::time::Clock;
-use wire_io::{Failed, NoMemory};
+use wire_io::{ByteList, Failed, NoMemory};
 
-/// The real yard: standard input, and TCP listeners. It tells nothing of content.
+/// The real yard: standard input, TCP listeners, and the files of the system. It tells nothing of content.
 ///
 /// Where it was asked to listen, lane n listens at `feed_port + n` and asker n at `ask_port + n`. Where the ports are
 /// shared, all lanes take their connections of one listener and all askers of another, and the system says which of them
@@ -58,7 +61,7 @@ impl<
 impl<
     'a,
     R: Read + Drop + Send,
-    N: Net<Listener = TcpListener, Stream = TcpStream> + Clock + Sync,
+    N: Net<Listener = TcpListener, Stream = TcpStream> + Clock + Files + Sync,
 > Yard for HostYard<'a, R, N> {
     type Port = HostPort<'a, R, N>;
 
@@ -150,6 +153,18 @@ impl<
                 Err(Failed)
             }
         }
+    }
+
+    fn file(&mut self, alloc: Global, path: &str) -> Result<ByteList, FileFault> {
+        self.calls = self.calls.saturating_add(1);
+        let found = match fs::open(self.net, path) {
+            Ok(mut file) => read_whole(alloc, &mut file),
+            Err(_) => Err(FileFault::Failed),
+        };
+        if let Err(FileFault::Failed) = &found {
+            self.faults = self.faults.saturating_add(1);
+        }
+        found
     }
 
     fn take_port(&mut self, _lane: u32, _port: HostPort<'a, R, N>) {}

@@ -1,13 +1,13 @@
-//! Where connections come from: ports and links, and the yards that hand them out.
+//! Where connections and files come from: ports and links, and the yards that hand them out.
 //!
 //! A port is the place of one router, a link the place of one client; each gives one connection after
-//! another, and a link takes what is written to it. A yard hands them out by number and takes them back. Each
-//! counts its faults, and answers `Failed` only where its count rose in that call.
+//! another, and a link takes what is written to it. A yard hands them out by number and takes them back, and gives
+//! whole files by path. Each counts its faults, and answers `Failed` only where its count rose in that call.
 //!
 //! `MemPort`, `MemLink` and `MemYard` hold everything in memory and tell it to contracts: the plan, each byte
-//! that was given, how the last read went, what was written and what came back. `SurePort` and `SureLink` are
-//! of the same kind and never fail. `HostYard` is standard input and TCP, and tells counts, and what its input
-//! tells.
+//! that was given, how the last read went, what was written, what came back, and the files. `SurePort` and
+//! `SureLink` are of the same kind and never fail. `HostYard` is standard input, TCP and the files of the system, and
+//! tells counts, and what its input tells.
 //!
 //! Begin with `specs/Doors.antt`, which says what each call does to what is told, then `src/doors.rt`.
 #![tactic(auto)]
@@ -15,6 +15,7 @@
 mod connections;
 mod counts;
 mod doors;
+mod files;
 mod host;
 mod host_link;
 mod host_port;
@@ -27,6 +28,7 @@ mod sure_link;
 mod sure_port;
 
 pub use doors::{Link, Port, Yard};
+pub use files::FileFault;
 pub use host::HostYard;
 pub use host_link::HostLink;
 pub use host_port::HostPort;

@@ -1,12 +1,13 @@
-ghost use Rattle.std.specs.Prelude.{◌≡◌, ◌≤◌, ◌<◌, ◌+◌, [], None, Some, map, length, vec_len, All, Contains, IsTrue, ◌↔◌, IfOk, IfSome, IfNone, position, ◌==◌, slice_index};
+ghost use Rattle.std.specs.Prelude.{◌≡◌, ◌≤◌, ◌<◌, ◌+◌, [], ◌∷◌, None, Some, map, length, vec_len, All, Contains, IsTrue, ◌↔◌, IfOk, IfSome, IfNone, OnOk, OnErr, position, ◌==◌, slice_index};
 ghost use Rattle.std.specs.Bool.{OnTrue, OnFalse};
 ghost use Rattle.std.specs.Vec.{vec_capacity};
 ghost use Rattle.station_doors.specs.Doors.{without};
 
-use crate::{Listening, MemLink, MemPort, Port, Yard};
+use crate::files::{MOST_FILE, MemFile, content};
+use crate::{FileFault, Listening, MemLink, MemPort, Port, Yard};
 use std::alloc::Global;
 use std::marker::Model;
-use wire_io::{Failed, List, NoMemory};
+use wire_io::{ByteList, Failed, List, NoMemory};
 
 /// A list of ports.
 pub type PortList = List<MemPort>;
@@ -28,10 +29,11 @@ struct LinkBack {
     link: MemLink,
 }
 
-/// A yard over ports and links in memory. It tells all that it does.
+/// A yard over ports, links and files in memory. It tells all that it does.
 ///
 /// It hands the ports out in order, each once, and the links in the same way. A call that answers a `Result`
-/// fails exactly where its number, counted from 0, is among `fails`, or where nothing is left to hand out.
+/// fails exactly where its number, counted from 0, is among `fails`, or where nothing is left to hand out, or there is no
+/// file of the path.
 #[derive(Drop)]
 pub struct MemYard<E> {
     ports: Vec<MemPort>,
@@ -41,6 +43,7 @@ pub struct MemYard<E> {
     links_out: Vec<u32>,
     back: Vec<Back>,
     links_back: Vec<LinkBack>,
+    files: Vec<MemFile>,
     listened: Option<Listening>,
     ending: Option<E>,
     calls: u64,
@@ -55,7 +58,7 @@ impl<E> Model for MemYard<E> {
 
     ghost Value = { MemYardValue E };
 
-    ghost view = { λ y. record { tells = tells_of y.ports.items y.links.items y.fails.items y.out.items y.links_out.items y.back.items y.links_back.items; listened = y.listened; calls = y.calls; faults = y.faults; ending = y.ending; endings = y.endings } };
+    ghost view = { λ y. record { tells = tells_of y.ports.items y.links.items y.fails.items y.out.items y.links_out.items y.back.items y.links_back.items y.files.items; listened = y.listened; calls = y.calls; faults = y.faults; ending = y.ending; endings = y.endings } };
 
     ghost invariant = { λ y. All IsUntouched y.ports.items × All IsIdle y.links.items
         × (vec_len y.ports + vec_len y.out ≤ vec_capacity y.out) × (vec_len y.ports + vec_len y.out + vec_len y.back ≤ vec_capacity y.back)
@@ -65,7 +68,8 @@ impl<E> Model for MemYard<E> {
 impl<E> MemYard<E> {
     ghost use Rattle.station_doors.specs.MemYard.{IsUntouched, IsIdle, plan_of, link_plan_of, written_by};
 
-    /// A yard with these ports and links, of which none has answered a call yet. On want of memory they are dropped.
+    /// A yard with these ports and links, of which none has answered a call yet, and with no file. Where it is out of
+    /// memory they are dropped.
     pub fn new(
         alloc: Global,
         ports: PortList,
@@ -74,7 +78,7 @@ impl<E> MemYard<E> {
     ) -> Result<MemYard<E>, NoMemory>
         requires ports { All IsUntouched ports }
         requires links { All IsIdle links }
-        ensures { IfOk result (λ y. y ≡ record { tells = record { ports = map plan_of ports; links = map link_plan_of links; fails = fails.now; out = []; links_out = []; back = []; links_back = [] }; listened = None; calls = 0; faults = 0; ending = None; endings = 0 }) }
+        ensures { IfOk result (λ y. y ≡ record { tells = record { ports = map plan_of ports; links = map link_plan_of links; fails = fails.now; out = []; links_out = []; back = []; links_back = []; files = [] }; listened = None; calls = 0; faults = 0; ending = None; endings = 0 }) }
     {
         let ports = ports.into_vec()?;
         let links = links.into_vec()?;
@@ -91,12 +95,26 @@ impl<E> MemYard<E> {
             links_out,
             back,
             links_back,
+            files: Vec::new(alloc),
             listened: None,
             ending: None,
             calls: 0,
             faults: 0,
             endings: 0,
         })
+    }
+
+    /// Gives the yard a file, in the place of what stood under its path. Out of memory, nothing changed.
+    pub fn put_file(&mut self, path: &str, bytes: &ByteList) -> Result<(), NoMemory>
+        ensures ok { OnOk result (self.new ≡ record self.old { tells = record self.old.tells { files = record { path = path.now; bytes = bytes.now } ∷ self.old.tells.files } }) }
+        ensures err { OnErr result (self.new ≡ self.old) }
+    {
+        let bytes = bytes.copy()?;
+        let mut name = ByteList::new(*self.files.allocator());
+        name.extend(path.as_bytes())?;
+        let file = MemFile { path: name, bytes };
+        self.files.insert(0, file)?;
+        Ok(())
     }
 
     /// Lends the ending that it took last. `None` exactly where it took none.
@@ -218,6 +236,27 @@ impl<E: Drop> Yard for MemYard<E> {
             unreachable!();
         }
         Ok(link)
+    }
+
+    fn file(&mut self, _alloc: Global, path: &str) -> Result<ByteList, FileFault> {
+        let call = self.calls;
+        self.calls = call.saturating_add(1);
+        let is_planned = self.fails.contains(&call);
+        if is_planned {
+            self.faults = self.faults.saturating_add(1);
+            return Err(FileFault::Failed);
+        }
+        let Some(bytes) = content(self.files.as_slice(), path.as_bytes()) else {
+            self.faults = self.faults.saturating_add(1);
+            return Err(FileFault::Failed);
+        };
+        if bytes.as_slice().len() > MOST_FILE {
+            return Err(FileFault::TooLong);
+        }
+        match bytes.copy() {
+            Ok(copy) => Ok(copy),
+            Err(_) => Err(FileFault::NoMemory),
+        }
     }
 
     fn take_port(&mut self, lane: u32, port: MemPort) {

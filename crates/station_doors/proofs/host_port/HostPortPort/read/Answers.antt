@@ -1,4 +1,3 @@
-use Rattle.std.proofs.Common.{sym, subst}
 use Rattle.station_doors.proofs.Rests.{reads_with}
 use Rattle.station_doors.proofs.host_port.HostPortPort.read.Goals as goal
 
