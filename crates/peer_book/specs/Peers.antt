@@ -5,7 +5,7 @@ use Rattle.std.specs.Borrow.{Bor}
 use Rattle.std.specs.BTreeMap.{insert_entry, is_at}
 use Rattle.std.specs.List.{filter}
 use Rattle.std.specs.Map.{lookup, set_value}
-use Rattle.std.specs.Option.{option_map, option_map_or}
+use Rattle.std.specs.Option.{option_and_then, option_map, option_map_or}
 use Rattle.std.specs.Ordering.{is_lt}
 use Rattle.bmp_specs.specs.declared.wire.Family.{Family}
 use Rattle.bmp_specs.specs.declared.peers.View.{View}
@@ -59,6 +59,14 @@ state_at peers key = option_map state_of (peer_at peers key)
 
 abbrev pub is_up_at : Peers → KeyValue → Bool
 is_up_at peers key = option_map_or is_up_peer (peer_at peers key) false
+
+-- what the last Peer Up of a peer told, where it is up
+abbrev pub info_of : PeerValue → Option PeerInfoValue
+info_of (up_peer info marks) = Some info
+info_of (down_peer info) = None
+
+abbrev pub info_at : Peers → KeyValue → Option PeerInfoValue
+info_at peers key = option_and_then info_of (peer_at peers key)
 
 abbrev pub is_complete_at : Peers → KeyValue → View → Family → Bool
 is_complete_at peers key view family = option_map_or (λ p. is_complete_peer p view family) (peer_at peers key) false

@@ -1,11 +1,12 @@
 ghost use Rattle.std.specs.Prelude.{◌≡◌, ◌↔◌, [], ◌∷◌, ◌++◌, List, IsTrue, IfOk, OnOk, OnErr};
 ghost use Rattle.std.specs.Bool.{OnFalse};
 ghost use Rattle.std.specs.Arc.{arc_value};
+ghost use Rattle.std.specs.Option.{option_map};
 ghost use Rattle.bmp_specs.specs.Complete.{IsComplete};
 ghost use Rattle.bmp_specs.specs.PeerUp.{IsUp};
 ghost use Rattle.bmp_specs.specs.Values.{EffectValue, up, down, mark};
 ghost use Rattle.peer_book.specs.Marks.{no_marks};
-ghost use Rattle.peer_book.specs.Peers.{up_peer, down_peer, is_up_at, is_complete_at, with_peer, with_mark};
+ghost use Rattle.peer_book.specs.Peers.{up_peer, down_peer, is_up_at, info_at, is_complete_at, with_peer, with_mark};
 ghost use Rattle.peer_book.specs.Standing.{StandsForPeers};
 
 use crate::peer::{Peer, PeerState};
@@ -88,6 +89,16 @@ impl PeerBook {
         match self.peers.get(key) {
             Some(peer) => peer.is_up(),
             None => false,
+        }
+    }
+
+    /// What the last Peer Up of a peer told (RFC 7854, section 4.10). None exactly where the peer isn't up.
+    pub fn info(&self, key: &PeerKey) -> Option<&PeerInfo>
+        ensures { option_map (λ i. i.now) result ≡ info_at self.now key.now }
+    {
+        match self.peers.get(key) {
+            Some(peer) => peer.info(),
+            None => None,
         }
     }
 

@@ -1,6 +1,7 @@
 ghost use Rattle.std.specs.Prelude.{◌≡◌, IfOk};
+ghost use Rattle.std.specs.Option.{option_map};
 ghost use Rattle.peer_book.specs.Marks.{no_marks};
-ghost use Rattle.peer_book.specs.Peers.{peer_value, state_value, state_of, is_up_peer, is_complete_peer, marked_peer};
+ghost use Rattle.peer_book.specs.Peers.{peer_value, state_value, state_of, is_up_peer, info_of, is_complete_peer, marked_peer};
 
 use crate::marks::Marks;
 use bgp_open::{DownInfo, PeerInfo};
@@ -56,6 +57,16 @@ impl Peer {
         match &self.state {
             PeerState::Up(_) => true,
             PeerState::Down(_) => false,
+        }
+    }
+
+    // What its last Peer Up told, where it is up.
+    pub(crate) fn info(&self) -> Option<&PeerInfo>
+        ensures { option_map (λ i. i.now) result ≡ info_of self.now }
+    {
+        match &self.state {
+            PeerState::Up(info) => Some(info),
+            PeerState::Down(_) => None,
         }
     }
 
