@@ -1,11 +1,12 @@
 //! The lines of replies, each written by one call to any sink. No call takes memory.
 //!
 //! A reply is a first line, the lines of its rows and a last line; a route line tells a route's place
-//! and its path attributes (RFC 4271, section 5). Behind the reply of a replay stands the stop line. A
-//! line is some tens of small writes: lay a `BufferedSink` over a sink that is slow.
+//! and its path attributes (RFC 4271, section 5), and a `rov` line its place, its origin AS and what it is
+//! judged to be. Behind the reply of a replay stands the stop line. A line is some tens of small writes:
+//! lay a `BufferedSink` over a sink that is slow.
 //!
-//! Proved: each call writes exactly the line that `bmp_specs` defines, and answers `Failed` only where a
-//! write failed, after a front of the line.
+//! Proved: each call writes exactly the line that `bmp_specs` defines, the `rov` line that of `specs/Rov.antt`,
+//! and answers `Failed` only where a write failed, after a front of the line.
 //! Begin with `specs/Lines.antt` and `specs/RouteLine.antt` of `bmp_specs`, then `src/lines.rt`.
 #![tactic(auto)]
 
@@ -22,6 +23,8 @@ mod pen;
 mod route;
 mod route_lines;
 mod router;
+mod rov;
+mod rov_lines;
 mod stat;
 mod values;
 
@@ -33,5 +36,7 @@ pub use peer::put_peer;
 pub use route::put_route;
 pub use route_lines::{RouteLines, is_short};
 pub use router::{RouterLine, RouterState, put_router};
+pub use rov::put_rov;
+pub use rov_lines::RovLines;
 pub use stat::put_stat;
 pub use wire_io::{Failed, Sink};

@@ -446,12 +446,19 @@ pub(crate) fn fields(
     id(line, next, nlri.id)
 }
 
-// Puts what the lines of a table's routes begin with.
-pub(crate) fn front(line: &mut [u8; ROOM], lane: u32, key: &PeerKey, view: View) -> usize
-    ensures whole { take result line.new ≡ front_text (record { lane = lane; key = key.now; view = view }) }
+// Puts what the lines of a table begin with: the word with the space behind it, the lane, the peer and the view.
+pub(crate) fn front(
+    line: &mut [u8; ROOM],
+    first: &[u8],
+    lane: u32,
+    key: &PeerKey,
+    view: View,
+) -> usize
+    requires { length first.now ≤ 6 }
+    ensures whole { take result line.new ≡ front_text first.now (record { lane = lane; key = key.now; view = view }) }
     ensures short { result ≤ 147 }
 {
-    let next = word(line, 0, b"route ");
+    let next = word(line, 0, first);
     let next = number(line, next, lane);
     let next = byte(line, next, b' ');
     let next = word(line, next, key.text().as_slice());

@@ -31,14 +31,14 @@ pub struct RouteLines {
 }
 
 impl Model for RouteLines {
-    ghost use Rattle.std.specs.Prelude.{◌≡◌, ◌≤◌, take};
+    ghost use Rattle.std.specs.Prelude.{◌≡◌, ◌≤◌, codes, take};
     ghost use Rattle.reply_text.specs.Fronts.{TableValue, front_text};
 
     ghost Value = { TableValue };
 
     ghost view = { λ l. record { lane = l.lane; key = l.key; view = l.view } };
 
-    ghost invariant = { λ l. (take l.front l.line ≡ front_text (record { lane = l.lane; key = l.key; view = l.view })) × (l.front ≤ 147) };
+    ghost invariant = { λ l. (take l.front l.line ≡ front_text (codes "route ") (record { lane = l.lane; key = l.key; view = l.view })) × (l.front ≤ 147) };
 }
 
 impl RouteLines {
@@ -47,7 +47,7 @@ impl RouteLines {
         ensures { result ≡ record { lane = lane; key = key; view = view } }
     {
         let mut line = [0u8; ROOM];
-        let front = front(&mut line, lane, &key, view);
+        let front = front(&mut line, b"route ", lane, &key, view);
         RouteLines {
             lane,
             key,
