@@ -1,12 +1,13 @@
-//! Runs the calls on tables, queries and replies on the cases of standard input: on each line a word and what the call
-//! is given. Behind each it prints what the call answers. A line that begins with `#` tells of the cases after it, and
-//! prints nothing. The files `stdin` and `stdout` are the cases and the answers that RFCs, captures and rows worked by
-//! hand have.
+//! Runs the calls on tables, queries, replies and VRPs on the cases of standard input: on each line a word and what the
+//! call is given. Behind each it prints what the call answers. A line that begins with `#` tells of the cases after it,
+//! and prints nothing. The files `stdin` and `stdout` are the cases and the answers that RFCs, captures and rows worked
+//! by hand have.
 #![tactic(auto)]
 
 mod asks;
 mod entries;
 mod lines;
+mod origins;
 mod peers;
 mod queries;
 mod routes;
@@ -103,6 +104,7 @@ fn answer(
     let is_known = answer_tables(alloc, out, words)?
         || sessions::answer(alloc, out, case, words)?
         || asks::answer(alloc, out, cut, case, words)?
+        || origins::answer(alloc, out, case, words)?
         || queries::answer(alloc, out, case, words)?
         || lines::answer(alloc, out, words)?;
     if is_known { Ok(()) } else { out.push_str("?") }
