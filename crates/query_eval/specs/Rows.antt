@@ -48,8 +48,12 @@ asked_of asking t = map (row_of t.key t.view) (filter (asking t.pairs) t.pairs)
 abbrev pub asked_rows : Asking → List PeerTableValue → List RowValue
 asked_rows asking tables = flat_map (asked_of asking) tables
 
+-- their lines, and the lines of a table's pairs by what tells each of them
 abbrev pub lines_of : ℕ → List RowValue → List (List ℕ)
 lines_of lane rows = map (route_line lane) rows
+
+abbrev pub lines_by : (NlriValue → AttrsValue → List ℕ) → Table → List (List ℕ)
+lines_by line pairs = map (λ e. line e.0 e.1) pairs
 
 -- the rows of a lane that a query asks for
 abbrev pub lane_rows : Asking → SelectValue → ℕ → TablesValue → List RowValue

@@ -1,8 +1,11 @@
+ghost use Rattle.std.specs.Prelude.{ℕ, List, map};
 ghost use Rattle.std.specs.List.Sorted.{IsStrictlySortedBy};
 ghost use Rattle.std.specs.Map.{keys_of};
 ghost use Rattle.bmp_specs.specs.Orders.{key_cmp};
+ghost use Rattle.bmp_specs.specs.RouteLine.{route_line};
+ghost use Rattle.bmp_specs.specs.Rows.{RowValue};
 ghost use Rattle.query_eval.specs.Puts.{WritesLines};
-ghost use Rattle.query_eval.specs.Rows.{Asking, asked_of, lane_rows, lines_of};
+ghost use Rattle.query_eval.specs.Rows.{Asking, asked_of, lane_rows};
 ghost use Rattle.query_eval.specs.RowTables.{table_value};
 
 use crate::tables::{AskedTables, PeerTable};
@@ -15,6 +18,9 @@ pub(crate) trait Asks {
     /// Which pairs of a table are asked for.
     ghost asking: { Self → Asking };
 
+    /// The line of a row of a lane.
+    ghost line: { Self → ℕ → RowValue → List ℕ } = { λ _ lane. route_line lane };
+
     /// Writes the lines of a table's rows that are asked for, and answers how many.
     fn put_asked<O: Sink>(
         &self,
@@ -22,7 +28,7 @@ pub(crate) trait Asks {
         lane: u32,
         table: &PeerTable<'_>,
     ) -> Result<u64, Failed>
-        ensures { WritesLines O.faults O.told O.aside out.old (lines_of lane (asked_of (asking self.now) (table_value table.now))) result out.new };
+        ensures { WritesLines O.faults O.told O.aside out.old (map (line self.now lane) (asked_of (asking self.now) (table_value table.now))) result out.new };
 }
 
 /// Writes the lines of a lane's rows that are asked for, and answers how many.
@@ -33,7 +39,7 @@ pub(crate) fn put_rows<O: Sink, A: Asks>(
     select: &Select,
     asks: &A,
 ) -> Result<u64, Failed>
-    ensures writes { WritesLines O.faults O.told O.aside out.old (lines_of lane (lane_rows (A.asking asks.now) select.now lane tables.now)) result out.new }
+    ensures writes { WritesLines O.faults O.told O.aside out.old (map (A.line asks.now lane) (lane_rows (A.asking asks.now) select.now lane tables.now)) result out.new }
     ensures ordered { IsStrictlySortedBy key_cmp (keys_of tables.now.session.books.peers) }
 {
     let mut count: u64 = 0;

@@ -1,12 +1,12 @@
-ghost use Rattle.std.specs.Prelude.{◌≡◌, ◌<◌, ◌≤◌, ◌++◌, length, map, take};
+ghost use Rattle.std.specs.Prelude.{◌≡◌, ◌<◌, ◌≤◌, ◌++◌, length, take};
 ghost use Rattle.query_eval.specs.Puts.{WritesLines};
 ghost use Rattle.query_eval.specs.RowRuns.{front_of, shown_all};
-ghost use Rattle.query_eval.specs.Rows.{lines_of, row_of};
+ghost use Rattle.query_eval.specs.Rows.{lines_by};
 
 use crate::pairs::Pairs;
 use crate::run::Run;
+use crate::tells::TellsTable;
 use ip_prefix::Nlri;
-use reply_text::{RouteLines, is_short};
 use rib_model::Route;
 use wire_io::{Failed, Sink};
 
@@ -41,10 +41,10 @@ pub(crate) fn gather<'a, W: Pairs<'a>>(
     count
 }
 
-// Whether the text of each route's path attributes is short.
-fn are_short(routes: &[&Route]) -> bool {
+// Whether the line of each route may be put together in one array.
+fn are_short<L: TellsTable>(lines: &L, routes: &[&Route]) -> bool {
     for route in routes {
-        if !is_short(route) {
+        if !lines.has_short_line(route) {
             return false;
         }
     }
@@ -52,22 +52,22 @@ fn are_short(routes: &[&Route]) -> bool {
 }
 
 /// Writes the lines of the pairs, and answers how many.
-pub(crate) fn put_batch<O: Sink>(
+pub(crate) fn put_batch<O: Sink, L: TellsTable>(
     out: &mut O,
-    lines: &mut RouteLines,
+    lines: &mut L,
     nlris: &[Nlri],
     routes: &[&Route],
 ) -> Result<u64, Failed>
     requires { length nlris.now ≡ length routes.now }
     ensures same { lines.new ≡ lines.old }
-    ensures writes { WritesLines O.faults O.told O.aside out.old (lines_of lines.old.lane (map (row_of lines.old.key lines.old.view) (shown_all nlris.now routes.now))) result out.new }
+    ensures writes { WritesLines O.faults O.told O.aside out.old (lines_by (L.line lines.old) (shown_all nlris.now routes.now)) result out.new }
 {
-    let short = are_short(routes);
+    let short = are_short(lines, routes);
     let mut count: u64 = 0;
     for at in 0..nlris.len() {
         let nlri = nlris[at];
         let route = routes[at];
-        lines.put(out, &nlri, route, short)?;
+        lines.put_row(out, &nlri, route, short)?;
         count = count.saturating_add(1);
     }
     Ok(count)

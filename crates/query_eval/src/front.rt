@@ -2,25 +2,26 @@ ghost use Rattle.std.specs.Prelude.{◌≡◌, length, map};
 ghost use Rattle.bmp_specs.specs.Reply.{told_count};
 ghost use Rattle.query_eval.specs.Puts.{WritesLines};
 ghost use Rattle.query_eval.specs.RowRuns.{front_of};
-ghost use Rattle.query_eval.specs.Rows.{lines_of, row_of};
+ghost use Rattle.query_eval.specs.Rows.{row_of};
 
 use crate::batch::{AHEAD, gather, put_batch};
 use crate::pairs::Pairs;
 use crate::run::Run;
 use crate::tables::PeerTable;
-use reply_text::RouteLines;
+use crate::tells::TellsRow;
 use wire_io::{Failed, Sink};
 
 /// Writes the lines of a table's routes that a walk gives, up to the first that isn't in the run, and answers how
 /// many.
-pub(crate) fn put_front<'a, O: Sink, W: Pairs<'a> + Drop>(
+pub(crate) fn put_front<'a, O: Sink, W: Pairs<'a> + Drop, T: TellsRow>(
     out: &mut O,
     lane: u32,
     table: &PeerTable<'_>,
     walk: W,
     run: &Run,
+    tells: &T,
 ) -> Result<u64, Failed>
-    ensures { WritesLines O.faults O.told O.aside out.old (lines_of lane (map (row_of table.now.key table.now.view) (front_of run.now (W.left walk)))) result out.new }
+    ensures { WritesLines O.faults O.told O.aside out.old (map (T.line tells.now lane) (map (row_of table.now.key table.now.view) (front_of run.now (W.left walk)))) result out.new }
 {
     let mut walk = walk;
     let Some(found) = walk.next_pair() else {
@@ -31,7 +32,7 @@ pub(crate) fn put_front<'a, O: Sink, W: Pairs<'a> + Drop>(
     }
     let mut nlris = [found.0; AHEAD];
     let mut routes = [found.1; AHEAD];
-    let mut lines = RouteLines::new(lane, table.key, table.view);
+    let mut lines = tells.begin_table(lane, table.key, table.view);
     let mut count = put_batch(out, &mut lines, &nlris[..1], &routes[..1])?;
     loop {
         let some = gather(&mut walk, run, &mut nlris, &mut routes);

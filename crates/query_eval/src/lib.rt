@@ -4,7 +4,8 @@
 //! cut, a line for each row, lane after lane, and the number of rows. It takes no memory and no lock.
 //!
 //! Proved: `answer` writes the reply on every history that the cut stands for, or a front of it where a
-//! write failed.
+//! write failed. `put_told_within` writes the rows that `within P` asks of a lane, each by a line of the
+//! caller's own.
 //! Begin with `specs/QueryReply.antt` of `bmp_specs`, which has the replies by the entries of each lane,
 //! then `specs/Puts.antt`, `specs/Replies.antt` and `src/reply.rt`.
 #![tactic(auto)]
@@ -29,6 +30,9 @@ mod selection;
 mod stats;
 mod table;
 mod tables;
+mod tells;
 mod within;
 
 pub use reply::answer;
+pub use tells::{TellsRow, TellsTable};
+pub use within::put_told_within;

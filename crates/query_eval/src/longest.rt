@@ -11,6 +11,7 @@ use crate::asks::{Asks, put_rows};
 use crate::run::{Part, Run};
 use crate::run_rows::put_run;
 use crate::tables::PeerTable;
+use crate::tells::AsRoutes;
 use bmp_specs::Family;
 use ip_prefix::{Addr, Prefix};
 use prefix_trie::Steps;
@@ -64,7 +65,7 @@ fn put_found<O: Sink>(
                 family: asks.family,
                 part: Part::Exact(prefix),
             };
-            put_run(out, lane, table, &run)
+            put_run(out, lane, table, &run, &AsRoutes)
         }
         None => Ok(0),
     }

@@ -8,6 +8,7 @@ use crate::asks::{Asks, put_rows};
 use crate::front::put_front;
 use crate::run::{Part, Run};
 use crate::tables::PeerTable;
+use crate::tells::AsRoutes;
 use bmp_specs::Family;
 use query_lang::Select;
 use router_tables::RouterTables;
@@ -35,7 +36,14 @@ impl Asks for OriginRows {
         };
         let routes = table.table;
         routes.see_order();
-        put_front(out, lane, table, routes.origin(self.asn, run.begin()), &run)
+        put_front(
+            out,
+            lane,
+            table,
+            routes.origin(self.asn, run.begin()),
+            &run,
+            &AsRoutes,
+        )
     }
 }
 

@@ -1,26 +1,29 @@
+ghost use Rattle.std.specs.Prelude.{map};
 ghost use Rattle.query_eval.specs.Puts.{WritesLines};
-ghost use Rattle.query_eval.specs.Rows.{asked_of, asks_run, lines_of};
+ghost use Rattle.query_eval.specs.Rows.{asked_of, asks_run};
 ghost use Rattle.query_eval.specs.RowTables.{table_value};
 
 use crate::asks::Asks;
 use crate::front::put_front;
 use crate::run::Run;
 use crate::tables::PeerTable;
+use crate::tells::{AsRoutes, TellsRow};
 use wire_io::{Failed, Sink};
 
 /// Writes the lines of a table's rows that are in a run, and answers how many. It looks at no row but these and the
 /// first behind them.
-pub(crate) fn put_run<O: Sink>(
+pub(crate) fn put_run<O: Sink, T: TellsRow>(
     out: &mut O,
     lane: u32,
     table: &PeerTable<'_>,
     run: &Run,
+    tells: &T,
 ) -> Result<u64, Failed>
-    ensures { WritesLines O.faults O.told O.aside out.old (lines_of lane (asked_of (asks_run run.now) (table_value table.now))) result out.new }
+    ensures { WritesLines O.faults O.told O.aside out.old (map (T.line tells.now lane) (asked_of (asks_run run.now) (table_value table.now))) result out.new }
 {
     let routes = table.table;
     routes.see_order();
-    put_front(out, lane, table, routes.walk(run.begin()), run)
+    put_front(out, lane, table, routes.walk(run.begin()), run, tells)
 }
 
 impl Asks for Run {
@@ -32,6 +35,28 @@ impl Asks for Run {
         lane: u32,
         table: &PeerTable<'_>,
     ) -> Result<u64, Failed> {
-        put_run(out, lane, table, self)
+        put_run(out, lane, table, self, &AsRoutes)
+    }
+}
+
+/// A run whose rows are told in a way of its own.
+#[derive(Drop)]
+pub(crate) struct ToldRun<'a, T> {
+    pub(crate) run: Run,
+    pub(crate) tells: &'a T,
+}
+
+impl<'a, T: TellsRow> Asks for ToldRun<'a, T> {
+    ghost asking = { λ told. asks_run told.run };
+
+    ghost line = { λ told. T.line told.tells.now };
+
+    fn put_asked<O: Sink>(
+        &self,
+        out: &mut O,
+        lane: u32,
+        table: &PeerTable<'_>,
+    ) -> Result<u64, Failed> {
+        put_run(out, lane, table, &self.run, self.tells)
     }
 }

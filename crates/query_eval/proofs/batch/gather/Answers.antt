@@ -1,4 +1,4 @@
-use Rattle.std.proofs.Common.{◌≡◌, sym, ◌∙◌, ◌++◌, ap, arith, length, length-take, take}
+use Rattle.std.proofs.Common.{◌≡◌, sym, ◌∙◌, ap, arith, length, length-take, take}
 use Rattle.std.proofs.lemmas.List.{take_more_set}
 use Rattle.route_runs.specs.Runs.{shared}
 use Rattle.query_eval.proofs.Batches.{shown_more}
