@@ -1,0 +1,108 @@
+ghost use Rattle.std.specs.Prelude.{◌≡◌, List, ℕ};
+ghost use Rattle.std.specs.Option.{option_map};
+ghost use Rattle.bmp_specs.specs.Values.{EntryValue};
+ghost use Rattle.router_tables.specs.Tables.{StandsFor};
+ghost use Rattle.query_eval.specs.Puts.{WritesLines};
+ghost use Rattle.rov_reply.specs.RovLines.{AreRovLines, info_origin, line_by_info, line_by_peers, verdict_text};
+
+use bgp_open::PeerInfo;
+use bmp_frames::PeerKey;
+use bmp_specs::View;
+use ip_prefix::{Nlri, Prefix};
+use path_attrs::Attrs;
+use peer_book::PeerBook;
+use query_eval::{TellsRow, TellsTable, put_told_within};
+use reply_text::RovLines;
+use router_tables::RouterTables;
+use rov_table::{Verdict, VrpTable, origin_of, verdict};
+use wire_io::{Failed, Sink};
+
+// Rows are told with the verdicts that these VRPs give; the origins of their routes are by these peers.
+#[derive(Drop)]
+struct RovRows<'a> {
+    vrps: &'a VrpTable,
+    peers: &'a PeerBook,
+}
+
+// What writes the lines of one table, whose peer told this in its Peer Up.
+#[derive(Drop)]
+struct RovTable<'a> {
+    lines: RovLines,
+    vrps: &'a VrpTable,
+    info: Option<&'a PeerInfo>,
+}
+
+// The word of a verdict.
+fn verdict_word(found: Verdict) -> &'static [u8]
+    ensures { result.now ≡ verdict_text found }
+{
+    match found {
+        Verdict::Valid => b"valid",
+        Verdict::Invalid => b"invalid",
+        Verdict::NotFound => b"not-found",
+    }
+}
+
+// The origin of a route, by what its peer told.
+fn origin_by(info: Option<&PeerInfo>, attrs: &Attrs) -> Option<u32>
+    ensures { result ≡ info_origin (option_map (λ i. i.now) info.entry) attrs.now }
+{
+    match info {
+        Some(info) => origin_of(attrs, info),
+        None => None,
+    }
+}
+
+impl<'a> TellsTable for RovTable<'a> {
+    ghost line = { λ t nlri attrs. line_by_info t.vrps.now (option_map (λ i. i.now) t.info) t.lines.lane (record { row_key = record { key = t.lines.key; view = t.lines.view; nlri = nlri }; route = attrs }) };
+
+    // Where a route has no origin the line goes piece by piece; so the path of each is looked at ahead of its line.
+    fn has_short_line(&self, attrs: &Attrs) -> bool {
+        origin_by(self.info, attrs).is_some()
+    }
+
+    fn put_row<O: Sink>(
+        &mut self,
+        out: &mut O,
+        nlri: &Nlri,
+        attrs: &Attrs,
+        short: bool,
+    ) -> Result<(), Failed> {
+        let origin = origin_by(self.info, attrs);
+        let found = verdict(self.vrps, &nlri.prefix, origin);
+        self.lines
+            .put(out, nlri, origin, verdict_word(found), short)
+    }
+}
+
+impl<'a> TellsRow for RovRows<'a> {
+    ghost line = { λ r lane row. line_by_peers r.vrps.now r.peers.now lane row };
+
+    type Lines = RovTable<'a>;
+
+    fn begin_table(&self, lane: u32, key: PeerKey, view: View) -> RovTable<'a> {
+        let peers = self.peers;
+        RovTable {
+            lines: RovLines::new(lane, key, view),
+            vrps: self.vrps,
+            info: peers.info(&key),
+        }
+    }
+}
+
+// Writes the line of each row that `within P` asks of a lane, and answers how many.
+pub(crate) fn put_rov_rows<O: Sink>(
+    out: &mut O,
+    lane: u32,
+    tables: &RouterTables,
+    vrps: &VrpTable,
+    prefix: &Prefix,
+) -> Result<u64, Failed>
+    ensures { (entries : List EntryValue) → StandsFor tables.now entries → (lines : List (List ℕ)) × AreRovLines vrps.now prefix.now lane entries lines × WritesLines O.faults O.told O.aside out.old lines result out.new }
+{
+    let rows = RovRows {
+        vrps,
+        peers: tables.peers(),
+    };
+    put_told_within(out, lane, tables, prefix, &rows)
+}
