@@ -1,0 +1,4 @@
+pub mod Torn
+pub mod Passing
+pub mod PutImages
+pub mod Noted
