@@ -1,0 +1,10 @@
+pub mod Records
+pub mod Windows
+pub mod OneContent
+pub mod Appended
+pub mod Reading
+pub mod Empty
+pub mod Begun
+pub mod Steps
+pub mod Kept
+pub mod Telling

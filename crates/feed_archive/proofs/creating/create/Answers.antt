@@ -1,0 +1,26 @@
+use Rattle.std.proofs.Common.{◌≡◌, length, arith}
+use Rattle.disk_doors.proofs.Passing.{sizes_lasts, writes_lasts, syncs_lasts, lasts_then}
+use Rattle.feed_archive.proofs.Empty.{created}
+use Rattle.feed_archive.proofs.creating.create.Goals as goal
+
+pub returns-clause-told : goal.returns-clause-told
+returns-clause-told g c = λ t.
+    let none : length (g.D.Disk.shows c.args.disk.now).now.file ≡ 0 = omega (arith, (c.in_ok-size.ensures.told t).size, c.if-branch-ne0.false) in
+    created _ _ _ _ _ _ _ none (c.in_ok-size.ensures.told t) (c.in_ok-write_at.ensures.told t) (c.in_ok-sync.ensures.told t)
+
+pub returns-in_err-size-clause-lasts : goal.returns-in_err-size-clause-lasts
+returns-in_err-size-clause-lasts g c = λ t. (sizes_lasts _ _ _ (c.in_err-size.ensures.told t))
+
+pub returns-then-branch-ne0-clause-lasts : goal.returns-then-branch-ne0-clause-lasts
+returns-then-branch-ne0-clause-lasts g c = λ t. (sizes_lasts _ _ _ (c.in_ok-size.ensures.told t))
+
+pub returns-in_err-write_at-clause-lasts : goal.returns-in_err-write_at-clause-lasts
+returns-in_err-write_at-clause-lasts g c = λ t. lasts_then _ _ _ (sizes_lasts _ _ _ (c.in_ok-size.ensures.told t)) (writes_lasts _ _ _ _ _ (c.in_err-write_at.ensures.told t))
+
+pub returns-in_err-sync-clause-lasts : goal.returns-in_err-sync-clause-lasts
+returns-in_err-sync-clause-lasts g c = λ t.
+    lasts_then _ _ _ (lasts_then _ _ _ (sizes_lasts _ _ _ (c.in_ok-size.ensures.told t)) (writes_lasts _ _ _ _ _ (c.in_ok-write_at.ensures.told t))) (syncs_lasts _ _ _ (c.in_err-sync.ensures.told t))
+
+pub returns-clause-lasts : goal.returns-clause-lasts
+returns-clause-lasts g c = λ t.
+    lasts_then _ _ _ (lasts_then _ _ _ (sizes_lasts _ _ _ (c.in_ok-size.ensures.told t)) (writes_lasts _ _ _ _ _ (c.in_ok-write_at.ensures.told t))) (syncs_lasts _ _ _ (c.in_ok-sync.ensures.told t))

@@ -1,0 +1,9 @@
+use Rattle.std.proofs.Common.{refl, subst, Ok}
+use mathlib.Core.Bool.{Bool}
+use Rattle.station_doors.specs.Doors.{Opens}
+use Rattle.feed_archive.proofs.Kept.{kept_on, exact_on, disk_on}
+use Rattle.feed_archive.proofs.Telling.{tells_opens, inner_opens, place_on}
+use Rattle.feed_archive.proofs.keeping.KeepPortPort.next_connection.Goals as goal
+
+pub invariant_of-self : goal.invariant_of-self
+invariant_of-self g c = rw c.note.ensures (c.self.invariant.0, kept_on 1 _ _ _ _ c.self.invariant.1, tells_opens _ (g.P.Port.aside c.self.inside.inner) (g.P.Port.aside c.next_connection.new.self) (g.P.Port.aside c.self.inside.before.value) c.self.inside.notes.events c.self.invariant.2 (subst (λ (b : Bool). Opens (g.P.Port.aside c.self.inside.inner) (g.P.Port.aside c.next_connection.new.self) (Ok b)) c.in-Ok-true.field-0-test c.in-Ok-true.ensures.opens), c.self.invariant.3, exact_on 1 _ _ _ _ _ c.self.invariant.4, inner_opens _ (g.P.Port.aside c.self.inside.inner) (g.P.Port.aside c.next_connection.new.self) c.self.inside.notes.events _ c.self.invariant.5 _ c.in-Ok-true.ensures.opens c.in-Ok-true.ensures.planned refl, place_on 1 _ _ c.self.inside.notes.events _ c.self.invariant.6, c.self.invariant.7, disk_on 1 _ _ _ _ c.self.inside.notes.events _ c.self.invariant.8, c.self.invariant.9)

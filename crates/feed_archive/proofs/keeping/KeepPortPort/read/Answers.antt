@@ -1,0 +1,73 @@
+use Rattle.std.proofs.Common.{◌≡◌, ℕ, take, sym, ◌∙◌, subst, refl, Ok, arith, length-take, length-append, append-nil}
+use Rattle.station_doors.specs.Doors.{Reads}
+use Rattle.feed_archive.specs.Keeping.{keep_aside, is_refused, gave}
+use Rattle.std.specs.Option.{is_some}
+use mathlib.Core.Bool.{true, false}
+use Rattle.feed_archive.proofs.Kept.{kept_on, kept_gave, kept_lost, cause_refused, cause_none, cause_kept, exact_on, exact_gave, exact_lost, refused_same, between_rest, between_gave, between_step, disk_on, disk_gave, disk_lost, going_gave, going_lost}
+use Rattle.feed_archive.proofs.Telling.{tells_gave, tells_none, tells_failed, tells_lost, tells_later, open_is, inner_gave, inner_failed, inner_same, place_on, place_gave, place_lost, moved, behind}
+use Rattle.feed_archive.proofs.keeping.KeepPortPort.read.Goals as goal
+
+pub invariant_of-self : goal.invariant_of-self
+invariant_of-self g c = rw c.note.ensures (c.self.invariant.0, kept_on 0 _ _ _ _ c.self.invariant.1, tells_later _ (g.P.Port.aside c.self.inside.inner) (g.P.Port.aside c.self.inside.inner) (g.P.Port.aside c.self.inside.before.value) c.self.inside.notes.events c.self.invariant.2 (record {}) (c.self.invariant.0 ∙ cc (c.is_some.ensures, c.if-is_some.true)), c.self.invariant.3, exact_on 0 _ _ _ _ _ c.self.invariant.4, inner_same _ (g.P.Port.aside c.self.inside.inner) c.self.inside.notes.events _ refl c.self.invariant.5, place_on 0 _ _ c.self.inside.notes.events _ c.self.invariant.6, c.self.invariant.7, disk_on 0 _ _ _ _ c.self.inside.notes.events _ c.self.invariant.8, c.self.invariant.9)
+
+pub invariant_of-self-in-Ok-append : goal.invariant_of-self-in-Ok-append
+invariant_of-self-in-Ok-append g c =
+    let fine : is_some c.self.inside.refused ≡ false = cc (c.is_some.ensures, c.if-is_some.false) in
+    rw c.note-in-Ok-append.ensures (
+      c.self.invariant.0,
+      kept_gave _ _ _ _ _ _ c.self.invariant.1 (c.self.invariant.0 ∙ fine) c.in-Ok-append.ensures.any_moment c.in-Ok-append.ensures.kept,
+      tells_gave _ (g.P.Port.aside c.self.inside.inner) (g.P.Port.aside c.read.new.self) (g.P.Port.aside c.self.inside.before.value) c.self.inside.notes.events c.self.invariant.2 (g.P.Port.aside c.of.result.value) _ _ (c.self.invariant.0 ∙ fine) (subst (λ v. (keep_aside (g.P.Port.aside v.inner) (g.P.Port.aside v.before) v.events).is_open ≡ true) (sym c.self.view_is) c.requires.is_open) c.in-Ok.ensures.reads,
+      cause_kept _ _ _ _ fine c.self.invariant.3 c.in-Ok-append.ensures.cause,
+      exact_gave _ _ _ _ _ _ c.self.invariant.1 (c.self.invariant.0 ∙ fine) c.in-Ok-append.ensures.any_moment _ c.in-Ok-append.ensures.kept,
+      inner_gave _ (g.P.Port.aside c.self.inside.inner) (g.P.Port.aside c.read.new.self) c.self.inside.notes.events _ c.self.invariant.5 _ _ (sym (open_is (is_refused c.self.inside.notes.events) (g.P.Port.aside c.self.inside.inner) (g.P.Port.aside c.self.inside.before.value) c.self.inside.notes.events) ∙ subst (λ v. (keep_aside (g.P.Port.aside v.inner) (g.P.Port.aside v.before) v.events).is_open ≡ true) (sym c.self.view_is) c.requires.is_open) c.in-Ok.ensures.reads (moved _ _ _ (c.self.invariant.1.none (c.self.invariant.0 ∙ fine))),
+      place_gave _ _ _ c.self.inside.notes.events _ _ fine c.self.invariant.6 (omega (arith, length-take c.in-Ok.count c.read.new.buf, c.if-count-eq0.false, c.in-Ok.ensures.bound)) c.in-Ok-append.ensures.answers.3,
+      omega (arith, c.self.invariant.7, length-append (gave c.self.inside.notes.events) (take c.in-Ok.count c.read.new.buf), length-take c.in-Ok.count c.read.new.buf, c.in-Ok.ensures.bound),
+      disk_gave _ _ _ _ _ c.self.inside.notes.events _ _ fine c.self.invariant.8 c.in-Ok-append.ensures.lasts,
+      going_gave _ _ _ _ c.self.invariant.9 c.in-Ok-append.ensures.answers.0 c.in-Ok-append.ensures.answers.2,
+    )
+
+pub invariant_of-self-in-Err-append : goal.invariant_of-self-in-Err-append
+invariant_of-self-in-Err-append g c =
+    let fine : is_some c.self.inside.refused ≡ false = cc (c.is_some.ensures, c.if-is_some.false) in
+    rw (c.note-in-Err-append.ensures, c.of.ensures) (
+      refl,
+      kept_lost _ _ _ _ _ _ c.self.invariant.1 (c.self.invariant.0 ∙ fine) c.in-Err-append.ensures.any_moment (omega (arith, length-take c.in-Ok.count c.read.new.buf, c.read.auto.buf, c.requires.size)),
+      tells_lost _ (g.P.Port.aside c.self.inside.inner) (g.P.Port.aside c.read.new.self) (g.P.Port.aside c.self.inside.before.value) c.self.inside.notes.events c.self.invariant.2 c.in-Ok.count c.read.new.buf (take c.in-Ok.count c.read.new.buf) (record {}) (c.self.invariant.0 ∙ fine) c.in-Ok.ensures.reads,
+      cause_refused _ _ _ _ (cause_none _ _ _ fine c.self.invariant.3) c.in-Err-append.ensures.cause,
+      exact_lost _ _ _ _ _ _ c.self.invariant.1 (c.self.invariant.0 ∙ fine) c.in-Err-append.ensures.any_moment _ (refused_same g.D.Disk.shows _ _ _ _ c.in-Err-append.ensures.answers),
+      inner_gave _ (g.P.Port.aside c.self.inside.inner) (g.P.Port.aside c.read.new.self) c.self.inside.notes.events _ c.self.invariant.5 _ _ (sym (open_is (is_refused c.self.inside.notes.events) (g.P.Port.aside c.self.inside.inner) (g.P.Port.aside c.self.inside.before.value) c.self.inside.notes.events) ∙ subst (λ v. (keep_aside (g.P.Port.aside v.inner) (g.P.Port.aside v.before) v.events).is_open ≡ true) (sym c.self.view_is) c.requires.is_open) c.in-Ok.ensures.reads (behind _ _ _ (c.self.invariant.1.none (c.self.invariant.0 ∙ fine))),
+      place_lost _ _ _ c.self.inside.notes.events _ _ _ fine c.self.invariant.6 c.in-Err-append.ensures.answers (omega (arith, length-take c.in-Ok.count c.read.new.buf, c.if-count-eq0.false, c.in-Ok.ensures.bound)),
+      c.self.invariant.7,
+      disk_lost _ _ _ _ _ _ c.self.inside.notes.events _ _ _ fine c.self.invariant.8 c.self.invariant.6 c.in-Err-append.ensures.lasts c.in-Err-append.ensures.planned (omega (arith, length-take c.in-Ok.count c.read.new.buf, c.if-count-eq0.false, c.in-Ok.ensures.bound)),
+      going_lost _ _ _ _ _ _ fine c.self.invariant.9 c.in-Err-append.ensures.answers,
+    )
+
+pub invariant_of-self-in-Err : goal.invariant_of-self-in-Err
+invariant_of-self-in-Err g c =
+    let fine : is_some c.self.inside.refused ≡ false = cc (c.is_some.ensures, c.if-is_some.false) in
+    (c.self.invariant.0, c.self.invariant.1, tells_failed _ (g.P.Port.aside c.self.inside.inner) (g.P.Port.aside c.read.new.self) (g.P.Port.aside c.self.inside.before.value) c.self.inside.notes.events c.self.invariant.2 (g.P.Port.aside c.of.result.value) _ c.read.new.buf (c.self.invariant.0 ∙ fine) c.in-Err.ensures.reads, c.self.invariant.3, c.self.invariant.4, inner_failed _ (g.P.Port.aside c.self.inside.inner) (g.P.Port.aside c.read.new.self) c.self.inside.notes.events _ c.self.invariant.5 _ _ _ _ c.in-Err.ensures.reads c.in-Err.ensures.planned refl, c.self.invariant.6, c.self.invariant.7, c.self.invariant.8, c.self.invariant.9)
+
+pub invariant_of-self-then-count-eq0 : goal.invariant_of-self-then-count-eq0
+invariant_of-self-then-count-eq0 g c =
+    let fine : is_some c.self.inside.refused ≡ false = cc (c.is_some.ensures, c.if-is_some.false) in
+    let none = subst (λ (n : ℕ). Reads (g.P.Port.aside c.self.inside.inner) (g.P.Port.aside c.read.new.self) (Ok n) c.read.new.buf) c.if-count-eq0.true c.in-Ok.ensures.reads in
+    (c.self.invariant.0, c.self.invariant.1, tells_none _ (g.P.Port.aside c.self.inside.inner) (g.P.Port.aside c.read.new.self) (g.P.Port.aside c.self.inside.before.value) c.self.inside.notes.events c.self.invariant.2 (g.P.Port.aside c.of.result.value) c.read.new.buf (c.self.invariant.0 ∙ fine) (subst (λ v. (keep_aside (g.P.Port.aside v.inner) (g.P.Port.aside v.before) v.events).is_open ≡ true) (sym c.self.view_is) c.requires.is_open) none, c.self.invariant.3, c.self.invariant.4, inner_gave _ (g.P.Port.aside c.self.inside.inner) (g.P.Port.aside c.read.new.self) c.self.inside.notes.events _ c.self.invariant.5 0 c.read.new.buf (sym (open_is (is_refused c.self.inside.notes.events) (g.P.Port.aside c.self.inside.inner) (g.P.Port.aside c.self.inside.before.value) c.self.inside.notes.events) ∙ subst (λ v. (keep_aside (g.P.Port.aside v.inner) (g.P.Port.aside v.before) v.events).is_open ≡ true) (sym c.self.view_is) c.requires.is_open) none (sym (append-nil _)), c.self.invariant.6, c.self.invariant.7, c.self.invariant.8, c.self.invariant.9)
+
+pub returns-then-is_some-clause-any_moment : goal.returns-then-is_some-clause-any_moment
+returns-then-is_some-clause-any_moment g c = rw (← c.self.view_is, c.note.ensures) (λ t first only. between_rest _ _ _ _ c.self.invariant.1 t first only)
+
+pub returns-in-Err-clause-any_moment : goal.returns-in-Err-clause-any_moment
+returns-in-Err-clause-any_moment g c = rw (← c.self.view_is) (λ t first only. between_rest _ _ _ _ c.self.invariant.1 t first only)
+
+pub returns-then-count-eq0-clause-any_moment : goal.returns-then-count-eq0-clause-any_moment
+returns-then-count-eq0-clause-any_moment g c = rw (← c.self.view_is) (λ t first only. between_rest _ _ _ _ c.self.invariant.1 t first only)
+
+pub returns-in-Ok-append-clause-any_moment : goal.returns-in-Ok-append-clause-any_moment
+returns-in-Ok-append-clause-any_moment g c =
+    let fine : is_some c.self.inside.refused ≡ false = cc (c.is_some.ensures, c.if-is_some.false) in
+    rw (← c.self.view_is, c.note-in-Ok-append.ensures) (λ t first only. between_gave _ _ _ _ _ _ c.self.invariant.1 (c.self.invariant.0 ∙ fine) c.in-Ok-append.ensures.any_moment t first only)
+
+pub returns-in-Err-append-clause-any_moment : goal.returns-in-Err-append-clause-any_moment
+returns-in-Err-append-clause-any_moment g c =
+    let fine : is_some c.self.inside.refused ≡ false = cc (c.is_some.ensures, c.if-is_some.false) in
+    rw (← c.self.view_is, c.note-in-Err-append.ensures) (λ t first only. between_step _ _ _ _ _ _ c.self.invariant.1 (c.self.invariant.0 ∙ fine) c.in-Err-append.ensures.any_moment t first only)

@@ -1,0 +1,21 @@
+ghost use Rattle.disk_doors.specs.Disk.{Lasts};
+ghost use Rattle.feed_archive.specs.Creating.{CreateCause, CreatePlanned, Creates};
+
+use crate::CreateFault;
+use disk_doors::Disk;
+
+/// Makes the archive with no content, which is the one byte 0, of a file with no bytes. It is kept after Ok; nothing is
+/// said of a crash before that. `NotEmpty` comes exactly where the file has a byte, and leaves the disk as it was.
+pub fn create<D: Disk>(disk: &mut D) -> Result<(), CreateFault>
+    ensures told { D.tells → Creates (D.shows disk.old) (D.shows disk.new) result }
+    ensures lasts { D.tells → Lasts (D.shows disk.old) (D.shows disk.new) }
+    ensures planned { D.tells → CreatePlanned (D.shows disk.old) result }
+    ensures cause { CreateCause (D.faults disk.old) (D.faults disk.new) result }
+{
+    if disk.size()? != 0 {
+        return Err(CreateFault::NotEmpty);
+    }
+    disk.write_at(0, &[0])?;
+    disk.sync()?;
+    Ok(())
+}

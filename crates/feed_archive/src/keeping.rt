@@ -1,0 +1,184 @@
+ghost use Rattle.std.specs.Prelude.{◌≡◌, ◌<◌, ◌++◌, [], None, List, ℕ, length, is_some, IsTrue};
+ghost use Rattle.std.specs.Io.{ReadsAtMost};
+ghost use Rattle.station_doors.specs.Doors.{Reads, AsPlanned, read_size};
+ghost use Rattle.disk_doors.specs.Disk.{Passes};
+ghost use Rattle.feed_archive.specs.Recovering.{HasOnly};
+ghost use Rattle.feed_archive.specs.Keeping.{HasKept, TellsBytes, InnerGave, KeepsPlace, KeepCause, KeepsExactly, KeepsDisk, KeepsGoing, HasBetween, is_refused, gave, lost, keep_aside};
+
+use crate::{AppendFault, Archive};
+use disk_doors::{Disk, Notes};
+use station_doors::Port;
+use std::marker::Model;
+use std::snapshot::Snapshot;
+use wire_io::Failed;
+
+// What was noted, in the first number of a note; `specs/Keeping.antt` says what follows from it.
+const GAVE: u64 = 0;
+
+const REFUSED: u64 = 1;
+
+const FAILED_LATER: u64 = 2;
+
+const OPENED: u64 = 3;
+
+/// A port over another, which keeps what it gives in an archive before it gives it.
+///
+/// A read asks the port below, appends what came as one record, and only then gives it. Once an append was refused, that
+/// read and each later one fails, on later connections too, and the port below isn't asked for more. What it tells are the
+/// bytes that it gave, where the port below tells its own, and no plan; the bytes of a refused append don't count among
+/// them.
+#[derive(Drop)]
+pub struct KeepPort<P: Port, D: Disk> {
+    inner: P,
+    archive: Archive<D>,
+    // The port and the archive as they were when this one was made, and the port before its last read.
+    first: Snapshot<P>,
+    made: Snapshot<Archive<D>>,
+    before: Snapshot<P>,
+    // What was given and refused, and what was called since a refusal.
+    notes: Notes,
+    // The answer of the append that was refused.
+    refused: Option<AppendFault>,
+    // How many bytes it gave.
+    given: u64,
+}
+
+impl<P: Port, D: Disk> Model for KeepPort<P, D> {
+    ghost use Rattle.std.specs.Prelude.{◌≡◌, is_some, length};
+    ghost use Rattle.feed_archive.specs.Keeping.{KeepPortValue, HasKept, TellsBytes, InnerGave, KeepsPlace, KeepCause, KeepsExactly, KeepsDisk, KeepsGoing, is_refused, gave, keep_aside};
+
+    ghost Value = { KeepPortValue P D };
+
+    ghost view = { λ k. record { inner = k.inner; archive = k.archive; first = k.first.value; made = k.made.value; before = k.before.value; events = k.notes.events; refused = k.refused } };
+
+    ghost invariant = { λ k. (is_refused k.notes.events ≡ is_some k.refused) × HasKept D.tells (D.shows k.made.value.disk) (D.shows k.archive.disk) k.notes.events
+        × TellsBytes (P.aside k.first.value) (keep_aside (P.aside k.inner) (P.aside k.before.value) k.notes.events) (gave k.notes.events)
+        × KeepCause (D.faults k.made.value.disk) (D.faults k.archive.disk) k.refused
+        × KeepsExactly D.tells (D.shows k.made.value.disk) (D.shows k.archive.disk) k.notes.events k.refused
+        × InnerGave (P.aside k.first.value) (P.aside k.inner) k.notes.events
+        × KeepsPlace k.made.value.place k.archive.place k.notes.events k.refused
+        × (k.given ≡ length (gave k.notes.events))
+        × KeepsDisk D.tells (D.shows k.made.value.disk) (D.shows k.archive.disk) k.made.value.place k.notes.events k.refused
+        × KeepsGoing k.made.value.stopped k.archive.stopped k.refused };
+}
+
+impl<P: Port, D: Disk> KeepPort<P, D> {
+    /// Keeps in this archive what the port gives from now on.
+    pub fn new(inner: P, archive: Archive<D>) -> KeepPort<P, D>
+        ensures { result ≡ record { inner = inner; archive = archive; first = inner; made = archive; before = inner; events = []; refused = None } }
+    {
+        let first = Snapshot::of(&inner);
+        let before = Snapshot::of(&inner);
+        let made = Snapshot::of(&archive);
+        KeepPort {
+            inner,
+            archive,
+            first,
+            made,
+            before,
+            notes: Notes::new(),
+            refused: None,
+            given: 0,
+        }
+    }
+
+    /// The answer of the append that was refused. None where none was.
+    pub fn refused(&self) -> Option<AppendFault>
+        ensures { result ≡ self.now.refused }
+    {
+        self.refused
+    }
+
+    /// How many bytes it gave.
+    pub fn given(&self) -> u64
+        ensures { result ≡ length (gave self.now.events) }
+    {
+        self.given
+    }
+
+    /// Hands the port and the archive back as they are.
+    ///
+    /// Where each image of the disk had one content when this port was made, a crash at any moment since left that content,
+    /// then every byte that was given by then, and no more than what the port below gave. Where the disk failed no append,
+    /// it now leaves exactly what was given.
+    pub fn into_parts(self) -> (P, Archive<D>)
+        ensures parts { (result.0 ≡ self.inner) × (result.1 ≡ self.archive) }
+        ensures noted { is_refused self.events ≡ is_some self.refused }
+        ensures kept { HasKept D.tells (D.shows self.made.disk) (D.shows self.archive.disk) self.events }
+        ensures told { TellsBytes (P.aside self.first) (keep_aside (P.aside self.inner) (P.aside self.before) self.events) (gave self.events) }
+        ensures inner { InnerGave (P.aside self.first) (P.aside self.inner) self.events }
+        ensures place { KeepsPlace self.made.place self.archive.place self.events self.refused }
+        ensures disk { KeepsDisk D.tells (D.shows self.made.disk) (D.shows self.archive.disk) self.made.place self.events self.refused }
+        ensures going { KeepsGoing self.made.stopped self.archive.stopped self.refused }
+        ensures cause { KeepCause (D.faults self.made.disk) (D.faults self.archive.disk) self.refused }
+        ensures exact { KeepsExactly D.tells (D.shows self.made.disk) (D.shows self.archive.disk) self.events self.refused }
+    {
+        let KeepPort {
+            inner,
+            archive,
+            first: _,
+            made: _,
+            before: _,
+            notes: _,
+            refused: _,
+            given: _,
+        } = self;
+        (inner, archive)
+    }
+}
+
+impl<P: Port, D: Disk> Port for KeepPort<P, D> {
+    ghost aside = { λ k. keep_aside (P.aside k.inner) (P.aside k.before) k.events };
+
+    fn next_connection(&mut self) -> Result<bool, Failed> {
+        match self.inner.next_connection() {
+            Ok(true) => {
+                self.notes.note(&[OPENED, 0], &[]);
+                Ok(true)
+            }
+            Ok(false) => Ok(false),
+            Err(failed) => Err(failed),
+        }
+    }
+
+    // A crash at any moment of it leaves what was given before, and then a front of what it gives or is refused.
+    fn read(&mut self, buf: &mut [u8]) -> Result<usize, Failed>
+        requires some { 0 < length buf.old }
+        requires size { length buf.old ≡ read_size (keep_aside (P.aside self.old.inner) (P.aside self.old.before) self.old.events).taken }
+        requires is_open { IsTrue (keep_aside (P.aside self.old.inner) (P.aside self.old.before) self.old.events).is_open }
+        ensures bound { ReadsAtMost result buf.new }
+        ensures reads { Reads (keep_aside (P.aside self.old.inner) (P.aside self.old.before) self.old.events) (keep_aside (P.aside self.new.inner) (P.aside self.new.before) self.new.events) result buf.new }
+        ensures planned { AsPlanned (keep_aside (P.aside self.old.inner) (P.aside self.old.before) self.old.events).plan 0 0 result }
+        ensures any_moment { D.tells → (first : List ℕ) → HasOnly (D.shows self.old.made.disk).now first → Passes (HasBetween first (gave self.old.events) (gave self.new.events ++ lost self.new.events)) (D.shows self.old.archive.disk) (D.shows self.new.archive.disk) }
+    {
+        if self.refused.is_some() {
+            self.notes.note(&[FAILED_LATER, 0], &[]);
+            return Err(Failed);
+        }
+        self.before = Snapshot::of(&self.inner);
+        let count = match self.inner.read(buf) {
+            Ok(count) => count,
+            Err(failed) => return Err(failed),
+        };
+        if count == 0 {
+            return Ok(0);
+        }
+        match self.archive.append(&buf[..count]) {
+            Ok(()) => {
+                // The archive has a place below 2^31 for each of them.
+                self.given += count as u64;
+                self.notes.note(&[GAVE, 0], &buf[..count]);
+                Ok(count)
+            }
+            Err(fault) => {
+                self.refused = Some(fault);
+                self.notes.note(&[REFUSED, 0], &buf[..count]);
+                Err(Failed)
+            }
+        }
+    }
+
+    fn close(&mut self) {
+        self.inner.close();
+    }
+}
