@@ -1,3 +1,4 @@
 pub mod Sessions
 pub mod Lent
 pub mod Rests
+pub mod DiskPaths

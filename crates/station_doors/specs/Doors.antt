@@ -5,6 +5,7 @@ use Rattle.bmp_specs.specs.Life.{LastRead, gave, gave_none, failed, most_taken, 
 use Rattle.wire_io.specs.declared.sink.Failed.{Failed}
 use Rattle.wire_io.specs.Aside.{Aside, Given, Plan, fresh}
 use Rattle.wire_io.specs.Faults.{HasCause}
+use Rattle.disk_doors.specs.Disk.{DiskValue}
 use Rattle.station_doors.specs.declared.listening.Listening.{Listening}
 
 -- one more, at most what 64 bits hold
@@ -147,6 +148,16 @@ pub record FileValue : Type 0 where
   pub path : List ℕ
   pub bytes : List ℕ
 
+-- what a disk shows: what it tells, and its count of faults
+pub record DiskShown : Type 0 where
+  pub value : DiskValue
+  pub faults : ℕ
+
+-- a disk of a yard: under which path, and what it shows; none where it was handed out and not given back since
+pub record DiskAt : Type 0 where
+  pub path : List ℕ
+  pub shows : Option DiskShown
+
 -- what a yard tells
 pub record YardValue : Type 0 where
   -- the plans of the ports that it will hand out, in order, of which none has answered a call yet
@@ -165,6 +176,8 @@ pub record YardValue : Type 0 where
   pub links_back : List ReturnedLink
   -- its files; of two under one path the first counts
   pub files : List FileValue
+  -- its disks by path, as they now are; of two under one path the first counts
+  pub disks : List DiskAt
 
 -- how many lanes and askers were asked for, where it was asked to listen
 abbrev pub feeds_of : Option Listening → ℕ

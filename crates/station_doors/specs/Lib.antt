@@ -1,6 +1,7 @@
 pub mod Doors
 pub mod Paths
 pub mod Files
+pub mod Disks
 pub mod LastRead
 pub mod Connections
 pub mod MemPort

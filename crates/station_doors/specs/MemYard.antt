@@ -1,12 +1,14 @@
 -- A yard in memory.
-use Rattle.std.specs.Prelude.{◌≡◌, ℕ, List, [], ◌∷◌, Option, Some, map, unwrap_or, nat_eq, if◌then◌else◌}
+use Rattle.std.specs.Prelude.{◌≡◌, ℕ, List, [], ◌∷◌, Option, Some, None, map, unwrap_or, nat_eq, if◌then◌else◌}
 use Rattle.wire_io.specs.Aside.{Plan}
 use Rattle.station_doors.specs.Connections.{no_plan}
 use Rattle.station_doors.specs.MemPort.{MemPortValue}
 use Rattle.station_doors.specs.MemLink.{MemLinkValue}
-use Rattle.station_doors.specs.Doors.{FileValue, YardValue, Returned, ReturnedLink, untouched, untouched_link}
+use Rattle.disk_doors.specs.MemDisk.{MemDiskValue}
+use Rattle.station_doors.specs.Doors.{DiskAt, DiskShown, FileValue, YardValue, Returned, ReturnedLink, untouched, untouched_link}
 use Rattle.station_doors.specs.declared.listening.Listening.{Listening}
 use Rattle.station_doors.specs.declared.files.MemFile.{MemFile}
+use Rattle.station_doors.specs.declared.slots.Slot.{Slot}
 use Rattle.station_doors.specs.declared.mem_yard.Back.{Back}
 use Rattle.station_doors.specs.declared.mem_yard.LinkBack.{LinkBack}
 
@@ -43,10 +45,20 @@ returned_link_of b = record { number = b.number; shows = b.link.shows; written =
 abbrev pub file_value : MemFile → FileValue
 file_value f = record { path = f.path; bytes = f.bytes }
 
--- what it tells with these ports and links left, these numbers handed out, these ports and links given back, and these
--- files
-abbrev pub tells_of : List MemPortValue → List MemLinkValue → List ℕ → List ℕ → List ℕ → List Back → List LinkBack → List MemFile → YardValue
-tells_of ports links fails out links_out back links_back files = record { ports = map plan_of ports; links = map link_plan_of links; fails = fails; out = out; links_out = links_out; back = map returned_of back; links_back = map returned_link_of links_back; files = map file_value files }
+abbrev pub shown_of : MemDiskValue → DiskShown
+shown_of d = record { value = d.shows; faults = d.faults }
+
+abbrev pub shows_of : Option MemDiskValue → Option DiskShown
+shows_of None = None
+shows_of (Some d) = Some (shown_of d)
+
+abbrev pub slot_value : Slot → DiskAt
+slot_value s = record { path = s.path; shows = shows_of s.disk }
+
+-- what it tells with these ports and links left, these numbers handed out, these ports and links given back, these files,
+-- and these disks
+abbrev pub tells_of : List MemPortValue → List MemLinkValue → List ℕ → List ℕ → List ℕ → List Back → List LinkBack → List MemFile → List Slot → YardValue
+tells_of ports links fails out links_out back links_back files disks = record { ports = map plan_of ports; links = map link_plan_of links; fails = fails; out = out; links_out = links_out; back = map returned_of back; links_back = map returned_link_of links_back; files = map file_value files; disks = map slot_value disks }
 
 -- what was written to the first link that was given back under this number
 abbrev pub written_by : ℕ → List ReturnedLink → List ℕ

@@ -4,10 +4,12 @@ ghost use Rattle.std.specs.Io.KnownBytes.{Keeps};
 ghost use Rattle.wire_io.specs.Aside.{Aside};
 ghost use Rattle.wire_io.specs.Faults.{HasCause};
 ghost use Rattle.station_doors.specs.Doors.{Opens, Reads, Closes, AsPlanned, noted_writes, read_size, YardValue, IsLane, askers_of, Listens, HandsOut, HandsOutLink, TakesBack, TakesLinkBack, KeepsEnding, one_more};
+ghost use Rattle.station_doors.specs.Disks.{HandsOutDisk, TakesDiskBack};
 ghost use Rattle.station_doors.specs.Files.{GivesFile, HasFileCause};
 ghost use Rattle.station_doors.specs.declared.listening.Listening.{Listening};
 
 use crate::{FileFault, Listening};
+use disk_doors::Disk;
 use std::alloc::Global;
 use wire_io::{ByteList, Failed, Sink};
 
@@ -79,11 +81,14 @@ pub trait Link: Sink {
         ensures calls { calls self.new ≡ calls self.old };
 }
 
-/// Hands out ports and links by number, takes them back, gives files by path, and takes what a station's end gave.
+/// Hands out ports and links by number and disks by path, takes them back, gives files by path, and takes what a
+/// station's end gave.
 pub trait Yard {
     type Port: Port + Send + Drop;
 
     type Link: Link + Send + Drop;
+
+    type Disk: Disk + Drop;
 
     type Ending: Drop;
 
@@ -146,6 +151,16 @@ pub trait Yard {
         ensures endings { endings self.new ≡ endings self.old }
         ensures ending { last_ending self.new ≡ last_ending self.old };
 
+    /// Hands out the disk of this path. A real yard makes an empty file where there is none. It fails where no disk
+    /// stands there, or one that was handed out and not given back since.
+    fn disk(&mut self, path: &str) -> Result<Self::Disk, Failed>
+        ensures told { HandsOutDisk Self.Disk.tells Self.Disk.shows Self.Disk.faults path.now (calls self.old) (told self.old) (told self.new) result }
+        ensures listened { listened self.new ≡ listened self.old }
+        ensures calls { calls self.new ≡ one_more (calls self.old) }
+        ensures cause { HasCause (faults self.old) (faults self.new) result }
+        ensures endings { endings self.new ≡ endings self.old }
+        ensures ending { last_ending self.new ≡ last_ending self.old };
+
     /// Takes back the port that was handed out under this number. It raises no count.
     fn take_port(&mut self, lane: u32, port: Self::Port)
         ensures told { TakesBack lane (Self.Port.aside port) (told self.old) (told self.new) }
@@ -158,6 +173,15 @@ pub trait Yard {
     /// Takes back the link that was handed out under this number. It raises no count.
     fn take_link(&mut self, number: u32, link: Self::Link)
         ensures told { TakesLinkBack (record { number = number; shows = Self.Link.aside link; written = Self.Link.told link; faults = Self.Link.faults link }) (told self.old) (told self.new) }
+        ensures listened { listened self.new ≡ listened self.old }
+        ensures calls { calls self.new ≡ calls self.old }
+        ensures calm { faults self.new ≡ faults self.old }
+        ensures endings { endings self.new ≡ endings self.old }
+        ensures ending { last_ending self.new ≡ last_ending self.old };
+
+    /// Takes back the disk that was handed out under this path, and drops it where none was. It raises no count.
+    fn take_disk(&mut self, path: &str, disk: Self::Disk)
+        ensures told { TakesDiskBack path.now (record { value = Self.Disk.shows disk; faults = Self.Disk.faults disk }) (told self.old) (told self.new) }
         ensures listened { listened self.new ≡ listened self.old }
         ensures calls { calls self.new ≡ calls self.old }
         ensures calm { faults self.new ≡ faults self.old }

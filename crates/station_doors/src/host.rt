@@ -5,9 +5,10 @@ ghost use Rattle.station_doors.specs.Doors.{one_more, askers_of};
 use crate::files::read_whole;
 use crate::sockets::{MOST, listen_at, take_listener};
 use crate::{FileFault, HostLink, HostPort, Listening, Yard};
+use disk_doors::HostDisk;
 use std::alloc::Global;
 use std::fs;
-use std::fs::Files;
+use std::fs::{File, Files};
 use std::io::Read;
 use std::net::{Net, TcpListener, TcpStream};
 use std::time::Clock;
@@ -61,11 +62,13 @@ impl<
 impl<
     'a,
     R: Read + Drop + Send,
-    N: Net<Listener = TcpListener, Stream = TcpStream> + Clock + Files + Sync,
+    N: Net<Listener = TcpListener, Stream = TcpStream> + Clock + Files<File = File> + Sync,
 > Yard for HostYard<'a, R, N> {
     type Port = HostPort<'a, R, N>;
 
     type Link = HostLink<'a, N>;
+
+    type Disk = HostDisk;
 
     type Ending = ();
 
@@ -155,6 +158,17 @@ impl<
         }
     }
 
+    fn disk(&mut self, path: &str) -> Result<HostDisk, Failed> {
+        self.calls = self.calls.saturating_add(1);
+        match HostDisk::open(self.net, path) {
+            Ok(disk) => Ok(disk),
+            Err(_) => {
+                self.faults = self.faults.saturating_add(1);
+                Err(Failed)
+            }
+        }
+    }
+
     fn file(&mut self, alloc: Global, path: &str) -> Result<ByteList, FileFault> {
         self.calls = self.calls.saturating_add(1);
         let found = match fs::open(self.net, path) {
@@ -170,6 +184,8 @@ impl<
     fn take_port(&mut self, _lane: u32, _port: HostPort<'a, R, N>) {}
 
     fn take_link(&mut self, _number: u32, _link: HostLink<'a, N>) {}
+
+    fn take_disk(&mut self, _path: &str, _disk: HostDisk) {}
 
     fn take_ending(&mut self, _ending: ()) {
         self.endings = self.endings.saturating_add(1);

@@ -1,11 +1,11 @@
-//! Where connections and files come from: ports and links, and the yards that hand them out.
+//! Where connections, files and disks come from: ports and links, and the yards that hand them out.
 //!
 //! A port is the place of one router, a link the place of one client; each gives one connection after
-//! another, and a link takes what is written to it. A yard hands them out by number and takes them back, and gives
-//! whole files by path. Each counts its faults, and answers `Failed` only where its count rose in that call.
+//! another, and a link takes what is written to it. A yard hands them out by number and takes them back, does the same
+//! with disks by path, and gives whole files by path. Each counts its faults, and answers `Failed` only where its count rose in that call.
 //!
 //! `MemPort`, `MemLink` and `MemYard` hold everything in memory and tell it to contracts: the plan, each byte
-//! that was given, how the last read went, what was written, what came back, and the files. `SurePort` and
+//! that was given, how the last read went, what was written, what came back, the files and the disks. `SurePort` and
 //! `SureLink` are of the same kind and never fail. `HostYard` is standard input, TCP and the files of the system, and
 //! tells counts, and what its input tells.
 //!
@@ -23,6 +23,7 @@ mod listening;
 mod mem_link;
 mod mem_port;
 mod mem_yard;
+mod slots;
 mod sockets;
 mod sure_link;
 mod sure_port;

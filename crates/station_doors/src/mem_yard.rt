@@ -2,9 +2,13 @@ ghost use Rattle.std.specs.Prelude.{◌≡◌, ◌≤◌, ◌<◌, ◌+◌, [], 
 ghost use Rattle.std.specs.Bool.{OnTrue, OnFalse};
 ghost use Rattle.std.specs.Vec.{vec_capacity};
 ghost use Rattle.station_doors.specs.Doors.{without};
+ghost use Rattle.station_doors.specs.Disks.{disk_at, file_of, put_at};
+ghost use Rattle.station_doors.specs.MemYard.{shown_of};
 
 use crate::files::{MOST_FILE, MemFile, content};
+use crate::slots::{self, Slot};
 use crate::{FileFault, Listening, MemLink, MemPort, Port, Yard};
+use disk_doors::MemDisk;
 use std::alloc::Global;
 use std::marker::Model;
 use wire_io::{ByteList, Failed, List, NoMemory};
@@ -29,11 +33,11 @@ struct LinkBack {
     link: MemLink,
 }
 
-/// A yard over ports, links and files in memory. It tells all that it does.
+/// A yard over ports, links, files and disks in memory. It tells all that it does.
 ///
-/// It hands the ports out in order, each once, and the links in the same way. A call that answers a `Result`
-/// fails exactly where its number, counted from 0, is among `fails`, or where nothing is left to hand out, or there is no
-/// file of the path.
+/// It hands the ports out in order, each once, and the links in the same way. A disk is handed out by its path, and again
+/// once it was given back. A call that answers a `Result` fails exactly where its number, counted from 0, is among
+/// `fails`, or where nothing is left to hand out, or there is no file or no disk of the path.
 #[derive(Drop)]
 pub struct MemYard<E> {
     ports: Vec<MemPort>,
@@ -44,6 +48,7 @@ pub struct MemYard<E> {
     back: Vec<Back>,
     links_back: Vec<LinkBack>,
     files: Vec<MemFile>,
+    disks: Vec<Slot>,
     listened: Option<Listening>,
     ending: Option<E>,
     calls: u64,
@@ -58,7 +63,7 @@ impl<E> Model for MemYard<E> {
 
     ghost Value = { MemYardValue E };
 
-    ghost view = { λ y. record { tells = tells_of y.ports.items y.links.items y.fails.items y.out.items y.links_out.items y.back.items y.links_back.items y.files.items; listened = y.listened; calls = y.calls; faults = y.faults; ending = y.ending; endings = y.endings } };
+    ghost view = { λ y. record { tells = tells_of y.ports.items y.links.items y.fails.items y.out.items y.links_out.items y.back.items y.links_back.items y.files.items y.disks.items; listened = y.listened; calls = y.calls; faults = y.faults; ending = y.ending; endings = y.endings } };
 
     ghost invariant = { λ y. All IsUntouched y.ports.items × All IsIdle y.links.items
         × (vec_len y.ports + vec_len y.out ≤ vec_capacity y.out) × (vec_len y.ports + vec_len y.out + vec_len y.back ≤ vec_capacity y.back)
@@ -68,8 +73,8 @@ impl<E> Model for MemYard<E> {
 impl<E> MemYard<E> {
     ghost use Rattle.station_doors.specs.MemYard.{IsUntouched, IsIdle, plan_of, link_plan_of, written_by};
 
-    /// A yard with these ports and links, of which none has answered a call yet, and with no file. Where it is out of
-    /// memory they are dropped.
+    /// A yard with these ports and links, of which none has answered a call yet, and with no file and no disk. Where it
+    /// is out of memory they are dropped.
     pub fn new(
         alloc: Global,
         ports: PortList,
@@ -78,7 +83,7 @@ impl<E> MemYard<E> {
     ) -> Result<MemYard<E>, NoMemory>
         requires ports { All IsUntouched ports }
         requires links { All IsIdle links }
-        ensures { IfOk result (λ y. y ≡ record { tells = record { ports = map plan_of ports; links = map link_plan_of links; fails = fails.now; out = []; links_out = []; back = []; links_back = []; files = [] }; listened = None; calls = 0; faults = 0; ending = None; endings = 0 }) }
+        ensures { IfOk result (λ y. y ≡ record { tells = record { ports = map plan_of ports; links = map link_plan_of links; fails = fails.now; out = []; links_out = []; back = []; links_back = []; files = []; disks = [] }; listened = None; calls = 0; faults = 0; ending = None; endings = 0 }) }
     {
         let ports = ports.into_vec()?;
         let links = links.into_vec()?;
@@ -96,6 +101,7 @@ impl<E> MemYard<E> {
             back,
             links_back,
             files: Vec::new(alloc),
+            disks: Vec::new(alloc),
             listened: None,
             ending: None,
             calls: 0,
@@ -115,6 +121,22 @@ impl<E> MemYard<E> {
         let file = MemFile { path: name, bytes };
         self.files.insert(0, file)?;
         Ok(())
+    }
+
+    /// Gives the yard a disk, in the place of what stood under its path, also of one that is handed out, which is
+    /// dropped once it comes back. Out of memory, nothing changed, and the disk is dropped.
+    pub fn put_disk(&mut self, path: &str, disk: MemDisk) -> Result<(), NoMemory>
+        ensures ok { OnOk result (self.new ≡ record self.old { tells = record self.old.tells { disks = put_at path.now (shown_of disk) self.old.tells.disks } }) }
+        ensures err { OnErr result (self.new ≡ self.old) }
+    {
+        slots::put(&mut self.disks, path.as_bytes(), disk)
+    }
+
+    /// Lends the bytes of the disk that stands under the path. There are none where no disk stands there.
+    pub fn kept(&self, path: &str) -> &[u8]
+        ensures { result.now ≡ file_of (disk_at path.now self.now.tells.disks) }
+    {
+        slots::bytes_at(self.disks.as_slice(), path.as_bytes())
     }
 
     /// Lends the ending that it took last. `None` exactly where it took none.
@@ -176,6 +198,8 @@ impl<E: Drop> Yard for MemYard<E> {
     type Port = MemPort;
 
     type Link = MemLink;
+
+    type Disk = MemDisk;
 
     type Ending = E;
 
@@ -259,6 +283,22 @@ impl<E: Drop> Yard for MemYard<E> {
         }
     }
 
+    fn disk(&mut self, path: &str) -> Result<MemDisk, Failed> {
+        let call = self.calls;
+        self.calls = call.saturating_add(1);
+        if self.fails.contains(&call) {
+            self.faults = self.faults.saturating_add(1);
+            return Err(Failed);
+        }
+        match slots::lend(self.disks.as_mut_slice(), path.as_bytes()) {
+            Some(disk) => Ok(disk),
+            None => {
+                self.faults = self.faults.saturating_add(1);
+                Err(Failed)
+            }
+        }
+    }
+
     fn take_port(&mut self, lane: u32, port: MemPort) {
         if take_out(&mut self.out, lane) {
             if self.back.push(Back { lane, port }).is_err() {
@@ -273,6 +313,10 @@ impl<E: Drop> Yard for MemYard<E> {
                 unreachable!();
             }
         }
+    }
+
+    fn take_disk(&mut self, path: &str, disk: MemDisk) {
+        slots::put_back(self.disks.as_mut_slice(), path.as_bytes(), disk);
     }
 
     fn take_ending(&mut self, ending: E) {

@@ -14,4 +14,4 @@ returns-clause-told g c =
     let is = rw (← c.remove-port.ensures.value) at first in
     let lent : c.insert.new.self.items ≡ c.args.lane ∷ c.self.inside.out.items = search rules in
     let left = c.remove-port.ensures.items in
-    rw (← c.self.view_is) (no, plan_of port, map plan_of c.remove-port.new.self.items, is.0 ∙ ap (λ (l : List MemPortValue). plan_of port ∷ map plan_of l) (sym left), ap (λ (l : List ℕ). Some (tells_of c.remove-port.new.self.items c.self.inside.links.items c.self.inside.fails.items l c.self.inside.links_out.items c.self.inside.back.items c.self.inside.links_back.items c.self.inside.files.items)) lent, is.1.0, is.1.1)
+    rw (← c.self.view_is) (no, plan_of port, map plan_of c.remove-port.new.self.items, is.0 ∙ ap (λ (l : List MemPortValue). plan_of port ∷ map plan_of l) (sym left), ap (λ (l : List ℕ). Some (tells_of c.remove-port.new.self.items c.self.inside.links.items c.self.inside.fails.items l c.self.inside.links_out.items c.self.inside.back.items c.self.inside.links_back.items c.self.inside.files.items c.self.inside.disks.items)) lent, is.1.0, is.1.1)
