@@ -2,7 +2,7 @@
 use Rattle.std.proofs.Common.{◌≡◌, List, [], ◌++◌, Result, Ok, Err, IsErrAnd, refl, sym, ap, ◌∙◌, subst, append_assoc, append-nil}
 use Rattle.std.specs.List.{AllByRecursion}
 use Rattle.relay_out.specs.declared.fault.EmitFault.{EmitFault}
-use Rattle.relay_out.specs.Handed.{Hands}
+use Rattle.relay_out.specs.Handed.{Hands, Looks}
 use Rattle.relay_out.specs.Messages.{ItemValue}
 use Rattle.relay_out.proofs.Members.{all_parts}
 
@@ -43,6 +43,14 @@ module _ {T B : Type 0} {of : T → B} {took : T → List ItemValue → Type 0} 
     kept = f.kept;
   })
 
+  -- looks take nothing
+  looks_none : (a b : T) (items : List ItemValue) (u : Unit {0}) → Looks of took stopped items a (Ok u) b → Hands of took stopped [] a (Ok u) b
+  looks_none a b items u g = record { ok = λ done h. subst (took b) (sym (append-nil done)) (g.ok done h); err = tt; kept = g.kept }
+
+  pub looks_failed : (a b : T) (items : List ItemValue) (d : EmitFault) (r : Result (Unit {0}) EmitFault) → Looks of took stopped items a (Err d) b → IsErrAnd r (λ f. f ≡ d) → Hands of took stopped items a r b
+  looks_failed a b items d (Ok v) g is = absurd is
+  looks_failed a b items d (Err x) g is = subst (λ (y : EmitFault). Hands of took stopped items a (Err y) b) (sym is) (record { ok = tt; err = g.err; kept = g.kept })
+
 module _ {T B : Type 0} {of : T → B} {may : ItemValue → Type 0} {took : T → List ItemValue → Type 0} {stopped : T → List ItemValue → EmitFault → Type 0} where
   pub leads_begin : (a : T) (left all : List ItemValue) → left ≡ all → AllByRecursion may left → Leads of may took stopped a a left all
   leads_begin a left all e fit = record { go = λ r new h. subst (λ (l : List ItemValue). Hands of took stopped l a r new) e h; fit = fit }
@@ -59,3 +67,6 @@ module _ {T B : Type 0} {of : T → B} {may : ItemValue → Type 0} {took : T �
 
   pub leads_end : (a b : T) (left all : List ItemValue) → Leads of may took stopped a b left all → left ≡ [] → Hands of took stopped all a (Ok tt) b
   leads_end a b left all l none = l.go (Ok tt) b (hands_none b left none)
+
+  pub leads_looked : (a b c : T) (items left all : List ItemValue) (u : Unit {0}) → Leads of may took stopped a b left all → Looks of took stopped items b (Ok u) c → Leads of may took stopped a c left all
+  leads_looked a b c items left all u l g = record { go = λ r new h. l.go r new (hands_join b c new [] left left u r (looks_none b c items u g) h refl); fit = l.fit }

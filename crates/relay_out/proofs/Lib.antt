@@ -4,6 +4,7 @@ pub mod PeersLeft
 pub mod RelayLaw
 pub mod Handing
 pub mod Steps
+pub mod Looked
 pub mod Writes
 pub mod TablesTold
 pub mod Emitting

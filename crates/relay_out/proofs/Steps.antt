@@ -1,5 +1,6 @@
 -- What is handed on of the peers of a book, of the views of a peer and of the routes of a table, one after another.
-use Rattle.std.proofs.Common.{◌≡◌, ◌<◌, ◌+◌, ◌≤◌, ℕ, List, [], ◌∷◌, ◌++◌, length, get_or, drop, map, flat_map, Some, option_to_list, sym, ap, ◌∙◌, append-nil}
+use Rattle.std.proofs.Common.{◌≡◌, ◌<◌, ◌+◌, ◌≤◌, ℕ, suc, List, [], ◌∷◌, ◌++◌, length, get_or, drop, map, flat_map, Some, option_to_list, sym, ap, subst, ◌∙◌, append-nil}
+use Rattle.std.specs.List.{AllByRecursion}
 use Rattle.std.proofs.lemmas.Grind.{flat_map-append}
 use Rattle.std.proofs.lemmas.List.{map-append, at_drop_more, drop_all}
 use Rattle.std.proofs.lemmas.List.Elements.{filter-append}
@@ -11,11 +12,15 @@ use Rattle.peer_book.specs.Peers.{Peers, is_complete_at}
 use Rattle.router_tables.specs.Tables.{Tables, TablesValue, table_at}
 use Rattle.router_tables.specs.Views.{Table}
 use Rattle.relay_out.specs.Messages.{ItemValue, announces, completed, peer_items}
+use Rattle.query_eval.specs.RowRuns.{shown_all}
 use Rattle.query_eval.specs.Rows.{row_of}
+use Rattle.query_eval.proofs.Batches.{SetRef, shown_next}
+use Rattle.route_runs.specs.Runs.{shared}
 use Rattle.relay_out.specs.Tables.{complete_among, complete_of, place, places_in, table_rows, told_of_peer, told_of_state, view_rows}
 use Rattle.bmp_specs.specs.declared.wire.Family.TheVariants.{V4, V6}
 use Rattle.bmp_specs.specs.PeerUp.{up_state}
 use Rattle.relay_out.specs.Told.{PlaceValue}
+use Rattle.relay_out.proofs.Members.{all_parts}
 
 -- of the first peer, and of the others
 abbrev pub items_of_states : TablesValue → List (KeyValue × StateValue) → List ItemValue
@@ -69,6 +74,23 @@ pub pairs_first : (info : PeerInfoValue) (key : KeyValue) (view : View) (left re
     → items_of_pairs info key view left ≡ (announces info (record { row_key = record { key = key; view = view; nlri = n }; route = b }) ∷ []) ++ items_of_pairs info key view rest
 pairs_first info key view left rest n a b is same =
     ap (items_of_pairs info key view) is ∙ ap (λ (x : AttrsValue). announces info (record { row_key = record { key = key; view = view; nlri = n }; route = x }) ∷ items_of_pairs info key view rest) (sym same)
+
+-- some routes of a walk, and those behind them
+pub pairs_split : (info : PeerInfoValue) (key : KeyValue) (view : View) (left some rest : Table) → left ≡ some ++ rest → items_of_pairs info key view left ≡ items_of_pairs info key view some ++ items_of_pairs info key view rest
+pairs_split info key view left some rest is =
+    ap (items_of_pairs info key view) is ∙ ap (map (announces info)) (map-append (row_of key view) some rest)
+    ∙ map-append (announces info) (map (row_of key view) some) (map (row_of key view) rest)
+
+-- what may be handed on of all may be of some
+pub some_may : (may : ItemValue → Type 0) (info : PeerInfoValue) (key : KeyValue) (view : View) (left some rest : Table) → left ≡ some ++ rest → AllByRecursion may (items_of_pairs info key view left) → AllByRecursion may (items_of_pairs info key view some)
+some_may may info key view left some rest is all =
+    (all_parts may (items_of_pairs info key view some) (items_of_pairs info key view rest) (subst (AllByRecursion may) (pairs_split info key view left some rest is) all)).0
+
+-- the route at a place, and those behind it
+pub places_next : (info : PeerInfoValue) (key : KeyValue) (view : View) (ns : List NlriValue) (rs : List SetRef) (i : ℕ) (d n : NlriValue) (b r : SetRef) (a : AttrsValue) → i < length ns → length ns ≡ length rs → n ≡ get_or ns i d → r ≡ get_or rs i b → a ≡ shared r
+    → items_of_pairs info key view (shown_all (drop i ns) (drop i rs)) ≡ (announces info (record { row_key = record { key = key; view = view; nlri = n }; route = a }) ∷ []) ++ items_of_pairs info key view (shown_all (drop (suc i) ns) (drop (suc i) rs))
+places_next info key view ns rs i d n b r a within even is are same =
+    pairs_first info key view (shown_all (drop i ns) (drop i rs)) (shown_all (drop (suc i) ns) (drop (suc i) rs)) n (shared r) a (shown_next ns rs i d n b r within even is are) same
 
 -- of a peer that is up
 pub line_items : (t : TablesValue) (key : KeyValue) (state : StateValue) (info : PeerInfoValue) → state ≡ up_state info → peer_items (told_of_peer t key info) ≡ flat_map peer_items (told_of_state t (key, state))

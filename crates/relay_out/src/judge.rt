@@ -6,7 +6,8 @@ ghost use Rattle.bmp_specs.specs.PathIds.{uses_path_ids};
 ghost use Rattle.bmp_specs.specs.PeerHeader.{IsViewOf, loc_rib};
 ghost use Rattle.bmp_writer.specs.WrittenRoutes.{side_of_view};
 ghost use Rattle.relay_out.specs.Items.{item_value};
-ghost use Rattle.relay_out.specs.Judging.{Refuses};
+ghost use Rattle.bmp_writer.specs.WrittenRoutes.{CanBeGiven, IsShortHop};
+ghost use Rattle.relay_out.specs.Judging.{AreGiven, HasFewSegments, Refuses};
 ghost use Rattle.relay_out.specs.Writable.{CanAnnounce, CanBringUp, CanComplete, CanTell, IsWritable};
 
 use crate::fault::EmitFault;
@@ -17,10 +18,11 @@ use bgp_update::NlriList;
 use bmp_frames::{LOC_RIB, PeerKey};
 use bmp_specs::{Family, View};
 use bmp_writer::{can_peer_up, can_routes};
-use path_attrs::Attrs;
-use rib_model::RowKey;
+use ip_prefix::Nlri;
+use path_attrs::{AsPath, Attrs};
+use rib_model::{Route, RowKey};
 use std::alloc::Global;
-use wire_io::NoMemory;
+use wire_io::{ByteList, NoMemory};
 
 // The side that a view speaks of.
 fn side_of(view: View) -> Side
@@ -104,6 +106,53 @@ pub(crate) fn is_writable(alloc: Global, item: &Item<'_>) -> Result<bool, NoMemo
     }
 }
 
+// Whether the length of the next hop fits one octet (RFC 4760, section 3).
+fn is_short_hop(hop: &Option<ByteList>) -> bool
+    ensures { IsTrue result ↔ IsShortHop hop.now }
+{
+    match hop {
+        Some(hop) => hop.as_slice().len() <= 255,
+        None => true,
+    }
+}
+
+// Whether the path has so few segments that their types and lengths have room.
+fn has_few_segments(path: &Option<AsPath>) -> bool
+    ensures { IsTrue result ↔ HasFewSegments path.now }
+{
+    match path {
+        Some(path) => path.as_slice().len() <= 32767,
+        None => true,
+    }
+}
+
+// Whether the next hop has room, and the segments of the path and the communities have it in 65,535 octets each (RFC 4271,
+// section 4.3). No field has the attributes where one of them has not.
+fn has_room(attrs: &Attrs) -> bool
+    ensures { CanBeGiven attrs.now → IsTrue result }
+{
+    if !is_short_hop(&attrs.hop) {
+        return false;
+    }
+    if !has_few_segments(&attrs.path) {
+        return false;
+    }
+    attrs.communities.as_slice().len() <= 16383
+}
+
+// Whether those of each route have.
+fn have_room(routes: &[&Route]) -> bool
+    ensures { AreGiven routes.now → IsTrue result }
+{
+    for at in 0..routes.len() {
+        let route = routes[at];
+        if !has_room(route) {
+            return false;
+        }
+    }
+    true
+}
+
 /// Judges whether each message can be written, and writes nothing.
 #[derive(Drop)]
 pub(crate) struct Judge {
@@ -129,6 +178,21 @@ impl Takes for Judge {
 
     fn take(&mut self, item: &Item<'_>) -> Result<(), EmitFault> {
         if is_writable(self.alloc, item)? {
+            return Ok(());
+        }
+        Err(EmitFault::Unwritable)
+    }
+
+    // A first judgement of all, which touches the attributes of each.
+    fn look(
+        &mut self,
+        key: &PeerKey,
+        view: View,
+        info: &PeerInfo,
+        nlris: &[Nlri],
+        routes: &[&Route],
+    ) -> Result<(), EmitFault> {
+        if have_room(routes) {
             return Ok(());
         }
         Err(EmitFault::Unwritable)

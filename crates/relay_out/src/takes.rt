@@ -1,11 +1,18 @@
-ghost use Rattle.std.specs.Prelude.{◌≡◌, List, [], ◌∷◌};
+ghost use Rattle.std.specs.Prelude.{◌≡◌, List, [], ◌∷◌, length, map};
+ghost use Rattle.query_eval.specs.RowRuns.{shown_all};
+ghost use Rattle.query_eval.specs.Rows.{row_of};
 ghost use Rattle.relay_out.specs.declared.fault.EmitFault.{EmitFault};
-ghost use Rattle.relay_out.specs.Handed.{Hands};
+ghost use Rattle.relay_out.specs.Handed.{Hands, Looks};
 ghost use Rattle.relay_out.specs.Items.{item_value};
-ghost use Rattle.relay_out.specs.Messages.{ItemValue};
+ghost use Rattle.relay_out.specs.Messages.{ItemValue, announces};
 
 use crate::fault::EmitFault;
 use crate::item::Item;
+use bgp_open::PeerInfo;
+use bmp_frames::PeerKey;
+use bmp_specs::View;
+use ip_prefix::Nlri;
+use rib_model::Route;
 
 /// Takes what messages tell, one after another.
 pub(crate) trait Takes {
@@ -27,4 +34,16 @@ pub(crate) trait Takes {
     fn take(&mut self, item: &Item<'_>) -> Result<(), EmitFault>
         requires { may (item_value item.now) }
         ensures { Hands of took stopped (item_value item.now ∷ []) self.old result self.new };
+
+    /// Looks at the routes of rows that it is handed next, so that they are fetched from memory side by side.
+    fn look(
+        &mut self,
+        key: &PeerKey,
+        view: View,
+        info: &PeerInfo,
+        nlris: &[Nlri],
+        routes: &[&Route],
+    ) -> Result<(), EmitFault>
+        requires { length nlris.now ≡ length routes.now }
+        ensures { Looks of took stopped (map (announces info.now) (map (row_of key.now view) (shown_all nlris.now routes.now))) self.old result self.new };
 }

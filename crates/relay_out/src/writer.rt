@@ -6,6 +6,12 @@ use crate::fault::EmitFault;
 use crate::item::Item;
 use crate::put::put_item;
 use crate::takes::Takes;
+use bgp_open::PeerInfo;
+use bmp_frames::PeerKey;
+use bmp_specs::View;
+use ip_prefix::Nlri;
+use path_attrs::Attrs;
+use rib_model::Route;
 use std::alloc::Global;
 use std::marker::Model;
 use std::snapshot::Snapshot;
@@ -13,6 +19,29 @@ use wire_io::{ByteList, Sink, write_all};
 
 /// So many bytes are gathered before they are written.
 const ENOUGH: usize = 32_768;
+
+// About how many octets the announcement of a route takes: 128 for its headers, its prefix and the attributes that most
+// routes have, 4 for each community, and 16 for each path segment and for each attribute that is kept as it came.
+fn octets_about(attrs: &Attrs) -> usize {
+    let segments = match &attrs.path {
+        Some(path) => path.as_slice().len(),
+        None => 0,
+    };
+    let communities = attrs.communities.as_slice().len().saturating_mul(4);
+    let listed = segments
+        .saturating_add(attrs.others.as_slice().len())
+        .saturating_mul(16);
+    communities.saturating_add(listed).saturating_add(128)
+}
+
+// About how many octets the announcements of these routes take.
+fn octets_of(routes: &[&Route]) -> usize {
+    let mut octets: usize = 0;
+    for route in routes {
+        octets = octets.saturating_add(octets_about(route));
+    }
+    octets
+}
 
 /// Writes messages, gathered to larger pieces.
 pub(crate) struct Writer<O: Sink> {
@@ -88,6 +117,22 @@ impl<O: Sink> Takes for Writer<O> {
     fn take(&mut self, item: &Item<'_>) -> Result<(), EmitFault> {
         put_item(&mut self.held, self.alloc, item)?;
         if self.held.as_slice().len() < ENOUGH {
+            return Ok(());
+        }
+        self.flush()
+    }
+
+    // Writes what is held back where the announcements would make it long. So the attributes of each are touched.
+    fn look(
+        &mut self,
+        key: &PeerKey,
+        view: View,
+        info: &PeerInfo,
+        nlris: &[Nlri],
+        routes: &[&Route],
+    ) -> Result<(), EmitFault> {
+        let octets = octets_of(routes);
+        if self.held.as_slice().len().saturating_add(octets) < ENOUGH {
             return Ok(());
         }
         self.flush()
