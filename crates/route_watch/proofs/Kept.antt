@@ -3,12 +3,13 @@ use Rattle.std.proofs.Common.{◌≡◌, ◌≢◌, ℕ, ◌+◌, ◌-◌, ◌<�
 use Rattle.std.proofs.lemmas.List.{length-map}
 use Rattle.std.proofs.lemmas.Option.{slice_get-map, slice_get_within}
 use Rattle.bmp_specs.specs.Changes.{ChangeValue, Concerns, IsChange, oldest_kept}
+use Rattle.bmp_specs.specs.QueryReply.{most_told}
 use Rattle.bmp_specs.specs.Values.{PrefixValue, StepValue}
 use Rattle.recent_ring.specs.Recent.{RecentValue}
 use Rattle.recent_ring.proofs.TwoParts.{slice_get-drop}
 use Rattle.rib_model.specs.declared.step.Step.{Step}
 use Rattle.rib_model.specs.Steps.{step_value}
-use Rattle.route_watch.specs.Watch.{AreSteps, IsFirst, IsKeptChange}
+use Rattle.route_watch.specs.Watch.{AreSteps, IsFirst, IsKeptChange, IsToldChange}
 
 module _ (recent : RecentValue Step) (from : ℕ) (prefix : PrefixValue) where
   -- each change that is kept stands at this place or a later one
@@ -47,23 +48,30 @@ module _ (recent : RecentValue Step) (from : ℕ) (prefix : PrefixValue) where
       }
 
   -- what is kept of all steps of a lane is what is asked of them
-  module _ (steps : List StepValue) (all : AreSteps recent steps) where
+  module _ (steps : List StepValue) (all : AreSteps recent steps) (less : recent.total < most_told) where
+    counted : recent.total ≡ length steps
+    counted = omega (arith, all.total, less)
+
     at_number : (n : ℕ) → oldest_kept recent.total ≤ n → slice_get (map step_value recent.items) (n - oldest_kept recent.total) ≡ slice_get steps n
     at_number n kept =
-        let cut : length steps - 1024 ≡ oldest_kept recent.total = ap (λ (k : ℕ). k - 1024) (sym all.total) in
+        let cut : length steps - 1024 ≡ oldest_kept recent.total = ap (λ (k : ℕ). k - 1024) (sym counted) in
         let there : length steps - 1024 + (n - oldest_kept recent.total) ≡ n = omega (arith, cut, kept) in
         ap (λ (l : List StepValue). slice_get l (n - oldest_kept recent.total)) all.items ∙ slice_get-drop (length steps - 1024) steps (n - oldest_kept recent.total) ∙ ap (slice_get steps) there
 
-    pub change_of_steps : (change : ChangeValue) → IsKeptChange recent from prefix change → IsChange steps (max from (oldest_kept (length steps))) prefix change
+    change_of_steps : (change : ChangeValue) → IsKeptChange recent from prefix change → IsToldChange steps from prefix change
     change_of_steps change is = record {
-      later = omega (arith, is.later, is.kept, all.total);
-      stands = sym (at_number change.number is.kept) ∙ is.stands;
-      concerns = is.concerns;
+      told = omega (arith, counted, less);
+      is = record {
+        later = omega (arith, is.later, is.kept, counted);
+        stands = sym (at_number change.number is.kept) ∙ is.stands;
+        concerns = is.concerns;
+      };
     }
 
-    pub kept_of_steps : (change : ChangeValue) → IsChange steps (max from (oldest_kept (length steps))) prefix change → IsKeptChange recent from prefix change
-    kept_of_steps change is =
-        let kept : oldest_kept recent.total ≤ change.number = omega (arith, is.later, all.total) in
+    kept_of_steps : (change : ChangeValue) → IsToldChange steps from prefix change → IsKeptChange recent from prefix change
+    kept_of_steps change t =
+        let is : IsChange steps (max from (oldest_kept (length steps))) prefix change = t.is in
+        let kept : oldest_kept recent.total ≤ change.number = omega (arith, is.later, counted) in
         record {
           later = omega (arith, is.later);
           kept = kept;
@@ -71,6 +79,10 @@ module _ (recent : RecentValue Step) (from : ℕ) (prefix : PrefixValue) where
           concerns = is.concerns;
         }
 
-    pub first_of_steps : (found : Option ChangeValue) → IsFirst (IsKeptChange recent from prefix) found → IsFirst (IsChange steps (max from (oldest_kept (length steps))) prefix) found
+    pub first_of_steps : (found : Option ChangeValue) → IsFirst (IsKeptChange recent from prefix) found → IsFirst (IsToldChange steps from prefix) found
     first_of_steps None none = λ change is. none change (kept_of_steps change is)
     first_of_steps (Some first) f = (change_of_steps first f.0, λ change is. f.1 change (kept_of_steps change is))
+
+  -- past the greatest number of 64 bits none is told
+  pub none_told : (steps : List StepValue) → AreSteps recent steps → most_told ≤ recent.total → (change : ChangeValue) → IsToldChange steps from prefix change → ⊥
+  none_told steps all most change is = omega (arith, all.total, most, is.told)

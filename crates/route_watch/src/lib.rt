@@ -6,7 +6,8 @@
 //!
 //! Proved: `poll` gives the first change of the prefix from that step on that is kept, with its number, and
 //! none exactly where there is none; `missed` how many of the steps from there on were dropped. On the last
-//! of all steps of a lane these are the changes that `bmp_specs` defines (clause `changes`).
+//! of all steps of a lane these are the changes that `bmp_specs` defines (clause `changes`). The total of the
+//! steps ends at 2^64 - 1, and where it is that no change is told, and none is missed (clauses `most`).
 //! Begin with `specs/Changes.antt` of `bmp_specs`, then `src/watch.rt`.
 #![tactic(auto)]
 

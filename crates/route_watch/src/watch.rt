@@ -1,9 +1,10 @@
-ghost use Rattle.std.specs.Prelude.{◌≡◌, ◌↔◌, ◌-◌, List, [], ◌∷◌, IsTrue, length, max, nat_lt, option_map, if◌then◌else◌};
+ghost use Rattle.std.specs.Prelude.{◌≡◌, ◌↔◌, ◌<◌, ◌≤◌, ◌-◌, List, [], ◌∷◌, IsTrue, IsNone, length, max, nat_lt, option_map, if◌then◌else◌};
 ghost use Rattle.bmp_specs.specs.ChangeLines.{missed_line, missed_lines};
-ghost use Rattle.bmp_specs.specs.Changes.{Concerns, IsChange, oldest_kept};
+ghost use Rattle.bmp_specs.specs.Changes.{Concerns, oldest_kept};
+ghost use Rattle.bmp_specs.specs.QueryReply.{most_told};
 ghost use Rattle.bmp_specs.specs.Values.{StepValue};
 ghost use Rattle.rib_model.specs.Steps.{step_value};
-ghost use Rattle.route_watch.specs.Watch.{AreSteps, IsFirst, IsKeptChange, change_of};
+ghost use Rattle.route_watch.specs.Watch.{AreSteps, IsFirst, IsKeptChange, IsToldChange, change_of};
 
 use ip_prefix::Prefix;
 use recent_ring::Recent;
@@ -11,23 +12,34 @@ use rib_model::Step;
 
 /// The first step of this number or a later one that may change what is known of the prefix, and its
 /// number: a connection that opens or closes, a peer that comes up or goes down, or a route of exactly this
-/// prefix that is announced or withdrawn. Only the steps that are kept are looked at, each once.
+/// prefix that is announced or withdrawn. Only the steps that are kept are looked at, each once. `None` where there were
+/// 2^64 - 1 steps or more, since the total says no more then.
 pub fn poll<'a>(recent: &'a Recent<Step>, from: u64, prefix: &Prefix) -> Option<(u64, &'a Step)>
-    ensures kept { IsFirst (IsKeptChange recent.now from prefix.now) (option_map change_of result) }
+    ensures kept { recent.now.total < most_told → IsFirst (IsKeptChange recent.now from prefix.now) (option_map change_of result) }
+    ensures most { most_told ≤ recent.now.total → IsNone result }
     // of the last of all steps of a lane
-    ensures changes { (steps : List StepValue) → AreSteps recent.now steps
-        → IsFirst (IsChange steps (max from (oldest_kept (length steps))) prefix.now) (option_map change_of result) }
+    ensures changes { (steps : List StepValue) → AreSteps recent.now steps → IsFirst (IsToldChange steps from prefix.now) (option_map change_of result) }
 {
+    let total = recent.total();
+    if total == u64::MAX {
+        return None;
+    }
     first_kept(recent, from, prefix)
 }
 
-/// How many of the steps from this number on are no longer kept.
+/// How many of the steps from this number on are no longer kept. 0 where there were 2^64 - 1 steps or more, since the total
+/// says no more then.
 pub fn missed(recent: &Recent<Step>, from: u64) -> u64
-    ensures missed { result ≡ oldest_kept recent.now.total - from }
+    ensures missed { recent.now.total < most_told → result ≡ oldest_kept recent.now.total - from }
+    ensures most { most_told ≤ recent.now.total → result ≡ 0 }
     // the reply tells it exactly where there are some
-    ensures lines { missed_lines from (oldest_kept recent.now.total) ≡ (if nat_lt 0 result then missed_line result ∷ [] else []) }
+    ensures lines { recent.now.total < most_told → missed_lines from (oldest_kept recent.now.total) ≡ (if nat_lt 0 result then missed_line result ∷ [] else []) }
 {
-    let oldest = recent.total() - recent.len();
+    let total = recent.total();
+    if total == u64::MAX {
+        return 0;
+    }
+    let oldest = total - recent.len();
     oldest.saturating_sub(from)
 }
 
