@@ -1,7 +1,7 @@
-ghost use Rattle.std.specs.Prelude.{map};
+ghost use Rattle.std.specs.Prelude.{◌<◌, map};
 ghost use Rattle.bmp_specs.specs.Changes.{oldest_kept};
 ghost use Rattle.bmp_specs.specs.ChangeLines.{change_line, missed_lines};
-ghost use Rattle.bmp_specs.specs.QueryReply.{AreChangeLines};
+ghost use Rattle.bmp_specs.specs.QueryReply.{AreChangeLines, most_told};
 ghost use Rattle.router_tables.specs.Tables.{StandsFor, steps_told};
 ghost use Rattle.query_eval.specs.Puts.{PutsLines, WritesLines};
 ghost use Rattle.query_eval.specs.RowChanges.{kept_changes, told_changes};
@@ -16,6 +16,7 @@ use wire_io::{Failed, Sink};
 
 // Writes the line of how many of the steps that are asked for are no longer kept, where there are some.
 fn put_lost<O: Sink>(out: &mut O, recent: &Recent<Step>, from: u64) -> Result<u64, Failed>
+    requires { recent.now.total < most_told }
     ensures { WritesLines O.faults O.told O.aside out.old (missed_lines from (oldest_kept recent.now.total)) result out.new }
 {
     let steps = missed(recent, from);
@@ -34,6 +35,7 @@ fn put_kept<O: Sink>(
     from: u64,
     prefix: &Prefix,
 ) -> Result<u64, Failed>
+    requires { recent.now.total < most_told }
     ensures { WritesLines O.faults O.told O.aside out.old (map (change_line lane) (kept_changes (steps_told recent.now) from prefix.now)) result out.new }
 {
     let _total = recent.total();

@@ -57,3 +57,9 @@ returns g c =
     (leads_on_line c.args.out.now c.args.out.now c.put_steps.new.out 0 1 _ (lost ++ kept) all all (leads_begin c.args.out.now all) c.in_ok-put_steps.ensures split (omega arith))
     c.in_ok-lost.ensures refl count)
     c.in_ok-kept.ensures c.saturating_add.ensures
+
+pub put_lost-requires : goal.put_lost-requires
+put_lost-requires g c = omega (arith, c.if-total.false, c.total-total.ensures.total)
+
+pub put_kept-requires : goal.put_kept-requires
+put_kept-requires g c = omega (arith, c.if-total.false, c.total-total.ensures.total)
