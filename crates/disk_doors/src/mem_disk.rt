@@ -9,6 +9,17 @@ use std::alloc::Global;
 use std::marker::Model;
 use wire_io::{Failed, NoMemory};
 
+// What was called, in the first number of a note; `specs/Note.antt` says what moment it makes.
+const BEGAN: u64 = 0;
+
+const WROTE: u64 = 1;
+
+const WRITE_FAILED: u64 = 2;
+
+const SYNCED: u64 = 3;
+
+const SYNC_FAILED: u64 = 4;
+
 /// A disk in memory. It tells all that it does.
 ///
 /// A call fails exactly where its number, counted from 0 over the disk's life, is among those that fail, or where a
@@ -70,7 +81,7 @@ impl MemDisk {
         file.extend_from_slice(bytes)?;
         let fails = Vec::from_slice(alloc, fails)?;
         let mut notes = Notes::new();
-        notes.note(&[0, 0], bytes);
+        notes.note(&[BEGAN, 0], bytes);
         Ok(MemDisk {
             bytes: file,
             room,
@@ -125,11 +136,11 @@ impl Disk for MemDisk {
         let fits = place <= room && piece.len() as u64 <= room - place;
         if !fits || self.fails.contains(&call) {
             self.faults = self.faults.saturating_add(1);
-            self.notes.note(&[2, place], piece);
+            self.notes.note(&[WRITE_FAILED, place], piece);
             return Err(Failed);
         }
         overwrite(&mut self.bytes, place as usize, piece);
-        self.notes.note(&[1, place], piece);
+        self.notes.note(&[WROTE, place], piece);
         Ok(())
     }
 
@@ -138,10 +149,10 @@ impl Disk for MemDisk {
         self.calls = call.saturating_add(1);
         if self.fails.contains(&call) {
             self.faults = self.faults.saturating_add(1);
-            self.notes.note(&[4, 0], &[]);
+            self.notes.note(&[SYNC_FAILED, 0], &[]);
             return Err(Failed);
         }
-        self.notes.note(&[3, 0], &[]);
+        self.notes.note(&[SYNCED, 0], &[]);
         Ok(())
     }
 }
