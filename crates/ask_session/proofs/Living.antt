@@ -10,12 +10,13 @@ use Rattle.wire_io.specs.Faults.{Rose}
 use Rattle.wire_io.proofs.Joins.{appends_then, keeps_appends}
 use Rattle.ask_session.specs.declared.close.Close.{Close}
 use Rattle.ask_session.specs.declared.close.Close.TheVariants.{Ended, Full, Over, ReadFault, WriteFault}
-use Rattle.ask_session.specs.Lines.{HasNoEnd}
+use Rattle.ask_session.specs.Lines.{HasNoEnd, IsTooMany}
 use Rattle.ask_session.specs.Replies.{History}
 use Rattle.ask_session.specs.Dialogue.{Dialogue}
 use Rattle.ask_session.specs.Connection.{ReadsInput, SaysEnd, HasReadFault, Conversed}
 use Rattle.ask_session.specs.Hearing.{IsEarly, Goes, Halts, EndsSo}
 use Rattle.ask_session.specs.Taking.{Lives}
+use Rattle.ask_session.proofs.NextLine.{few_none}
 use Rattle.ask_session.proofs.Pieces.{goes_none, goes_halts, goes_then}
 use Rattle.ask_session.proofs.Reading.{ReadsPiece, input_begin, input_then}
 
@@ -24,7 +25,7 @@ goes_keeps lanes s1 s2 from pending a b c n0 n1 n2 p k e = record {
   written = p.written;
   turns = p.turns;
   plain = p.plain;
-  short = p.short;
+  few = p.few;
   told_is = subst (λ (l : List ℕ). Appends a c l) (append-nil p.written) (appends_then a b c p.written [] p.told_is (keeps_appends b c k));
   calm = e ∙ p.calm;
 }
@@ -37,7 +38,7 @@ lives_begin lanes seen aside told writes = record {
   count = refl;
   few = omega arith;
   calm = refl;
-  goes = goes_none lanes seen [] told writes tt (omega arith);
+  goes = goes_none lanes seen [] told writes tt few_none;
 }
 
 fault_early : (close : Close) (n m : ℕ) → IsEarly close → m ≡ n → HasReadFault close n m
@@ -161,7 +162,7 @@ module _ (lanes : ℕ) (s1 s2 s3 : History) (a1 a2 a3 : Aside) (t1 t2 t3 : Optio
   pub conversed_fault : ReadsPiece a2 a3 [] failed → Keeps t2 t3 → n3 ≡ n2 → Rose a2.read_faults a3.read_faults → (input : Given) × Conversed lanes s2 (revision s1) a1 a3 input t1 t3 n1 n3 ReadFault
   conversed_fault r told calm rose =
       let g = goes_keeps lanes s1 s2 p.input.bytes pending t1 t2 t3 n1 n2 n3 p.goes told calm in
-      let d : Dialogue lanes ReadFault false s2 (revision s2) (pending ++ []) [] = record { turns = []; talks = (record { plain = subst (λ (l : List ℕ). HasNoEnd l) (sym (append-nil pending)) g.plain; short = omega (arith, g.short, length-append {A = ℕ} pending []); none = λ h. absurd (false≢true h) }, refl) } in
+      let d : Dialogue lanes ReadFault false s2 (revision s2) (pending ++ []) [] = record { turns = []; talks = (record { plain = subst (λ (l : List ℕ). HasNoEnd l) (sym (append-nil pending)) g.plain; few = subst (λ (l : List ℕ). IsTooMany l → ⊥) (sym (append-nil pending)) g.few; none = λ h. absurd (false≢true h) }, refl) } in
       let input : Given = record { bytes = p.input.bytes ++ []; last = failed } in (
         input,
         record {

@@ -8,17 +8,17 @@ use Rattle.cut_publisher.proofs.Prefixes.{begins_self, begins_trans}
 use Rattle.wire_io.proofs.Joins.{appends_then, appends_none}
 use Rattle.ask_session.specs.declared.close.Close.{Close}
 use Rattle.ask_session.specs.declared.close.Close.TheVariants.{Ended, Full, Over, ReadFault, WriteFault}
-use Rattle.ask_session.specs.Lines.{HasNoEnd, chomped}
+use Rattle.ask_session.specs.Lines.{HasNoEnd, IsTooMany, chomped}
 use Rattle.ask_session.specs.Replies.{History, Heard, too_long, unknown, asked, over, IsHeard, is_over}
 use Rattle.ask_session.specs.Dialogue.{Dialogue}
 use Rattle.ask_session.specs.Connection.{HasWritten}
 use Rattle.ask_session.specs.Hearing.{IsEarly, IsEnd, Replied, Goes, Halts, EndsSo}
-use Rattle.ask_session.proofs.NextLine.{plain_append, next_ends, next_last, next_long}
+use Rattle.ask_session.proofs.NextLine.{few_none, many_long, plain_append, next_ends, next_last, next_long}
 use Rattle.ask_session.proofs.Turning.{on, early, turns_none, turns_more, turns_then, turns_line, written_then}
 
 module _ (lanes : ℕ) where
-  pub goes_none : (seen : History) (pending : List ℕ) (told : Option (List ℕ)) (writes : ℕ) → HasNoEnd pending → length pending ≤ 1025 → Goes lanes seen seen pending pending told told writes writes
-  goes_none seen pending told writes plain short = record { written = []; turns = turns_none lanes seen pending; plain = plain; short = short; told_is = appends_none told; calm = refl }
+  pub goes_none : (seen : History) (pending : List ℕ) (told : Option (List ℕ)) (writes : ℕ) → HasNoEnd pending → (IsTooMany pending → ⊥) → Goes lanes seen seen pending pending told told writes writes
+  goes_none seen pending told writes plain few = record { written = []; turns = turns_none lanes seen pending; plain = plain; few = few; told_is = appends_none told; calm = refl }
 
   -- after a connection's first part, another, up to its end
   pub goes_halts : (close : Close) (ended : Bool) (s1 s2 s3 : History) (from pending t : List ℕ) (a b c : Option (List ℕ)) (n0 n1 n2 : ℕ) → Goes lanes s1 s2 from pending a b n0 n1 → Halts lanes close ended s2 s3 (pending ++ t) b c n1 n2 → Halts lanes close ended s1 s3 (from ++ t) a c n0 n2
@@ -34,14 +34,14 @@ module _ (lanes : ℕ) where
     written = p.written ++ q.written;
     turns = turns_then lanes s1 s2 s3 (from ++ piece) (pending ++ piece) pending' p.written q.written (turns_more lanes s1 s2 from pending p.written piece p.turns) q.turns;
     plain = q.plain;
-    short = q.short;
+    few = q.few;
     told_is = appends_then a b c p.written q.written p.told_is q.told_is;
     calm = q.calm ∙ p.calm;
   }
 
   -- a byte that ends no line
-  goes_byte : (seen : History) (pending : List ℕ) (told : Option (List ℕ)) (writes byte : ℕ) → HasNoEnd pending → byte ≢ 10 → length (pending ++ byte ∷ []) ≤ 1025 → Goes lanes seen seen (pending ++ byte ∷ []) (pending ++ byte ∷ []) told told writes writes
-  goes_byte seen pending told writes byte plain other short = goes_none seen (pending ++ byte ∷ []) told writes (plain_append pending (byte ∷ []) plain (other, tt)) short
+  goes_byte : (seen : History) (pending : List ℕ) (told : Option (List ℕ)) (writes byte : ℕ) → HasNoEnd pending → byte ≢ 10 → (IsTooMany (pending ++ byte ∷ []) → ⊥) → Goes lanes seen seen (pending ++ byte ∷ []) (pending ++ byte ∷ []) told told writes writes
+  goes_byte seen pending told writes byte plain other few = goes_none seen (pending ++ byte ∷ []) told writes (plain_append pending (byte ∷ []) plain (other, tt)) few
 
   -- a line that was answered, after which others may come
   goes_line : (seen seen' : History) (pending : List ℕ) (a b : Option (List ℕ)) (n0 n1 : ℕ) → Begins seen seen' → HasNoEnd pending → Replied lanes (chomped pending) seen' a b n0 n1 None → Goes lanes seen seen' (pending ++ 10 ∷ []) [] a b n0 n1
@@ -49,7 +49,7 @@ module _ (lanes : ℕ) where
     written = r.text;
     turns = turns_line lanes seen seen' pending r.heard r.text sees plain r.is_heard r.is_answer r.answers.0;
     plain = tt;
-    short = omega arith;
+    few = few_none;
     told_is = r.answers.1;
     calm = r.answers.2;
   }
@@ -70,10 +70,10 @@ module _ (lanes : ℕ) where
   is_too_long line (asked q) is long = absurd (omega (arith, is.0))
   is_too_long line over is long = absurd (omega (arith, is.0))
 
-  halts_long : (close : Close) (ended : Bool) (seen seen' : History) (pending t : List ℕ) (a b : Option (List ℕ)) (n0 n1 : ℕ) → Begins seen seen' → HasNoEnd pending → 1026 ≤ length pending → Replied lanes pending seen' a b n0 n1 (Some close) → Halts lanes close ended seen seen' (pending ++ t) a b n0 n1
-  halts_long close ended seen seen' pending t a b n0 n1 sees plain long r =
-      let n = next_long ended pending t plain long in
-      let is : IsHeard n.line r.heard = subst (λ (h : Heard). IsHeard n.line h) (sym (is_too_long pending r.heard r.is_heard (omega (arith, long)))) n.long in
+  halts_long : (close : Close) (ended : Bool) (seen seen' : History) (pending t : List ℕ) (a b : Option (List ℕ)) (n0 n1 : ℕ) → Begins seen seen' → HasNoEnd pending → IsTooMany pending → Replied lanes pending seen' a b n0 n1 (Some close) → Halts lanes close ended seen seen' (pending ++ t) a b n0 n1
+  halts_long close ended seen seen' pending t a b n0 n1 sees plain many r =
+      let n = next_long ended pending t plain many in
+      let is : IsHeard n.line r.heard = subst (λ (h : Heard). IsHeard n.line h) (sym (is_too_long pending r.heard r.is_heard (many_long pending many))) n.long in
       record {
         sees = sees;
         replies = r.text;
@@ -81,13 +81,13 @@ module _ (lanes : ℕ) where
         written = r.answers.2;
       }
 
-  pub long_ends : (seen' : History) (pending : List ℕ) (a b : Option (List ℕ)) (n0 n1 : ℕ) → 1026 ≤ length pending → Replied lanes pending seen' a b n0 n1 None → ⊥
-  long_ends seen' pending a b n0 n1 long r = false≢true (sym r.answers.0 ∙ ap is_over (is_too_long pending r.heard r.is_heard (omega (arith, long))))
+  pub long_ends : (seen' : History) (pending : List ℕ) (a b : Option (List ℕ)) (n0 n1 : ℕ) → IsTooMany pending → Replied lanes pending seen' a b n0 n1 None → ⊥
+  long_ends seen' pending a b n0 n1 many r = false≢true (sym r.answers.0 ∙ ap is_over (is_too_long pending r.heard r.is_heard (many_long pending many)))
 
   -- the end of the input
   silent : (close : Close) (ended : Bool) (history : History) (least : ℕ) → IsEnd close → Dialogue lanes close ended history least [] []
-  silent Ended ended history least e = record { turns = []; talks = (record { plain = tt; short = omega arith; none = λ _. refl }, refl) }
-  silent Full ended history least e = record { turns = []; talks = (record { plain = tt; short = omega arith; none = λ _. refl }, refl) }
+  silent Ended ended history least e = record { turns = []; talks = (record { plain = tt; few = few_none; none = λ _. refl }, refl) }
+  silent Full ended history least e = record { turns = []; talks = (record { plain = tt; few = few_none; none = λ _. refl }, refl) }
   silent Over ended history least e = absurd e
   silent ReadFault ended history least e = absurd e
   silent WriteFault ended history least e = absurd e
@@ -150,20 +150,20 @@ module _ (lanes lanes' : ℕ) (same : lanes' ≡ lanes) (seen0 seen seen' : Hist
       subst (λ (l : List ℕ). Goes lanes seen0 seen' l [] a c n0 n2) (piece_more line0 piece i 10 within byte)
       (goes_then lanes seen0 seen seen' (line0 ++ take i piece) pending (10 ∷ []) [] a b c n0 n1 n2 p (goes_line lanes seen seen' pending b c n1 n2 sees p.plain r1))
 
-  pub hears_long : (byte : ℕ) (text : List ℕ) (close : Close) → get_or piece i 0 ≡ byte → byte ≢ 10 → text ≡ pending ++ byte ∷ [] → length text ≡ 1026 → Replied lanes' text seen' b c n1 n2 (Some close) → IsEarly close × Halts lanes close false seen0 seen' (line0 ++ piece) a c n0 n2
-  hears_long byte text close at other e long r =
+  pub hears_long : (byte : ℕ) (text : List ℕ) (close : Close) → get_or piece i 0 ≡ byte → byte ≢ 10 → text ≡ pending ++ byte ∷ [] → IsTooMany text → Replied lanes' text seen' b c n1 n2 (Some close) → IsEarly close × Halts lanes close false seen0 seen' (line0 ++ piece) a c n0 n2
+  hears_long byte text close at other e many r =
       let r1 = subst (λ (l : List ℕ). Replied lanes l seen' b c n1 n2 (Some close)) e (subst (λ (n : ℕ). Replied n text seen' b c n1 n2 (Some close)) same r) in
       let plain = plain_append pending (byte ∷ []) p.plain (other, tt) in
-      let h = halts_long lanes close false seen seen' (pending ++ byte ∷ []) (drop (suc i) piece) b c n1 n2 sees plain (omega (arith, long, ap length e)) r1 in (
+      let h = halts_long lanes close false seen seen' (pending ++ byte ∷ []) (drop (suc i) piece) b c n1 n2 sees plain (subst (λ (l : List ℕ). IsTooMany l) e many) r1 in (
         r1.answers.0,
         subst (λ (l : List ℕ). Halts lanes close false seen0 seen' l a c n0 n2) (piece_at line0 piece i byte within at)
             (goes_halts lanes close false seen0 seen seen' (line0 ++ take i piece) pending (byte ∷ drop (suc i) piece) a b c n0 n1 n2 p (subst (λ (l : List ℕ). Halts lanes close false seen seen' l b c n1 n2) (append_assoc pending (byte ∷ []) (drop (suc i) piece)) h)),
       )
 
 module _ (lanes : ℕ) (seen0 seen : History) (line0 piece pending : List ℕ) (a b : Option (List ℕ)) (n0 n1 : ℕ) (i : ℕ) (within : i < length piece) (p : Goes lanes seen0 seen (line0 ++ take i piece) pending a b n0 n1) where
-  pub goes_byte_on : (byte : ℕ) (pending' : List ℕ) → get_or piece i 0 ≡ byte → byte ≢ 10 → pending' ≡ pending ++ byte ∷ [] → length pending' ≢ 1026 → Goes lanes seen0 seen (line0 ++ take (i + 1) piece) pending' a b n0 n1
-  goes_byte_on byte pending' at other e short =
-      let len : length (pending ++ byte ∷ []) ≤ 1025 = omega (arith, short, ap length e, p.short, length-append pending (byte ∷ [])) in
+  pub goes_byte_on : (byte : ℕ) (pending' : List ℕ) → get_or piece i 0 ≡ byte → byte ≢ 10 → pending' ≡ pending ++ byte ∷ [] → (IsTooMany pending' → ⊥) → Goes lanes seen0 seen (line0 ++ take (i + 1) piece) pending' a b n0 n1
+  goes_byte_on byte pending' at other e few =
+      let few1 : IsTooMany (pending ++ byte ∷ []) → ⊥ = λ many. few (subst (λ (l : List ℕ). IsTooMany l) (sym e) many) in
       subst (λ (l : List ℕ). Goes lanes seen0 seen (line0 ++ take (i + 1) piece) l a b n0 n1) (sym e)
       (subst (λ (l : List ℕ). Goes lanes seen0 seen l (pending ++ byte ∷ []) a b n0 n1) (piece_more line0 piece i byte within at)
-      (goes_then lanes seen0 seen seen (line0 ++ take i piece) pending (byte ∷ []) (pending ++ byte ∷ []) a b b n0 n1 n1 p (goes_byte lanes seen pending b n1 byte p.plain other len)))
+      (goes_then lanes seen0 seen seen (line0 ++ take i piece) pending (byte ∷ []) (pending ++ byte ∷ []) a b b n0 n1 n1 p (goes_byte lanes seen pending b n1 byte p.plain other few1)))

@@ -1,10 +1,10 @@
 -- What the parts of a connection do: one line, one piece of the input.
-use Rattle.std.specs.Prelude.{◌≡◌, ◌⊎◌, ℕ, ◌≤◌, Bool, true, false, List, ◌++◌, length, Option, None, Some}
+use Rattle.std.specs.Prelude.{◌≡◌, ◌⊎◌, ℕ, Bool, true, false, List, ◌++◌, Option, None, Some}
 use Rattle.std.specs.Io.KnownBytes.{Appends}
 use Rattle.cut_publisher.specs.History.{Begins, revision}
 use Rattle.ask_session.specs.declared.close.Close.{Close}
 use Rattle.ask_session.specs.declared.close.Close.TheVariants.{Ended, Full, Over, ReadFault, WriteFault}
-use Rattle.ask_session.specs.Lines.{HasNoEnd}
+use Rattle.ask_session.specs.Lines.{HasNoEnd, IsTooMany}
 use Rattle.ask_session.specs.Replies.{History, Heard, IsHeard, IsAnswer, is_over}
 use Rattle.ask_session.specs.Dialogue.{Dialogue}
 use Rattle.ask_session.specs.Connection.{HasWritten}
@@ -63,7 +63,7 @@ pub record Goes (lanes : ℕ) (seen seen' : History) (from pending : List ℕ) (
   pub written : List ℕ
   pub turns : Turns lanes seen seen' from pending written
   pub plain : HasNoEnd pending
-  pub short : length pending ≤ 1025
+  pub few : IsTooMany pending → ⊥
   pub told_is : Appends told told' written
   pub calm : writes' ≡ writes
 

@@ -1,7 +1,7 @@
-ghost use Rattle.std.specs.Prelude.{◌≡◌, ◌≤◌, ◌<◌, length, IsTrue};
+ghost use Rattle.std.specs.Prelude.{◌≡◌, IsTrue};
 ghost use Rattle.cut_publisher.specs.History.{revision};
 ghost use Rattle.wire_io.specs.Aside.{Given};
-ghost use Rattle.ask_session.specs.Lines.{HasNoEnd};
+ghost use Rattle.ask_session.specs.Lines.{HasNoEnd, IsTooMany};
 ghost use Rattle.ask_session.specs.Connection.{Conversed};
 ghost use Rattle.ask_session.specs.Sessions.{Sees};
 ghost use Rattle.ask_session.specs.Hearing.{Hears, EndsSo, IsEnd};
@@ -24,7 +24,7 @@ fn hear<K: Link>(
     piece: &[u8],
 ) -> Option<Close>
     requires plain { HasNoEnd line.old }
-    requires short { length line.old ≤ 1025 }
+    requires few { IsTooMany line.old → ⊥ }
     ensures sees { Sees pass.old pass.new }
     ensures hears { Hears pass.old.station.lanes result pass.old.seen pass.new.seen line.old piece.now line.new (K.told link.old) (K.told link.new) (K.faults link.old) (K.faults link.new) }
     ensures kept { K.aside link.new ≡ K.aside link.old }
@@ -37,7 +37,7 @@ fn hear<K: Link>(
             line.clear();
         } else {
             line.push(*byte);
-            if line.len() == 1026 {
+            if line.is_too_long() {
                 match reply_to(pass, link, line.as_slice()) {
                     Some(close) => return Some(close),
                     None => unreachable!(),
@@ -56,7 +56,7 @@ fn hear_last<K: Link>(
     close: Close,
 ) -> Close
     requires plain { HasNoEnd line.now }
-    requires short { length line.now ≤ 1025 }
+    requires few { IsTooMany line.now → ⊥ }
     requires close { IsEnd close }
     ensures sees { Sees pass.old pass.new }
     ensures ends { EndsSo pass.old.station.lanes close result pass.old.seen pass.new.seen line.now (K.told link.old) (K.told link.new) (K.faults link.old) (K.faults link.new) }

@@ -1,10 +1,13 @@
-ghost use Rattle.std.specs.Prelude.{◌≡◌, ◌<◌, ◌++◌, ◌∷◌, [], length};
-ghost use Rattle.ask_session.specs.Lines.{chomped};
+ghost use Rattle.std.specs.Prelude.{◌≡◌, ◌↔◌, ◌<◌, ◌++◌, ◌∷◌, [], length, IsTrue};
+ghost use Rattle.ask_session.specs.Lines.{IsTooMany, chomped};
 
 use std::marker::Model;
 
-/// The bytes of a line whose end has not come. It holds up to 1,026 of them: the 1,024 of a line, the carriage
-/// return before its end, and one more, with which a line is too long whatever follows.
+/// The most bytes of a line.
+pub const MOST_LINE: usize = 1024;
+
+/// The bytes of a line whose end has not come. It holds up to 1,026 of them: the 1,024 of a line, a carriage return
+/// that may be before its end, and one more, with which a line is too long whatever follows.
 #[derive(Drop)]
 pub struct Line {
     bytes: [u8; 1026],
@@ -43,6 +46,14 @@ impl Line {
     {
         self.bytes[self.len] = byte;
         self.len += 1;
+    }
+
+    /// Whether they are too many for any line, whatever follows: more than 1,024, where a carriage return at their end
+    /// isn't counted.
+    pub fn is_too_long(&self) -> bool
+        ensures { IsTrue result ↔ IsTooMany self.now }
+    {
+        chomp(self.as_slice()).len() > MOST_LINE
     }
 
     pub fn clear(&mut self)

@@ -7,15 +7,13 @@ ghost use Rattle.ask_session.specs.Sessions.{Sees};
 ghost use Rattle.ask_session.specs.Hearing.{Answers, HasReplied, Replied};
 
 use crate::close::Close;
+use crate::line::MOST_LINE;
 use cut_publisher::{AskPass, snapshot};
 use query_eval::answer;
 use query_lang::{Query, parse};
 use router_tables::RouterTables;
 use station_doors::Link;
 use wire_io::{Sink, write_all};
-
-/// The most bytes of a line.
-const MOST_LINE: usize = 1024;
 
 fn refuse_line<O: Sink>(out: &mut O) -> Option<Close>
     ensures answers { Answers result true error_line (O.told out.old) (O.told out.new) (O.faults out.old) (O.faults out.new) }

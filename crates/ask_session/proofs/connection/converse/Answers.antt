@@ -72,20 +72,20 @@ returns-clause-sees g c = sees_then c.args.pass.now c.loop-taken.pass c.hear_las
 pub hear_last-requires-clause-plain : goal.hear_last-requires-clause-plain
 hear_last-requires-clause-plain g c = c.loop-taken.invariant.lives.goes.plain
 
-pub hear_last-requires-clause-short : goal.hear_last-requires-clause-short
-hear_last-requires-clause-short g c = c.loop-taken.invariant.lives.goes.short
+pub hear_last-requires-clause-few : goal.hear_last-requires-clause-few
+hear_last-requires-clause-few g c = c.loop-taken.invariant.lives.goes.few
 
 pub hear-requires-clause-plain : goal.hear-requires-clause-plain
 hear-requires-clause-plain g c = c.loop-taken.invariant.lives.goes.plain
 
-pub hear-requires-clause-short : goal.hear-requires-clause-short
-hear-requires-clause-short g c = c.loop-taken.invariant.lives.goes.short
+pub hear-requires-clause-few : goal.hear-requires-clause-few
+hear-requires-clause-few g c = c.loop-taken.invariant.lives.goes.few
 
 pub hear_last-requires-2-clause-plain : goal.hear_last-requires-2-clause-plain
 hear_last-requires-2-clause-plain g c = c.loop-taken.invariant.lives.goes.plain
 
-pub hear_last-requires-2-clause-short : goal.hear_last-requires-2-clause-short
-hear_last-requires-2-clause-short g c = c.loop-taken.invariant.lives.goes.short
+pub hear_last-requires-2-clause-few : goal.hear_last-requires-2-clause-few
+hear_last-requires-2-clause-few g c = c.loop-taken.invariant.lives.goes.few
 
 pub read-requires-clause-is_open : goal.read-requires-clause-is_open
 read-requires-clause-is_open g c = c.loop-taken.invariant.lives.reads.stays.is_open ∙ c.requires

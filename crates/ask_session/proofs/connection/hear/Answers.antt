@@ -1,10 +1,12 @@
-use Rattle.std.proofs.Common.{arith, ◌∙◌, ap, sym, refl, length}
+use Rattle.std.proofs.Common.{arith, ◌∙◌, ap, sym, refl, subst, ℕ, List}
+use mathlib.Core.Bool.{false≢true}
 use Rattle.cut_publisher.specs.History.{Site}
-use Rattle.ask_session.specs.Lines.{chomped}
+use Rattle.ask_session.specs.Lines.{IsTooMany, chomped}
+use Rattle.ask_session.proofs.NextLine.{few_fit}
 use Rattle.ask_session.proofs.Pieces.{hears_line, hears_long, goes_on, goes_byte_on}
 use Rattle.ask_session.proofs.Serving.{sees_then}
 use Rattle.ask_session.proofs.connection.hear.Goals as goal
-use Rattle.ask_session.proofs.connection.hear.Goals.{then-byte-eq10+in_default, else-byte-eq10+else-len-eq1026}
+use Rattle.ask_session.proofs.connection.hear.Goals.{then-byte-eq10+in_default, else-byte-eq10+else-is_too_long}
 
 pub returns-in-Some-clause-hears : goal.returns-in-Some-clause-hears
 returns-in-Some-clause-hears g c = hears_line c.args.pass.now.station.lanes c.loop-byte.pass.station.lanes (ap (λ (x : Site). x.lanes) c.loop-byte.invariant.sees.station) c.args.pass.now.seen c.loop-byte.pass.seen c.reply_to.new.pass.seen c.in-Some.ensures.sees.seen
@@ -14,11 +16,14 @@ pub returns-in-Some-clause-sees : goal.returns-in-Some-clause-sees
 returns-in-Some-clause-sees g c = sees_then c.args.pass.now c.loop-byte.pass c.reply_to.new.pass c.loop-byte.invariant.sees c.in-Some.ensures.sees
 
 pub returns-in-Some-reply_to-clause-hears : goal.returns-in-Some-reply_to-clause-hears
-returns-in-Some-reply_to-clause-hears g c = hears_long c.args.pass.now.station.lanes c.loop-byte.pass.station.lanes (ap (λ (x : Site). x.lanes) c.loop-byte.invariant.sees.station) c.args.pass.now.seen c.loop-byte.pass.seen c.reply_to-then-len-eq1026.new.pass.seen c.in-Some-reply_to.ensures.sees.seen
-    c.args.line.now c.args.piece.now c.loop-byte.line _ _ _ _ _ _ c.loop-byte.byte-index (omega arith) c.loop-byte.invariant.goes _ c.as_slice-then-len-eq1026.result.now c.in-Some-reply_to.close refl c.if-byte-eq10.false (c.as_slice-then-len-eq1026.ensures ∙ c.push.ensures) (ap length c.as_slice-then-len-eq1026.ensures ∙ sym c.len.ensures ∙ c.if-len-eq1026.true) c.in-Some-reply_to.ensures.replied
+returns-in-Some-reply_to-clause-hears g c = hears_long c.args.pass.now.station.lanes c.loop-byte.pass.station.lanes (ap (λ (x : Site). x.lanes) c.loop-byte.invariant.sees.station) c.args.pass.now.seen c.loop-byte.pass.seen c.reply_to-then-is_too_long.new.pass.seen c.in-Some-reply_to.ensures.sees.seen
+    c.args.line.now c.args.piece.now c.loop-byte.line _ _ _ _ _ _ c.loop-byte.byte-index (omega arith) c.loop-byte.invariant.goes _ c.as_slice-then-is_too_long.result.now c.in-Some-reply_to.close refl c.if-byte-eq10.false (c.as_slice-then-is_too_long.ensures ∙ c.push.ensures) (subst (λ (l : List ℕ). IsTooMany l) (sym c.as_slice-then-is_too_long.ensures) (c.if-is_too_long.ensures.0 refl)) c.in-Some-reply_to.ensures.replied
 
 pub returns-in-Some-reply_to-clause-sees : goal.returns-in-Some-reply_to-clause-sees
-returns-in-Some-reply_to-clause-sees g c = sees_then c.args.pass.now c.loop-byte.pass c.reply_to-then-len-eq1026.new.pass c.loop-byte.invariant.sees c.in-Some-reply_to.ensures.sees
+returns-in-Some-reply_to-clause-sees g c = sees_then c.args.pass.now c.loop-byte.pass c.reply_to-then-is_too_long.new.pass c.loop-byte.invariant.sees c.in-Some-reply_to.ensures.sees
+
+pub push-requires : goal.push-requires
+push-requires g c = few_fit c.loop-byte.line c.loop-byte.invariant.goes.few
 
 pub loop-byte-preserved : goal.loop-byte-preserved
 loop-byte-preserved g c = elim c.if-byte-eq10.branch [
@@ -27,9 +32,9 @@ loop-byte-preserved g c = elim c.if-byte-eq10.branch [
     goes = rw (w.pass-is, w.link-is, w.line-is, w.clear.ensures) (goes_on c.args.pass.now.station.lanes c.loop-byte.pass.station.lanes (ap (λ (x : Site). x.lanes) c.loop-byte.invariant.sees.station) c.args.pass.now.seen c.loop-byte.pass.seen _ w.in_default.ensures.sees.seen c.args.line.now c.args.piece.now c.loop-byte.line _ _ _ _ _ _ c.loop-byte.byte-index (omega arith) c.loop-byte.invariant.goes w.chomp.result.now w.if-byte-eq10.true (w.chomp.ensures ∙ ap chomped w.as_slice.ensures) w.in_default.ensures.replied);
     kept = rw w.link-is (w.in_default.ensures.kept ∙ c.loop-byte.invariant.kept);
   }
-  | else-byte-eq10+else-len-eq1026 w ↦ record {
+  | else-byte-eq10+else-is_too_long w ↦ record {
     sees = rw w.pass-is c.loop-byte.invariant.sees;
-    goes = rw (w.pass-is, w.link-is, w.line-is) (goes_byte_on c.args.pass.now.station.lanes c.args.pass.now.seen c.loop-byte.pass.seen c.args.line.now c.args.piece.now c.loop-byte.line _ _ _ _ c.loop-byte.byte-index (omega arith) c.loop-byte.invariant.goes _ _ refl w.if-byte-eq10.false w.push.ensures (λ h. w.if-len-eq1026.false (w.len.ensures ∙ h)));
+    goes = rw (w.pass-is, w.link-is, w.line-is) (goes_byte_on c.args.pass.now.station.lanes c.args.pass.now.seen c.loop-byte.pass.seen c.args.line.now c.args.piece.now c.loop-byte.line _ _ _ _ c.loop-byte.byte-index (omega arith) c.loop-byte.invariant.goes _ _ refl w.if-byte-eq10.false w.push.ensures (λ many. false≢true (w.if-is_too_long.ensures.1 many)));
     kept = rw w.link-is c.loop-byte.invariant.kept;
   }
 ]
