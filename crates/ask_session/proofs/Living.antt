@@ -7,16 +7,17 @@ use Rattle.cut_publisher.specs.History.{revision}
 use Rattle.cut_publisher.proofs.Prefixes.{begins_self}
 use Rattle.wire_io.specs.Aside.{Aside, Given, fresh}
 use Rattle.wire_io.specs.Faults.{Rose}
-use Rattle.wire_io.proofs.Joins.{appends_then, keeps_appends}
+use Rattle.wire_io.proofs.Joins.{appends_none, appends_then, keeps_appends}
 use Rattle.ask_session.specs.declared.close.Close.{Close}
 use Rattle.ask_session.specs.declared.close.Close.TheVariants.{Ended, Full, Over, ReadFault, WriteFault}
 use Rattle.ask_session.specs.Lines.{HasNoEnd, IsTooMany}
 use Rattle.ask_session.specs.Replies.{History}
 use Rattle.ask_session.specs.Dialogue.{Dialogue}
-use Rattle.ask_session.specs.Connection.{ReadsInput, SaysEnd, HasReadFault, Conversed}
+use Rattle.ask_session.specs.Connection.{ReadsInput, SaysEnd, HasReadFault, Conversed, most_heard}
 use Rattle.ask_session.specs.Hearing.{IsEarly, Goes, Halts, EndsSo}
 use Rattle.ask_session.specs.Taking.{Lives}
 use Rattle.ask_session.proofs.NextLine.{few_none}
+use Rattle.ask_session.proofs.Going.{no_further}
 use Rattle.ask_session.proofs.Pieces.{goes_none, goes_halts, goes_then}
 use Rattle.ask_session.proofs.Reading.{ReadsPiece, input_begin, input_then}
 
@@ -113,10 +114,23 @@ module _ (lanes lanes' : ℕ) (same : lanes' ≡ lanes) (s1 s2 s3 : History) (a1
     goes = goes_then lanes s1 s2 s3 p.input.bytes pending piece pending' t1 t3 t4 n1 n3 n4 goes_read (subst (λ (l : ℕ). Goes l s2 s3 (pending ++ piece) pending' t3 t4 n3 n4) same q);
   }
 
-  pub conversed_early : (close : Close) → IsEarly close → Halts lanes' close false s2 s3 (pending ++ piece) t3 t4 n3 n4 → (input : Given) × Conversed lanes s3 (revision s1) a1 a4 input t1 t4 n1 n4 close
-  conversed_early close e q =
-      let h = goes_halts lanes close false s1 s2 s3 p.input.bytes pending piece t1 t3 t4 n1 n3 n4 goes_read (subst (λ (l : ℕ). Halts l close false s2 s3 (pending ++ piece) t3 t4 n3 n4) same q) in
-      (input_now, record { reads = all_read; few = all_few; ended = false; says = says_early close a4.rest input_now e; replies = h.replies; talk = h.talk; written = h.written; fault = fault_early close a1.read_faults a4.read_faults e all_calm })
+  pub conversed_early : (close : Close) → IsEarly close → length piece ≤ most_heard → Halts lanes' close false s2 s3 (pending ++ piece) t3 t4 n3 n4 → (input : Given) × Conversed lanes s3 (revision s1) a1 a4 input t1 t4 n1 n4 close
+  conversed_early close e short q =
+      let q1 = subst (λ (l : ℕ). Halts l close false s2 s3 (pending ++ piece) t3 t4 n3 n4) same q in
+      let h = goes_halts lanes close false s1 s2 s3 p.input.bytes pending piece t1 t3 t4 n1 n3 n4 goes_read q1 in (
+        input_now,
+        record {
+          reads = all_read;
+          few = all_few;
+          ended = false;
+          says = says_early close a4.rest input_now e;
+          replies = h.replies;
+          talk = h.talk;
+          written = h.written;
+          fault = fault_early close a1.read_faults a4.read_faults e all_calm;
+          no_further = no_further lanes s1 s2 s3 (p.input.bytes ++ piece) p.input.bytes pending piece close q1.replies t1 t3 t4 n1 n3 n3 n4 goes_read q1.sees refl short q1.written;
+        },
+      )
 
   pub conversed_end : (result : Close) → piece ≡ [] → last ≡ gave_none → IsAtEnd a3.rest → EndsSo lanes' Ended result s2 s3 pending t3 t4 n3 n4 → (input : Given) × Conversed lanes s3 (revision s1) a1 a4 input t1 t4 n1 n4 result
   conversed_end result none none_given end q =
@@ -134,6 +148,7 @@ module _ (lanes lanes' : ℕ) (same : lanes' ≡ lanes) (s1 s2 s3 : History) (a1
           talk = h.talk;
           written = h.written;
           fault = fault_end Ended result a1.read_faults a4.read_faults (inl refl) q.which all_calm;
+          no_further = no_further lanes s1 s2 s3 (p.input.bytes ++ piece) p.input.bytes pending piece result q1.replies t1 t3 t4 n1 n3 n3 n4 goes_read q1.sees refl (omega (arith, ap length none)) q1.written;
         },
       )
 
@@ -155,6 +170,7 @@ module _ (lanes : ℕ) (s1 s2 s3 : History) (a1 a2 a3 : Aside) (t1 t2 t3 : Optio
           talk = subst (λ (l : List ℕ). Dialogue lanes result true s3 (revision s1) l h.replies) (append-nil p.input.bytes) h.talk;
           written = h.written;
           fault = fault_end Full result a1.read_faults a3.read_faults (inr refl) q.which calm;
+          no_further = no_further lanes s1 s2 s3 p.input.bytes p.input.bytes pending [] result q1.replies t1 t2 t3 n1 n2 n2 n3 p.goes q1.sees (sym (append-nil p.input.bytes)) (omega arith) q1.written;
         },
       )
 
@@ -174,5 +190,6 @@ module _ (lanes : ℕ) (s1 s2 s3 : History) (a1 a2 a3 : Aside) (t1 t2 t3 : Optio
           talk = g.turns.go ReadFault false s2 [] [] (begins_self s2) d;
           written = (subst (λ (l : List ℕ). Appends t1 t3 l) (sym (append-nil g.written)) g.told_is, g.calm);
           fault = subst (λ (n : ℕ). Rose n a3.read_faults) p.calm rose;
+          no_further = no_further lanes s1 s2 s2 (p.input.bytes ++ []) p.input.bytes pending [] ReadFault [] t1 t3 t3 n1 n3 n3 n3 g (begins_self s2) refl (omega arith) (appends_none t3, refl);
         },
       )

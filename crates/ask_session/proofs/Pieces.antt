@@ -59,7 +59,7 @@ module _ (lanes : ℕ) where
   halts_line close ended seen seen' pending t a b n0 n1 sees plain r = record {
     sees = sees;
     replies = r.text;
-    talk = subst (λ (l : List ℕ). Dialogue lanes close ended seen' (revision seen) l r.text) (append_assoc pending (10 ∷ []) t) (early lanes seen seen' sees r.heard r.text r.is_answer close ended _ (chomped pending) t (next_ends ended pending t plain) r.is_heard r.answers.0 r.answers.1);
+    talk = subst (λ (l : List ℕ). Dialogue lanes close ended seen' (revision seen) l r.text) (append_assoc pending (10 ∷ []) t) (early lanes seen seen' sees r.heard r.text r.is_answer close ended _ (chomped pending) t (next_ends ended pending t plain) r.is_heard r.answers.1);
     written = r.answers.2;
   }
 
@@ -77,7 +77,7 @@ module _ (lanes : ℕ) where
       record {
         sees = sees;
         replies = r.text;
-        talk = early lanes seen seen' sees r.heard r.text r.is_answer close ended (pending ++ t) n.line n.rest n.next is r.answers.0 r.answers.1;
+        talk = early lanes seen seen' sees r.heard r.text r.is_answer close ended (pending ++ t) n.line n.rest n.next is r.answers.1;
         written = r.answers.2;
       }
 
@@ -122,7 +122,7 @@ module _ (lanes : ℕ) where
     halts = record {
       sees = sees;
       replies = r.text;
-      talk = early lanes seen seen' sees r.heard r.text r.is_answer early' true pending pending [] (next_last pending plain some) r.is_heard r.answers.0 r.answers.1;
+      talk = early lanes seen seen' sees r.heard r.text r.is_answer early' true pending pending [] (next_last pending plain some) r.is_heard r.answers.1;
       written = r.answers.2;
     };
   }

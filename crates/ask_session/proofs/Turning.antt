@@ -1,6 +1,5 @@
 -- One line after another.
-use Rattle.std.proofs.Common.{◌≡◌, ℕ, ◌≤◌, Bool, true, false, List, [], ◌∷◌, ◌++◌, Option, refl, ap, sym, ◌∙◌, subst, append_assoc, append-nil, arith}
-use Rattle.std.specs.Prelude.{MatchBool}
+use Rattle.std.proofs.Common.{◌≡◌, inl, inr, ℕ, ◌≤◌, Bool, false, List, [], ◌∷◌, ◌++◌, Option, refl, ap, sym, ◌∙◌, subst, append_assoc, append-nil, arith}
 use Rattle.std.specs.Io.KnownBytes.{Appends}
 use Rattle.cut_publisher.specs.History.{Begins, revision}
 use Rattle.cut_publisher.proofs.Prefixes.{begins_self, begins_trans}
@@ -11,19 +10,13 @@ use Rattle.ask_session.specs.declared.close.Close.{Close}
 use Rattle.ask_session.specs.declared.close.Close.TheVariants.{Ended, Full, Over, ReadFault, WriteFault}
 use Rattle.ask_session.specs.Lines.{HasNoEnd, chomped}
 use Rattle.ask_session.specs.Replies.{History, Heard, IsHeard, IsAnswer, is_over}
-use Rattle.ask_session.specs.Dialogue.{Turn, Talks, Dialogue}
+use Rattle.ask_session.specs.Dialogue.{Turn, Dialogue, EndsWith}
 use Rattle.ask_session.specs.Connection.{HasWritten}
-use Rattle.ask_session.specs.Hearing.{IsEarly, HasOver, Turns}
+use Rattle.ask_session.specs.Hearing.{Turns}
 use Rattle.ask_session.proofs.NextLine.{Next, next_ends}
 
 begins_revision : (a b : History) → Begins a b → revision a ≤ revision b
 begins_revision a b p = omega (arith, ap revision p.is, revision-append a p.rest)
-
-abbrev no_turns : List Turn
-no_turns = []
-
-abbrev no_bytes : List ℕ
-no_bytes = []
 
 -- a line, its reply, and the rest of the connection
 module _ (lanes : ℕ) (seen seen' : History) (sees : Begins seen seen') (heard : Heard) (text : List ℕ) (answer : IsAnswer lanes seen' heard text) where
@@ -34,32 +27,15 @@ module _ (lanes : ℕ) (seen seen' : History) (sees : Begins seen seen') (heard 
       → Dialogue lanes close ended history (revision seen') rest back → Dialogue lanes close ended history (revision seen) t (text ++ back)
   on close ended history t line rest back next is going later d = record {
     turns = turn_of line ∷ d.turns;
-    talks = (rest, back, record { next = next; heard = is; seen = later; recent = begins_revision seen seen' sees; answered = answer; all = refl }, rw going d.talks);
+    talks = (rest, back, record { next = next; heard = is; seen = later; recent = begins_revision seen seen' sees; answered = answer; all = refl }, inr (going, d.talks));
   }
 
-  over : (close : Close) (ended : Bool) (t line rest : List ℕ) → Next ended t line rest → IsHeard line heard → is_over heard ≡ true → Dialogue lanes close ended seen' (revision seen) t text
-  over close ended t line rest next is stopped = record {
+  -- the reply to a line with which the connection ends
+  pub early : (close : Close) (ended : Bool) (t line rest : List ℕ) → Next ended t line rest → IsHeard line heard → EndsWith close (is_over heard) → Dialogue lanes close ended seen' (revision seen) t text
+  early close ended t line rest next is ends = record {
     turns = turn_of line ∷ [];
-    talks = (rest, [], record { next = next; heard = is; seen = begins_self seen'; recent = begins_revision seen seen' sees; answered = answer; all = sym (append-nil text) }, rw stopped (refl, refl));
+    talks = (rest, [], record { next = next; heard = is; seen = begins_self seen'; recent = begins_revision seen seen' sees; answered = answer; all = sym (append-nil text) }, inl (ends, refl, refl));
   }
-
-  cut : (ended : Bool) (t line rest : List ℕ) → Next ended t line rest → IsHeard line heard → Dialogue lanes WriteFault ended seen' (revision seen) t text
-  cut ended t line rest next is = record {
-    turns = turn_of line ∷ [];
-    talks = (rest, [], record { next = next; heard = is; seen = begins_self seen'; recent = begins_revision seen seen' sees; answered = answer; all = sym (append-nil text) }, either (is_over heard));
-  }
-    where
-      either : (b : Bool) → MatchBool b ((no_turns ≡ []) × (no_bytes ≡ [])) (Talks lanes WriteFault ended seen' (revision seen') rest [] [])
-      either true = (refl, refl)
-      either false = (tt, refl)
-
-  -- the reply to a line after which none counts, or that could not be written
-  pub early : (close : Close) (ended : Bool) (t line rest : List ℕ) → Next ended t line rest → IsHeard line heard → IsEarly close → HasOver close (is_over heard) → Dialogue lanes close ended seen' (revision seen) t text
-  early Over ended t line rest next is e o = over Over ended t line rest next is o
-  early WriteFault ended t line rest next is e o = cut ended t line rest next is
-  early Ended ended t line rest next is e o = absurd e
-  early Full ended t line rest next is e o = absurd e
-  early ReadFault ended t line rest next is e o = absurd e
 
 -- turns, one after another
 pub turns_none : (lanes : ℕ) (seen : History) (from : List ℕ) → Turns lanes seen seen from from []

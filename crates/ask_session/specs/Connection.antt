@@ -8,7 +8,7 @@ use Rattle.wire_io.specs.Writes.{AppendsFront}
 use Rattle.ask_session.specs.declared.close.Close.{Close}
 use Rattle.ask_session.specs.declared.close.Close.TheVariants.{Ended, Full, Over, ReadFault, WriteFault}
 use Rattle.ask_session.specs.Replies.{History}
-use Rattle.ask_session.specs.Dialogue.{Dialogue}
+use Rattle.ask_session.specs.Dialogue.{Dialogue, GoesOn}
 
 -- the connections given, where they are told, of which the present one gave these bytes
 abbrev pub GivesInput : Option (List Given) → Option (List Given) → Given → Type 0
@@ -58,6 +58,25 @@ HasReadFault Full reads reads' = reads' ≡ reads
 HasReadFault Over reads reads' = reads' ≡ reads
 HasReadFault WriteFault reads reads' = reads' ≡ reads
 
+-- the most bytes that one read gives
+abbrev pub most_heard : ℕ
+most_heard = 512
+
+-- this was written, and then some bytes more, or none
+abbrev pub AppendsThenMore : Option (List ℕ) → Option (List ℕ) → List ℕ → Type 0
+AppendsThenMore told told' text = (more : List ℕ) × Appends told told' (text ++ more)
+
+-- Nothing is read once the connection ended: without the bytes of the last read it goes on, and the replies to their lines
+-- were written. So neither `quit` nor a line that is too long is among them, nor one whose reply couldn't be written.
+pub record IsReadNoFurther (lanes : ℕ) (history : History) (least : ℕ) (bytes : List ℕ) (told told' : Option (List ℕ)) : Type 0 where
+  pub front : List ℕ
+  pub piece : List ℕ
+  pub split : bytes ≡ front ++ piece
+  pub short : length piece ≤ most_heard
+  pub replies : List ℕ
+  pub going : GoesOn lanes history least front replies
+  pub written : AppendsThenMore told told' replies
+
 -- One connection, from its opening to its end: what was read of it, at most 2^46 bytes, and what was written. `history` is
 -- what the pass has seen in the end, `least` the revision of what it had seen when the connection began.
 pub record Conversed (lanes : ℕ) (history : History) (least : ℕ) (old new : Aside) (input : Given) (told told' : Option (List ℕ)) (writes writes' : ℕ) (close : Close) : Type 0 where
@@ -69,3 +88,4 @@ pub record Conversed (lanes : ℕ) (history : History) (least : ℕ) (old new : 
   pub talk : Dialogue lanes close ended history least input.bytes replies
   pub written : HasWritten close replies told told' writes writes'
   pub fault : HasReadFault close old.read_faults new.read_faults
+  pub no_further : IsReadNoFurther lanes history least input.bytes told told'

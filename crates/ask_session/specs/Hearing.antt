@@ -6,7 +6,7 @@ use Rattle.ask_session.specs.declared.close.Close.{Close}
 use Rattle.ask_session.specs.declared.close.Close.TheVariants.{Ended, Full, Over, ReadFault, WriteFault}
 use Rattle.ask_session.specs.Lines.{HasNoEnd, IsTooMany}
 use Rattle.ask_session.specs.Replies.{History, Heard, IsHeard, IsAnswer, is_over}
-use Rattle.ask_session.specs.Dialogue.{Dialogue}
+use Rattle.ask_session.specs.Dialogue.{Dialogue, EndsWith}
 use Rattle.ask_session.specs.Connection.{HasWritten}
 
 -- ways to end before the input does
@@ -25,18 +25,10 @@ IsEnd Over = ⊥
 IsEnd ReadFault = ⊥
 IsEnd WriteFault = ⊥
 
--- an early end after a line after which a line counts, or none does
-abbrev pub HasOver : Close → Bool → Type 0
-HasOver WriteFault over = Unit {0}
-HasOver Over over = over ≡ true
-HasOver Ended over = ⊥
-HasOver Full over = ⊥
-HasOver ReadFault over = ⊥
-
 -- what was written of this text, and whether the connection ends
 abbrev pub Answers : Option Close → Bool → List ℕ → Option (List ℕ) → Option (List ℕ) → ℕ → ℕ → Type 0
 Answers None over text told told' writes writes' = (over ≡ false) × Appends told told' text × (writes' ≡ writes)
-Answers (Some close) over text told told' writes writes' = IsEarly close × HasOver close over × HasWritten close text told told' writes writes'
+Answers (Some close) over text told told' writes writes' = IsEarly close × EndsWith close over × HasWritten close text told told' writes writes'
 
 -- a reply was written, after which a line counts
 pub record HasReplied (IsText : List ℕ → Type 0) (result : Option Close) (told told' : Option (List ℕ)) (writes writes' : ℕ) : Type 0 where

@@ -5,8 +5,9 @@
 //! carriage return is no part of it. It takes no memory and no lock, and refuses nothing.
 //!
 //! Proved: `serve_session` writes to each connection the replies to its lines, in order, each on a front of one
-//! history, at a revision that never falls. After `quit` or a line of more than 1,024 bytes no line is answered; else
-//! all are until the input ended, 2^46 bytes were taken, or a read or write failed, as is told.
+//! history, at a revision that never falls. After `quit` or a line of more than 1,024 bytes no line is answered and
+//! nothing more is read, as after a failed write; else all are answered until the input ended, 2^46 bytes were taken, or a
+//! read failed.
 //! Begin with `specs/Lines.antt`, `specs/Replies.antt` and `specs/Dialogue.antt`, which say what a dialogue is, then
 //! `specs/Sessions.antt` and `src/session.rt`.
 #![tactic(auto)]

@@ -26,7 +26,8 @@ fn opens<K: Link>(link: &mut K) -> bool
 /// Each line gets its reply from a snapshot that is taken after the read that brought its last byte, and the reply is
 /// handed on before more is read. A line outside the grammar gets `error query`. A connection ends at `quit`, at
 /// `error line` for a line of more than 1,024 bytes, where the input ends, after 2^46 bytes, or where a read or a write
-/// fails. It takes no memory and no lock.
+/// fails. After that nothing is read of it: where it ends with a line, that line's end, or the byte with which it was too
+/// long, was among the last 512 bytes. It takes no memory and no lock.
 pub fn serve_session<K: Link>(pass: &mut AskPass<RouterTables>, link: &mut K, rounds: u32) -> u32
     ensures sees { Sees pass.old pass.new }
     ensures served { Served pass.old.station.lanes rounds pass.old.seen pass.new.seen (K.aside link.old) (K.aside link.new) (K.told link.old) (K.told link.new) (K.faults link.old) (K.faults link.new) result }

@@ -14,7 +14,7 @@ use Rattle.feed_worker.specs.declared.feed.LaneEnd.{LaneEnd}
 use Rattle.feed_worker.specs.declared.feed.LaneEnd.TheVariants as end
 use Rattle.ask_session.specs.Replies.{History}
 use Rattle.ask_session.specs.Sessions.{Served, Serves, Session}
-use Rattle.ask_session.proofs.Later.{dialogue_later}
+use Rattle.ask_session.proofs.Later.{dialogue_later, no_further_later}
 use Rattle.station_run.specs.declared.tasks.LaneWork.{LaneWork}
 use Rattle.station_run.specs.declared.tasks.AskWork.{AskWork}
 use Rattle.station_run.specs.declared.tasks.Task.{Task}
@@ -172,6 +172,7 @@ on_history lanes h (x ∷ xs) seen seen' a a' t t' w w' s later =
         talk = dialogue_later lanes x.close s.3.ended x.seen h (revision seen) x.input.bytes s.3.replies here s.3.talk;
         written = s.3.written;
         fault = s.3.fault;
+        no_further = no_further_later lanes x.seen h (revision seen) x.input.bytes x.told0 x.told1 here s.3.no_further;
       },
       on_history lanes h xs x.seen seen' x.closed a' x.told1 t' x.writes w' rest later,
     )

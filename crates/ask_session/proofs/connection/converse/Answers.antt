@@ -22,11 +22,12 @@ returns-in-Some-clause-talk g c =
     let e = c.in-Ok.ensures in
     let within : c.in-Ok.n ≤ length c.read.new.buf = search rules in
     let len : length (take c.in-Ok.n c.read.new.buf) ≡ c.in-Ok.n = search rules in
+    let short : length (take c.in-Ok.n c.read.new.buf) ≤ 512 = search rules in
     let same : take c.in-Ok.n (c.read.new.buf ++ drop c.min-room.result c.loop-taken.buf) ≡ take c.in-Ok.n c.read.new.buf = take-append-le c.in-Ok.n c.read.new.buf (drop c.min-room.result c.loop-taken.buf) within in
     let hears = rw same at c.in-Some.ensures.hears in
     let piece = piece_ok (g.K.Sink.aside c.loop-taken.link) (g.K.Sink.aside c.read.new.self) c.in-Ok.n c.read.new.buf e.reads len in
     conversed_early c.args.pass.now.station.lanes c.loop-taken.pass.station.lanes (ap (λ (x : Site). x.lanes) c.loop-taken.invariant.sees.station) _ _ _ _ _ _ _ _ _ _ _ _ _ _ _ _ _ _ _ c.loop-taken.invariant.lives piece e.told e.calm e.reads.cause.fine
-    (search rules) c.in-Some.ensures.kept c.in-Some.close hears.0 hears.1
+    (search rules) c.in-Some.ensures.kept c.in-Some.close hears.0 short hears.1
 
 pub returns-in-Err-clause-talk : goal.returns-in-Err-clause-talk
 returns-in-Err-clause-talk g c = conversed_fault c.args.pass.now.station.lanes _ _ c.loop-taken.pass.seen (g.K.Sink.aside c.args.link.now) (g.K.Sink.aside c.loop-taken.link) (g.K.Sink.aside c.read.new.self) _ _ _ _ _ _ _ _ c.loop-taken.invariant.lives
