@@ -16,7 +16,7 @@ use Rattle.station_doors.specs.Doors.{Returned, ReturnedLink}
 use Rattle.station_doors.specs.declared.listening.Listening.{Listening}
 use Rattle.station_run.specs.Handed.{AllComeBack, Lends, call_after, numbered, numbered_links}
 use Rattle.station_run.specs.Served.{HaveServed, ask_of, first_link_of, first_of, last_link_of, last_of, pass_of}
-use Rattle.station_run.specs.Serve.{AnswersFault, GivesAllBack, YardSeen}
+use Rattle.station_run.specs.Serve.{AnswersFault, GivesAllBack, ServesAll, YardSeen}
 use Rattle.station_run.proofs.Handing.{length-numbered, length-numbered_links}
 use Rattle.station_run.proofs.Returning.{come_back}
 use Rattle.station_run.proofs.Runs.{all_at, asks_of_station, lanes_of_station}
@@ -115,3 +115,7 @@ module _ (meaning : Meaning) (rounds : ℕ) (b : Site) (ports back : List Return
       (subst (λ (l : List ReturnedLink). GivesAllBack at old new (numbered first_of 0 s.runs) (numbered last_of 0 s.runs) l links_back) (sym s.first_links_are)
       (subst (λ (l : List Returned). GivesAllBack at old new (numbered first_of 0 s.runs) l links links_back) (sym s.last_are)
       (subst (λ (l : List Returned). GivesAllBack at old new l back links links_back) (sym s.first_are) g)))
+
+  -- all was served
+  pub serves_all : {E : Type 0} (at : Listening) (old new : YardSeen E) → b.lanes ≡ at.feeds → GivesAllBack at old new ports back links links_back → ServesAll meaning at rounds old new
+  serves_all at old new wide g = record { site = b; wide = wide; runs = s.runs; ask_runs = s.ask_runs; lanes = s.lanes; askers = s.askers; back = by_runs at old new g }

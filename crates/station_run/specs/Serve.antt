@@ -3,7 +3,7 @@ use Rattle.std.specs.Prelude.{◌≡◌, ℕ, ◌+◌, List, [], ◌++◌, lengt
 use Rattle.std.specs.Io.KnownBytes.{Appends, Keeps}
 use Rattle.bmp_specs.specs.Lines.{line, number_line}
 use Rattle.bmp_specs.specs.Meaning.{Meaning}
-use Rattle.cut_publisher.specs.History.{Asker, Fed}
+use Rattle.cut_publisher.specs.History.{Asker, Fed, Site}
 use Rattle.rib_model.specs.declared.entry.Entry.{Entry}
 use Rattle.router_tables.specs.Tables.{TablesValue}
 use Rattle.wire_io.specs.Faults.{Rose}
@@ -12,7 +12,7 @@ use Rattle.station_doors.specs.Doors.{YardValue, Returned, ReturnedLink, KeepsEn
 use Rattle.station_doors.specs.declared.listening.Listening.{Listening}
 use Rattle.station_run.specs.Handed.{ComeBack, Refuses, call_after, numbered, numbered_links}
 use Rattle.station_run.specs.Pairing.{outcome_of}
-use Rattle.station_run.specs.Served.{AskRun, IsServed, LaneRun, end_of, first_link_of, first_of, last_link_of, last_of}
+use Rattle.station_run.specs.Served.{AskRun, AsksServe, IsServed, LaneRun, LanesServe, end_of, first_link_of, first_of, last_link_of, last_of}
 use Rattle.station_run.specs.declared.outcome.Outcome.{Outcome}
 use Rattle.station_run.specs.declared.outcome.Outcome.TheVariants.{NoMemory, YardFault, WriteFault}
 
@@ -52,6 +52,17 @@ pub record GivesAllBack {E : Type 0} (at : Listening) (old new : YardSeen E) (po
   pub links_count : length links ≡ at.askers
   pub told : ComeBack old.told new.told old.calls (1 + (at.feeds + at.askers)) ports back links links_back
 
+-- All was served: what each lane and each asker came to, and that every port and link came back. What their passes have
+-- seen of one another's entries isn't said.
+pub record ServesAll {E : Type 0} (meaning : Meaning) (at : Listening) (rounds : ℕ) (old new : YardSeen E) : Type 0 where
+  pub site : Site
+  pub wide : site.lanes ≡ at.feeds
+  pub runs : List LaneRun
+  pub ask_runs : List AskRun
+  pub lanes : LanesServe meaning rounds site 0 runs
+  pub askers : AsksServe rounds site ask_runs
+  pub back : GivesAllBack at old new (numbered first_of 0 runs) (numbered last_of 0 runs) (numbered_links first_link_of 0 ask_runs) (numbered_links last_link_of 0 ask_runs)
+
 -- all was served, and the end of the history was shown to all: what each lane and each asker came to, and the ending
 pub record Ends {E : Type 0} (Shows : E → List (TablesValue × ℕ) → List (Fed Entry) → List (Asker Entry) → Type 0) (meaning : Meaning) (at : Listening) (rounds : ℕ) (old new : YardSeen E) (outcome : Outcome) (rev : ℕ) : Type 0 where
   pub runs : List LaneRun
@@ -76,9 +87,8 @@ pub data Comes {E : Type 0} (Shows : E → List (TablesValue × ℕ) → List (F
   -- `ready` couldn't be written: nothing was served, and all came back as it was
   unready : (ports : List Returned) (links : List ReturnedLink) → outcome ≡ WriteFault → GivesAllBack at old new ports ports links links → TakesNone old new → AppendsFront told ready_line told'
       → Comes Shows meaning at rounds old new told told' outcome
-  -- want of memory once all had been served: all came back
-  unfinished : (ports back : List Returned) (links links_back : List ReturnedLink) → outcome ≡ NoMemory → GivesAllBack at old new ports back links links_back → TakesNone old new → Appends told told' ready_line
-      → Comes Shows meaning at rounds old new told told' outcome
+  -- out of memory once all had been served, so that the history wasn't ended
+  unfinished : outcome ≡ NoMemory → ServesAll meaning at rounds old new → TakesNone old new → Appends told told' ready_line → Comes Shows meaning at rounds old new told told' outcome
   -- all was served; a lane may have ended for want of memory
   finished : (rev : ℕ) → Ends Shows meaning at rounds old new outcome rev → Appends told told' (ready_line ++ done_line rev) → Comes Shows meaning at rounds old new told told' outcome
   -- the same, and the last line couldn't be written

@@ -11,7 +11,7 @@ use Rattle.station_run.specs.declared.outcome.Outcome.TheVariants.{WriteFault, Y
 use Rattle.wire_io.proofs.Joins.{join}
 use Rattle.station_run.proofs.Handing.{length-numbered, length-numbered_links}
 use Rattle.station_run.proofs.Runs.{is_served}
-use Rattle.station_run.proofs.Ends.{answers, answers_not, as_many_back, as_many_links_back, ask_runs_are, asks_are_of, asks_of_site, by_runs, feeds_of_site, gives_back, keeps_self, no_memory_write, no_memory_yard, not_write, not_yard, runs_are, write_yard}
+use Rattle.station_run.proofs.Ends.{answers, answers_not, as_many_back, as_many_links_back, ask_runs_are, asks_are_of, asks_of_site, by_runs, feeds_of_site, gives_back, keeps_self, no_memory_write, no_memory_yard, not_write, not_yard, runs_are, serves_all, write_yard}
 use Rattle.station_run.proofs.run.run.Goals as goal
 
 pub name-publisher-requires-clause-asks : goal.name-publisher-requires-clause-asks
@@ -58,9 +58,9 @@ returns-then-not-kept-clause-comes g c =
     let s = c.serve_doors-outcome.ensures in
     let o = c.in-Ok.ensures in
     let b = c.give_back-2.ensures in
-    unfinished _ _ _ _ refl (gives_back c.args.at.now _ (record { told = g.Y.Yard.told c.open_doors.new.yard; calls = g.Y.Yard.calls c.open_doors.new.yard; listened = g.Y.Yard.listened c.open_doors.new.yard; endings = g.Y.Yard.endings c.open_doors.new.yard; last_ending = g.Y.Yard.last_ending c.open_doors.new.yard }) _ _ _ _ _
+    unfinished refl (serves_all _ _ _ _ _ _ _ _ _ _ _ s c.args.at.now _ _ (sym (ap (λ (x : Site). x.lanes) c.requires.named) ∙ c.requires.opened.wide) (gives_back c.args.at.now _ (record { told = g.Y.Yard.told c.open_doors.new.yard; calls = g.Y.Yard.calls c.open_doors.new.yard; listened = g.Y.Yard.listened c.open_doors.new.yard; endings = g.Y.Yard.endings c.open_doors.new.yard; last_ending = g.Y.Yard.last_ending c.open_doors.new.yard }) _ _ _ _ _
     o.listened o.calls (length-numbered g.Y.Port.Port.aside 0 c.in-Ok.doors.ports.items ∙ o.asked.0) (length-numbered_links shows 0 c.in-Ok.doors.links.items ∙ o.asked.1) o.lends b.listened b.calls
-    (as_many_back _ _ _ _ _ _ _ _ _ _ _ s) (as_many_links_back _ _ _ _ _ _ _ _ _ _ _ s) b.told)
+    (as_many_back _ _ _ _ _ _ _ _ _ _ _ s) (as_many_links_back _ _ _ _ _ _ _ _ _ _ _ s) b.told))
     (record { endings = b.endings ∙ o.endings; last = b.ending ∙ o.ending }) c.in-Ok-put_ready.ensures.whole
 
 pub returns-then-not-kept-clause-out : goal.returns-then-not-kept-clause-out
@@ -155,9 +155,9 @@ returns-in-Err-NoMemory-clause-comes g c =
     let s = c.serve_doors-outcome.ensures in
     let o = c.in-Ok.ensures in
     let b = c.give_back-2.ensures in
-    unfinished _ _ _ _ refl (gives_back c.args.at.now _ (record { told = g.Y.Yard.told c.open_doors.new.yard; calls = g.Y.Yard.calls c.open_doors.new.yard; listened = g.Y.Yard.listened c.open_doors.new.yard; endings = g.Y.Yard.endings c.open_doors.new.yard; last_ending = g.Y.Yard.last_ending c.open_doors.new.yard }) _ _ _ _ _
+    unfinished refl (serves_all _ _ _ _ _ _ _ _ _ _ _ s c.args.at.now _ _ (sym (ap (λ (x : Site). x.lanes) c.requires.named) ∙ c.requires.opened.wide) (gives_back c.args.at.now _ (record { told = g.Y.Yard.told c.open_doors.new.yard; calls = g.Y.Yard.calls c.open_doors.new.yard; listened = g.Y.Yard.listened c.open_doors.new.yard; endings = g.Y.Yard.endings c.open_doors.new.yard; last_ending = g.Y.Yard.last_ending c.open_doors.new.yard }) _ _ _ _ _
     o.listened o.calls (length-numbered g.Y.Port.Port.aside 0 c.in-Ok.doors.ports.items ∙ o.asked.0) (length-numbered_links shows 0 c.in-Ok.doors.links.items ∙ o.asked.1) o.lends b.listened b.calls
-    (as_many_back _ _ _ _ _ _ _ _ _ _ _ s) (as_many_links_back _ _ _ _ _ _ _ _ _ _ _ s) b.told)
+    (as_many_back _ _ _ _ _ _ _ _ _ _ _ s) (as_many_links_back _ _ _ _ _ _ _ _ _ _ _ s) b.told))
     (record { endings = b.endings ∙ o.endings; last = b.ending ∙ o.ending }) c.in-Ok-put_ready.ensures.whole
 
 pub returns-in-Err-NoMemory-clause-out : goal.returns-in-Err-NoMemory-clause-out
