@@ -1,5 +1,5 @@
 -- A connection that was taken is closed.
-use Rattle.std.proofs.Common.{◌≡◌, ℕ, ◌+◌, ◌*◌, ◌<◌, ◌≤◌, ◌^◌, List, [], ◌∷◌, ◌++◌, length, Result, Ok, Err, Some, None, Option, refl, sym, ap, subst, append-nil, append_assoc, arith, length-append}
+use Rattle.std.proofs.Common.{◌≡◌, inr, ℕ, ◌+◌, ◌*◌, ◌<◌, ◌≤◌, ◌^◌, List, [], ◌∷◌, ◌++◌, length, Result, Ok, Err, Some, None, Option, refl, sym, ap, subst, append-nil, append_assoc, arith, length-append}
 use Rattle.std.specs.Prelude.{MatchResult}
 use Rattle.bmp_specs.specs.declared.causes.Cause.{Cause}
 use Rattle.bmp_specs.specs.Meaning.{Meaning}
@@ -51,14 +51,13 @@ module _ (meaning : Meaning) (a b : Aside) (pass0 pass : Fed Entry) (cause : Cau
     entries = opened ∷ t.messages;
     takes = t.took;
     closes = shut;
-    is_of = record {
+    is_of = inr (record {
       front = t.input.bytes;
       piece = [];
       split = sym (append-nil t.input.bytes);
       short = omega arith;
-      after = [];
-      life = record { messages = t.messages; offset = t.come.offset; verdict = t.come.verdict; within = t.come.within; walk = t.come.walk; is = append-nil (opened ∷ t.messages) };
-    };
+      life = record { messages = t.messages; offset = t.come.offset; verdict = t.come.verdict; within = t.come.within; walk = t.come.walk; is = refl };
+    });
     grows = subst (λ (p : Fed Entry). Grows pass0 p (opened ∷ t.messages)) (sym same) t.grows;
   }
 

@@ -1,5 +1,5 @@
 -- A connection that is taken to its end and published, read by read.
-use Rattle.std.proofs.Common.{◌≡◌, ◌≢◌, ℕ, ◌+◌, ◌<◌, ◌≤◌, ◌^◌, length, take, List, [], ◌∷◌, ◌++◌, Option, Some, None, Ok, Err, refl, ap, sym, ◌∙◌, subst, append-nil, length-append, length-take, arith}
+use Rattle.std.proofs.Common.{◌≡◌, ◌≢◌, inl, inr, ℕ, ◌+◌, ◌<◌, ◌≤◌, ◌^◌, length, take, List, [], ◌∷◌, ◌++◌, Option, Some, None, Ok, Err, refl, ap, sym, ◌∙◌, subst, append-nil, length-append, length-take, arith}
 use Rattle.bmp_specs.specs.declared.causes.Cause.{Cause}
 use Rattle.bmp_specs.specs.declared.causes.Cause.TheVariants.{ReadFault, Full}
 use Rattle.bmp_specs.specs.Life.{gave, gave_none, failed, most_taken, most_read, IsReadNoFurther}
@@ -14,7 +14,7 @@ use Rattle.rib_model.specs.Entries.{entry_values}
 use Rattle.station_doors.specs.Doors.{Reads, AsPlanned}
 use Rattle.wire_io.specs.declared.sink.Failed.{Failed}
 use Rattle.wire_io.specs.Aside.{Aside}
-use Rattle.feed_worker.specs.Connection.{IsNew, IsBegun, TakesConnection, BreaksConnection, cause_at_end}
+use Rattle.feed_worker.specs.Connection.{IsNew, TakesConnection, BreaksConnection, cause_at_end}
 use Rattle.feed_worker.specs.LanePort.{IsPublished, IsPublishedWhereTold}
 use Rattle.feed_worker.specs.Publishing.{Grows}
 use Rattle.feed_worker.specs.Walking.{HasPublished, HasRoom, Publishes}
@@ -51,7 +51,7 @@ breaks_none meaning a pass0 pass new same = record {
   entries = [];
   took = takes_going meaning a a [] 0 (goes_none a new) (nothing_further meaning) (omega arith);
   going = refl;
-  begun = record { front = []; piece = []; split = refl; short = omega arith; after = opened ∷ []; life = record { messages = []; offset = 0; verdict = whole; within = omega arith; walk = (refl, refl); is = refl } };
+  begun = inl (refl, refl);
   grows = subst (λ (p : Fed Entry). Grows pass0 p []) (sym same) (grows_none pass0);
 }
 
@@ -133,13 +133,12 @@ module _ {B : Type 0} (meaning : Meaning) (state : B → meaning.State) (a0 a : 
       entries = opened ∷ t.published.messages;
       took = takes_going meaning a0 b (t.bytes ++ take m buf) (n + m) goes no_further room;
       going = refl;
-      begun = record {
+      begun = inr (record {
         front = t.bytes;
         piece = take m buf;
         split = refl;
         short = omega (arith, size, length-take m buf);
-        after = [];
-        life = record { messages = t.published.messages; offset = walk.offset; verdict = verdict_with (rest_of walk); within = omega (arith, t.goes.count, room); walk = t.published.given.walks; is = append-nil (opened ∷ t.published.messages) };
-      };
+        life = record { messages = t.published.messages; offset = walk.offset; verdict = verdict_with (rest_of walk); within = omega (arith, t.goes.count, room); walk = t.published.given.walks; is = refl };
+      });
       grows = subst (λ (p : Fed Entry). Grows pass0 p (opened ∷ t.published.messages)) (sym same) t.published.grows;
     }

@@ -1,5 +1,5 @@
 -- One connection of a router: what is taken of it, and what the lane publishes of that.
-use Rattle.std.specs.Prelude.{◌≡◌, IsTrue, ℕ, ◌≤◌, ◌==◌, List, [], ◌∷◌, ◌++◌, Option, None, Some, IfSome, length, if◌then◌else◌}
+use Rattle.std.specs.Prelude.{◌≡◌, ◌⊎◌, IsTrue, ℕ, ◌≤◌, ◌==◌, List, [], ◌∷◌, ◌++◌, Option, None, Some, IfSome, length, if◌then◌else◌}
 use Rattle.std.specs.Io.KnownBytes.{Consumes, IsAtEnd}
 use Rattle.bmp_specs.specs.declared.causes.Cause.{Cause}
 use Rattle.bmp_specs.specs.declared.causes.Cause.TheVariants.{Ended, CutShort}
@@ -78,15 +78,18 @@ pub record TakesConnection (meaning : Meaning) (old new : Aside) (pass pass' : F
   pub come : HasCome meaning input messages cause
   pub grows : Grows pass pass' (opened ∷ messages)
 
--- A beginning of a life: the first entries of the opening and the messages of a front of these bytes. What stands behind
--- that front, one read gave.
-pub record IsBegun (meaning : Meaning) (bytes : List ℕ) (entries : List EntryValue) : Type 0 where
+-- the opening and all messages of a front of these bytes; what stands behind that front, one read gave
+pub record IsLifeOfFront (meaning : Meaning) (bytes : List ℕ) (entries : List EntryValue) : Type 0 where
   pub front : List ℕ
   pub piece : List ℕ
   pub split : bytes ≡ front ++ piece
   pub short : length piece ≤ most_read
-  pub after : List EntryValue
-  pub life : IsOpenLife meaning front (entries ++ after)
+  pub life : IsOpenLife meaning front entries
+
+-- A beginning of a life: nothing, where nothing was read, or else the opening and all messages of what was read without the
+-- last read, or with it.
+abbrev pub IsBegun : Meaning → List ℕ → List EntryValue → Type 0
+IsBegun meaning bytes entries = ((bytes ≡ []) × (entries ≡ [])) ⊎ IsLifeOfFront meaning bytes entries
 
 -- Want of memory came as the present connection was taken: a beginning of its opening and messages was published. No
 -- read had failed or told the end.

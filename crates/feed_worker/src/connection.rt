@@ -38,8 +38,8 @@ const MOST_READ: u64 = 65536;
 /// | `ReadFault` | a read failed; the offset is the number of bytes taken |
 ///
 /// Where several fit, it is the first. A connection that ends for one of the first two reasons is read no further than
-/// the read that brought it. After want of memory the pass published a beginning of these entries, and the connection
-/// is still open.
+/// the read that brought it. After want of memory the connection is still open, and the pass published the opening and
+/// the messages of all reads but the last, or of all; or nothing, and then nothing was read.
 pub fn take_connection<B: BodyReading + Drop, P: Port + Drop, J: Naming, R: Wait>(
     rt: &R,
     alloc: Global,
