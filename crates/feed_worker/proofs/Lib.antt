@@ -8,3 +8,6 @@ pub mod Taking
 pub mod Concluding
 pub mod Serving
 pub mod GivenConnections
+pub mod Longer
+pub mod WholeLives
+pub mod Planned

@@ -3,3 +3,4 @@ pub mod LanePort
 pub mod Connection
 pub mod Walking
 pub mod Feed
+pub mod Planned

@@ -1,5 +1,6 @@
 //! What follows of the connections that were served, for those who gather them.
 ghost use Rattle.feed_worker.specs.Feed.{FewRoundsFit, PortsTellConnections};
+ghost use Rattle.feed_worker.specs.Planned.{PublishesPlan};
 
 use bmp_message::BodyReading;
 
@@ -11,4 +12,10 @@ pub fn ports_tell_connections<B: BodyReading>()
 /// A lane that had published nothing and serves up to 4,096 connections ends early only where its port gave none.
 pub fn few_rounds_fit<B: BodyReading>()
     ensures { FewRoundsFit B.meaning }
+{}
+
+/// A lane that had published nothing and serves up to 4,096 connections of a port whose plan fails no call publishes the
+/// lives of the plan's first connections.
+pub fn lanes_publish_plans<B: BodyReading>()
+    ensures { PublishesPlan B.meaning }
 {}

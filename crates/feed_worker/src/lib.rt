@@ -21,4 +21,4 @@ mod publishing;
 pub use connection::{close_connection, take_connection};
 pub use feed::{LaneEnd, serve_feed};
 pub use lane_port::LanePort;
-pub use laws::{few_rounds_fit, ports_tell_connections};
+pub use laws::{few_rounds_fit, lanes_publish_plans, ports_tell_connections};

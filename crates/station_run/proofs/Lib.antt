@@ -6,3 +6,4 @@ pub mod Runs
 pub mod Ends
 pub mod Decided
 mod Drilled
+pub mod Counting

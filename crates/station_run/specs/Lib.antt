@@ -5,3 +5,4 @@ pub mod Pairing
 pub mod Served
 pub mod Serve
 pub mod Drill
+pub mod Counting

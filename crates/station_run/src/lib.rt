@@ -21,6 +21,7 @@ mod doors;
 mod drill_tasks;
 mod drilling;
 mod ending;
+mod laws;
 mod outcome;
 mod pairing;
 mod room;
@@ -31,6 +32,7 @@ mod works;
 
 pub use drilling::drill;
 pub use ending::FromEnding;
+pub use laws::revisions_count_lives;
 pub use outcome::Outcome;
 pub use run::serve;
 pub use tasks::{AskWork, LaneWork, Task};

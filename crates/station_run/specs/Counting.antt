@@ -1,0 +1,30 @@
+-- How many entries a run of a station publishes in all.
+use Rattle.std.specs.Prelude.{◌≡◌, ℕ, ◌+◌, ◌≤◌, List, [], ◌∷◌, length, take, Option, Some}
+use Rattle.std.specs.List.{AllByRecursion}
+use Rattle.bmp_specs.specs.Meaning.{Meaning}
+use Rattle.bmp_specs.specs.Values.{EntryValue}
+use Rattle.cut_publisher.specs.History.{Asker, Fed}
+use Rattle.rib_model.specs.declared.entry.Entry.{Entry}
+use Rattle.router_tables.specs.Tables.{TablesValue}
+use Rattle.wire_io.specs.Aside.{Plan}
+use Rattle.station_doors.specs.Doors.{YardValue}
+use Rattle.station_doors.specs.declared.listening.Listening.{Listening}
+use Rattle.feed_worker.specs.Planned.{AreWholeLives}
+use Rattle.station_run.specs.Serve.{Ends, YardSeen}
+use Rattle.station_run.specs.declared.outcome.Outcome.{Outcome}
+use Rattle.station_run.specs.declared.outcome.Outcome.TheVariants.{Done}
+
+-- no call of a port with one of these plans fails
+abbrev pub FailNone : List Plan → Type 0
+FailNone plans = AllByRecursion (λ (p : Plan). p.fails ≡ []) plans
+
+-- the number of entries in the lives of the first connections of each of these plans, of so many or of all
+abbrev pub CountLives : Meaning → ℕ → List Plan → ℕ → Type 0
+CountLives meaning rounds [] count = count ≡ 0
+CountLives meaning rounds (plan ∷ plans) count = (entries : List EntryValue) × (others : ℕ) × AreWholeLives meaning (take rounds plan.connections) entries × CountLives meaning rounds plans others × (count ≡ length entries + others)
+
+-- Where a yard tells its plans, no port's plan fails a call, up to 4,096 connections of each are asked for, and no memory
+-- is wanting, a run ends with the revision that these plans alone give.
+abbrev pub DoneCountsLives : {E : Type 0} (Shows : E → List (TablesValue × ℕ) → List (Fed Entry) → List (Asker Entry) → Type 0) (meaning : Meaning) → Type 0
+DoneCountsLives {E} Shows meaning = (at : Listening) (rounds : ℕ) (old new : YardSeen E) (yard : YardValue) (rev : ℕ) → rounds ≤ 4096 → old.told ≡ Some yard → FailNone (take at.feeds yard.ports)
+    → Ends Shows meaning at rounds old new Done rev → CountLives meaning rounds (take at.feeds yard.ports) rev
