@@ -1,7 +1,7 @@
-//! The program: its words, standard input and standard output, handed to the station.
+//! The program: its words, standard input, the network, files and standard output, handed to the station.
 //!
 //! It ends with the status that `station` answers. All that it does is proved and said there
-//! (`station_top`); what standard input holds and where standard output goes is not.
+//! (`station_top`); what standard input and files hold and where standard output goes is not.
 #![tactic(auto)]
 
 use station_doors::HostYard;
@@ -30,7 +30,7 @@ fn words(rt: &HostRuntime) -> Result<Vec<String>, NoMemory> {
     Ok(words)
 }
 
-// Hands the station its threads, the words, standard input with the network, and standard output.
+// Hands the station its threads, the words, standard input with the network and the files, and standard output.
 fn run<R: Threads + Wait + Sync>(rt: &HostRuntime, threads: &R) -> Result<Status, NoMemory> {
     let words = words(rt)?;
     let mut yard = HostYard::new(rt.alloc(), rt.stdin(), rt)?;

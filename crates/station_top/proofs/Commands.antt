@@ -1,19 +1,21 @@
--- Which words are a query behind `replay`, and which are no command.
-use Rattle.std.proofs.Common.{◌≡◌, ◌≢◌, ℕ, ◌-◌, ◌<◌, Bool, true, false, List, [], ◌∷◌, length, map, get_or, take, drop, codes, Option, Some, None, IfSome, IfNone, refl, sym, ap, ◌∙◌, subst, arith, inl, inr}
+-- Which words are a query behind `replay` or a file and a prefix behind `rov`, and which are no command.
+use Rattle.std.proofs.Common.{◌≡◌, ◌≢◌, ℕ, ◌-◌, ◌<◌, ◌≤◌, Bool, true, false, List, [], ◌∷◌, length, map, get_or, take, drop, codes, Option, Some, None, IfSome, IfNone, refl, sym, ap, ◌∙◌, subst, arith, inl, inr}
 use Rattle.std.specs.Prelude.{◌⊎◌}
 use Rattle.std.specs.List.{join_with_byte}
-use Rattle.std.proofs.lemmas.List.{take_rest}
+use Rattle.std.proofs.lemmas.List.{length-map, take_rest}
+use Rattle.bmp_specs.specs.PrefixText.{IsPrefixText}
 use Rattle.bmp_specs.specs.Query.{QueryValue, quit, space, IsQuery}
+use Rattle.bmp_specs.specs.Values.{PrefixValue}
 use Rattle.query_lang.specs.Queries.{query_value}
 use Rattle.query_lang.specs.declared.query.Query.{Query}
 use Rattle.query_lang.specs.declared.query.Query.TheVariants.{Routers, Cut, Peers, Marks, Table, Count, Exact, Longest, Within, Origin, Stats, Changes, Quit}
 use Rattle.station_top.specs.DrillWords.{IsDrill}
 use Rattle.station_top.specs.ServeWords.{IsServe}
-use Rattle.station_top.specs.Words.{IsAsking, IsCommand, IsPlain, IsReplay}
+use Rattle.station_top.specs.Words.{IsAsking, IsCall, IsCommand, IsPlain, IsReplay, IsRov, IsRovCall, IsRovOf, NamesFile, file_in}
 use Rattle.station_top.specs.declared.drill_words.DrillWords.{DrillWords}
 use Rattle.station_top.specs.declared.serve_words.ServeWords.{ServeWords}
 use Rattle.station_top.specs.declared.words.Command.{Command}
-use Rattle.station_top.specs.declared.words.Command.TheVariants.{Replay, Check, Serve, Drill, Relay, Help, Version}
+use Rattle.station_top.specs.declared.words.Command.TheVariants.{Replay, Check, Serve, Drill, Relay, Rov, Help, Version}
 
 -- no other query is the end of a session
 pub not_quit : (query : Query) → ¬ (query ≡ Quit) → query_value query ≢ quit
@@ -63,6 +65,50 @@ no_asking b given asked is none query d (others, plain, asks) =
     let same = (same_plain b d given asked others is plain).0 in
     none query (subst (λ (words : List (List ℕ)). IsAsking (join_with_byte space words) query) (sym same) asks)
 
+-- the words are the file and the prefix, however they are taken
+pub no_judged : (b : Bool) (given asked : List (List ℕ)) → IsPlain b given asked → ((file : List ℕ) (prefix : PrefixValue) → NamesFile file prefix asked → ⊥) → (prefix : PrefixValue) (d : Bool) → IsRov prefix d given → ⊥
+no_judged b given asked is none prefix d (file, (others, plain, names)) =
+    let same = (same_plain b d given asked others is plain).0 in
+    none file prefix (subst (λ (words : List (List ℕ)). NamesFile file prefix words) (sym same) names)
+
+-- two words, as they stand
+pub two_words : {X : Type 0} (text : X → List ℕ) (words : List X) (b : X) → 2 ≤ length words → length words < 3 → b ≡ get_or words 1 b → (file : List ℕ) × (map text words ≡ file ∷ text b ∷ [])
+two_words text [] b least most at_b = absurd (omega (arith, least))
+two_words text (x ∷ []) b least most at_b = absurd (omega (arith, least))
+two_words text (x ∷ y ∷ []) b least most at_b = (text x, ap (λ z. text x ∷ text z ∷ []) (sym at_b))
+two_words text (x ∷ y ∷ z ∷ more) b least most at_b = absurd (omega (arith, most))
+
+-- the last of two words is no prefix
+no_prefix : (words : List (List ℕ)) (file text : List ℕ) → words ≡ file ∷ text ∷ [] → ((prefix : PrefixValue) → IsPrefixText text prefix → ⊥) → (other : List ℕ) (prefix : PrefixValue) → NamesFile other prefix words → ⊥
+no_prefix words file text split none other prefix names =
+    let both : file ∷ text ∷ [] ≡ other ∷ names.text ∷ [] = sym split ∙ names.spelled in
+    let same : text ≡ names.text = cc both in
+    none prefix (subst (λ (l : List ℕ). IsPrefixText l prefix) (sym same) names.is_prefix)
+
+pub two_named : (words : List (List ℕ)) (file text : List ℕ) → words ≡ file ∷ text ∷ [] → (found : Option PrefixValue) → IfSome found (λ prefix. IsPrefixText text prefix) → IfSome found (λ prefix. (named : List ℕ) × NamesFile named prefix words)
+two_named words file text split None is = tt
+two_named words file text split (Some prefix) is = (file, record { text = text; spelled = split; is_prefix = is })
+
+pub two_unnamed : (words : List (List ℕ)) (file text : List ℕ) → words ≡ file ∷ text ∷ [] → (found : Option PrefixValue) → IfNone found ((prefix : PrefixValue) → IsPrefixText text prefix → ⊥) → IfNone found ((named : List ℕ) (prefix : PrefixValue) → NamesFile named prefix words → ⊥)
+two_unnamed words file text split None none = no_prefix words file text split none
+two_unnamed words file text split (Some prefix) none = tt
+
+-- words that aren't two name no file
+pub not_two : {X : Type 0} (text : X → List ℕ) (words : List X) → (length words ≡ 2 → ⊥) → (file : List ℕ) (prefix : PrefixValue) → NamesFile file prefix (map text words) → ⊥
+not_two text words apart file prefix names = apart (sym (length-map words text) ∙ ap length names.spelled)
+
+-- The file of a call of `rov`, and that it stands at its place among the words.
+pub rov_call : (prefix : PrefixValue) (lenient : Bool) (words : List (List ℕ)) → IsCall (record { command = Rov prefix; lenient = lenient }) words → (file : List ℕ) × IsRovCall file prefix lenient words × (file_in lenient words ≡ file)
+rov_call prefix lenient words is =
+    let file = is.is_command.1.0 in
+    let rov : IsRovOf file prefix lenient is.given = is.is_command.1.1 in
+    let spelled : words ≡ codes "rov" ∷ is.given = is.spelled ∙ ap (λ (l : List ℕ). l ∷ is.given) is.is_command.0 in
+    (file, record { given = is.given; spelled = spelled; is_rov = rov }, ap (λ (l : List (List ℕ)). file_in lenient l) spelled ∙ found lenient file is.given rov.0 rov.1 rov.2)
+  where
+    found : (b : Bool) (path : List ℕ) (given asked : List (List ℕ)) → IsPlain b given asked → NamesFile path prefix asked → file_in b (codes "rov" ∷ given) ≡ path
+    found true path given asked plain names = ap (λ (l : List (List ℕ)). get_or l 1 []) (plain ∙ ap (λ (l : List (List ℕ)). codes "--lenient" ∷ l) names.spelled)
+    found false path given asked plain names = ap (λ (l : List (List ℕ)). get_or l 0 []) (sym plain.0 ∙ names.spelled)
+
 -- the first letter of a command's name
 letter : (first name : List ℕ) (n : ℕ) → first ≡ name → get_or name 0 0 ≡ n → get_or first 0 0 ≡ n
 letter first name n is at = ap (λ (l : List ℕ). get_or l 0 0) is ∙ at
@@ -75,13 +121,14 @@ version_letter : (first : List ℕ) → (first ≡ codes "--version") ⊎ (first
 version_letter first (inl is) = letter first (codes "--version") 45 is refl
 version_letter first (inr is) = letter first (codes "-V") 45 is refl
 
--- the first letter tells the command, but `replay` and `relay` have the same
+-- the first letter tells the command, but `replay`, `relay` and `rov` have the same
 abbrev pub LetterOf : Command → ℕ
 LetterOf (Replay query) = 114
 LetterOf Check = 99
 LetterOf (Serve serve) = 115
 LetterOf (Drill drill) = 100
 LetterOf Relay = 114
+LetterOf (Rov prefix) = 114
 LetterOf Help = 45
 LetterOf Version = 45
 
@@ -91,12 +138,19 @@ has_letter Check lenient first given is = letter first (codes "check") 99 is.0 r
 has_letter (Serve serve) lenient first given is = letter first (codes "serve") 115 is.0 refl
 has_letter (Drill drill) lenient first given is = letter first (codes "drill") 100 is.0 refl
 has_letter Relay lenient first given is = letter first (codes "relay") 114 is.0 refl
+has_letter (Rov prefix) lenient first given is = letter first (codes "rov") 114 is.0 refl
 has_letter Help lenient first given is = help_letter first is.0
 has_letter Version lenient first given is = version_letter first is.0
 
--- their lengths tell `replay` and `relay` apart
-not_both : (first : List ℕ) → first ≡ codes "replay" → first ≡ codes "relay" → ⊥
-not_both first one two = let same : codes "replay" ≡ codes "relay" = sym one ∙ two in omega (arith, ap length same)
+-- their lengths tell `replay`, `relay` and `rov` apart
+replay_no_relay : (first : List ℕ) → first ≡ codes "replay" → first ≡ codes "relay" → ⊥
+replay_no_relay first one two = let same : codes "replay" ≡ codes "relay" = sym one ∙ two in omega (arith, ap length same)
+
+replay_no_rov : (first : List ℕ) → first ≡ codes "replay" → first ≡ codes "rov" → ⊥
+replay_no_rov first one two = let same : codes "replay" ≡ codes "rov" = sym one ∙ two in omega (arith, ap length same)
+
+relay_no_rov : (first : List ℕ) → first ≡ codes "relay" → first ≡ codes "rov" → ⊥
+relay_no_rov first one two = let same : codes "relay" ≡ codes "rov" = sym one ∙ two in omega (arith, ap length same)
 
 module _ (first : List ℕ) (given : List (List ℕ)) where
   pub no_replay : first ≡ codes "replay" → ((query : QueryValue) (lenient : Bool) → IsReplay query lenient given → ⊥) → (command : Command) (lenient : Bool) → IsCommand command lenient first given → ⊥
@@ -104,7 +158,8 @@ module _ (first : List ℕ) (given : List (List ℕ)) where
     where
       go : (command : Command) → IsCommand command lenient first given → get_or first 0 0 ≡ 114 → get_or first 0 0 ≡ LetterOf command → ⊥
       go (Replay query) is one two = none (query_value query) lenient is.1
-      go Relay is one two = not_both first named is.0
+      go Relay is one two = replay_no_relay first named is.0
+      go (Rov prefix) is one two = replay_no_rov first named is.0
       go Check is one two = absurd (omega (arith, one, two))
       go (Serve serve) is one two = absurd (omega (arith, one, two))
       go (Drill drill) is one two = absurd (omega (arith, one, two))
@@ -117,6 +172,7 @@ module _ (first : List ℕ) (given : List (List ℕ)) where
       go : (command : Command) → IsCommand command lenient first given → get_or first 0 0 ≡ 115 → get_or first 0 0 ≡ LetterOf command → ⊥
       go (Serve serve) is one two = none serve lenient is.1
       go Relay is one two = absurd (omega (arith, one, two))
+      go (Rov prefix) is one two = absurd (omega (arith, one, two))
       go (Replay query) is one two = absurd (omega (arith, one, two))
       go Check is one two = absurd (omega (arith, one, two))
       go (Drill drill) is one two = absurd (omega (arith, one, two))
@@ -129,6 +185,7 @@ module _ (first : List ℕ) (given : List (List ℕ)) where
       go : (command : Command) → IsCommand command lenient first given → get_or first 0 0 ≡ 99 → get_or first 0 0 ≡ LetterOf command → ⊥
       go Check is one two = none lenient is.1
       go Relay is one two = absurd (omega (arith, one, two))
+      go (Rov prefix) is one two = absurd (omega (arith, one, two))
       go (Replay query) is one two = absurd (omega (arith, one, two))
       go (Serve serve) is one two = absurd (omega (arith, one, two))
       go (Drill drill) is one two = absurd (omega (arith, one, two))
@@ -140,7 +197,21 @@ module _ (first : List ℕ) (given : List (List ℕ)) where
     where
       go : (command : Command) → IsCommand command lenient first given → get_or first 0 0 ≡ 114 → get_or first 0 0 ≡ LetterOf command → ⊥
       go Relay is one two = none lenient is.1
-      go (Replay query) is one two = not_both first is.0 named
+      go (Replay query) is one two = replay_no_relay first is.0 named
+      go (Rov prefix) is one two = relay_no_rov first named is.0
+      go Check is one two = absurd (omega (arith, one, two))
+      go (Serve serve) is one two = absurd (omega (arith, one, two))
+      go (Drill drill) is one two = absurd (omega (arith, one, two))
+      go Help is one two = absurd (omega (arith, one, two))
+      go Version is one two = absurd (omega (arith, one, two))
+
+  pub no_rov : first ≡ codes "rov" → ((prefix : PrefixValue) (lenient : Bool) → IsRov prefix lenient given → ⊥) → (command : Command) (lenient : Bool) → IsCommand command lenient first given → ⊥
+  no_rov named none command lenient is = go command is (letter first (codes "rov") 114 named refl) (has_letter command lenient first given is)
+    where
+      go : (command : Command) → IsCommand command lenient first given → get_or first 0 0 ≡ 114 → get_or first 0 0 ≡ LetterOf command → ⊥
+      go (Rov prefix) is one two = none prefix lenient is.1
+      go Relay is one two = relay_no_rov first is.0 named
+      go (Replay query) is one two = replay_no_rov first is.0 named
       go Check is one two = absurd (omega (arith, one, two))
       go (Serve serve) is one two = absurd (omega (arith, one, two))
       go (Drill drill) is one two = absurd (omega (arith, one, two))
@@ -153,6 +224,7 @@ module _ (first : List ℕ) (given : List (List ℕ)) where
       go : (command : Command) → IsCommand command lenient first given → get_or first 0 0 ≡ 100 → get_or first 0 0 ≡ LetterOf command → ⊥
       go (Drill drill) is one two = none drill is.1
       go Relay is one two = absurd (omega (arith, one, two))
+      go (Rov prefix) is one two = absurd (omega (arith, one, two))
       go (Replay query) is one two = absurd (omega (arith, one, two))
       go Check is one two = absurd (omega (arith, one, two))
       go (Serve serve) is one two = absurd (omega (arith, one, two))
@@ -160,13 +232,14 @@ module _ (first : List ℕ) (given : List (List ℕ)) where
       go Version is one two = absurd (omega (arith, one, two))
 
   -- no other command is left
-  module _ (replay : first ≢ codes "replay") (serve : first ≢ codes "serve") (check : first ≢ codes "check") (drill : first ≢ codes "drill") (relay : first ≢ codes "relay") where
+  module _ (replay : first ≢ codes "replay") (serve : first ≢ codes "serve") (check : first ≢ codes "check") (drill : first ≢ codes "drill") (relay : first ≢ codes "relay") (rov : first ≢ codes "rov") where
     pub no_more : given ≢ [] → (command : Command) (lenient : Bool) → IsCommand command lenient first given → ⊥
     no_more some (Replay query) lenient is = replay is.0
     no_more some Check lenient is = check is.0
     no_more some (Serve words) lenient is = serve is.0
     no_more some (Drill words) lenient is = drill is.0
     no_more some Relay lenient is = relay is.0
+    no_more some (Rov prefix) lenient is = rov is.0
     no_more some Help lenient is = some is.1
     no_more some Version lenient is = some is.1
 
@@ -176,5 +249,6 @@ module _ (first : List ℕ) (given : List (List ℕ)) where
     no_other help version (Serve words) lenient is = serve is.0
     no_other help version (Drill words) lenient is = drill is.0
     no_other help version Relay lenient is = relay is.0
+    no_other help version (Rov prefix) lenient is = rov is.0
     no_other help version Help lenient is = help is.0
     no_other help version Version lenient is = version is.0

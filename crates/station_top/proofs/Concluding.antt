@@ -1,5 +1,5 @@
 -- What a command comes to, from what its steps say.
-use Rattle.std.proofs.Common.{◌≡◌, ◌⊎◌, Bool, false, ℕ, ◌^◌, ◌<◌, ◌≤◌, List, [], ◌∷◌, ◌++◌, Option, Some, None, Result, Ok, Err, refl, sym, ap, ◌∙◌, subst, inl, inr, arith, append-nil}
+use Rattle.std.proofs.Common.{◌≡◌, Bool, ℕ, ◌^◌, ◌<◌, ◌≤◌, List, [], ◌∷◌, ◌++◌, Option, Some, None, Result, Ok, Err, refl, sym, ap, ◌∙◌, subst, inl, inr, arith, append-nil}
 use Rattle.std.specs.Prelude.{OnOk, OnErr, sum_by}
 use Rattle.std.specs.Io.KnownBytes.{Appends, Keeps}
 use Rattle.std.proofs.lemmas.List.Sums.{sum_by-cons}
@@ -19,12 +19,13 @@ use Rattle.wire_io.proofs.Joins.{join, appends_none, keeps_appends}
 use Rattle.bmp_message.specs.Effects.{GivesMessages}
 use Rattle.station_doors.specs.Doors.{YardValue, HandsOut, TakesBack, one_more, untouched}
 use Rattle.query_eval.specs.Replies.{PutsReply}
-use Rattle.station_top.specs.Station.{Explains, explained, LendsWhereTold, IsWritten, IsTaken, FromYard, IsReplyTo, IsStopped, TakesOneInput, Runs, refused, replied, starved, unready, called, Concludes, CallConcludes, Answers, replied_to, served, drilled, relayed_to, DrillMeans, drilled_whole, drill_starved, DrillConcludes, AnswersFault}
+use Rattle.station_top.specs.Station.{Explains, explained, judged_by, LendsWhereTold, IsWritten, IsTaken, FromYard, IsReplyTo, IsStopped, TakesOneInput, Runs, refused, replied, starved, unready, called, Concludes, CallConcludes, RovConcludes, Answers, replied_to, served, drilled, relayed_to, drilled_whole, drill_starved, DrillConcludes, AnswersFault, ServesNobody}
 use Rattle.station_top.specs.Status.{status_of, status_served}
 use Rattle.station_top.specs.Take.{TakesInput, BreaksOff}
-use Rattle.station_top.specs.Words.{IsCall}
+use Rattle.station_top.specs.Words.{IsCall, file_in}
 use Rattle.station_top.specs.Explain.{help_text, version_line}
 use Rattle.station_run.specs.Serve.{AnswersFault as EndsFault}
+use Rattle.station_doors.specs.declared.listening.Listening.{Listening}
 use Rattle.station_run.specs.declared.outcome.Outcome.{Outcome}
 use Rattle.station_run.specs.declared.outcome.Outcome.TheVariants as outcome
 use Rattle.station_top.specs.Drill.{IsDrillText}
@@ -32,10 +33,11 @@ use Rattle.station_top.specs.declared.drill_words.DrillWords.{DrillWords}
 use Rattle.station_top.specs.declared.serve_words.ServeWords.{ServeWords}
 use Rattle.station_top.specs.declared.words.Call.{Call}
 use Rattle.station_top.specs.declared.words.Command.{Command}
-use Rattle.station_top.specs.declared.words.Command.TheVariants.{Replay, Check, Serve, Drill, Relay, Help, Version}
+use Rattle.station_top.specs.declared.words.Command.TheVariants.{Replay, Check, Serve, Drill, Relay, Rov, Help, Version}
 use Rattle.station_top.specs.declared.status.Status.{Status}
-use Rattle.station_top.specs.declared.status.Status.TheVariants.{Done, Stopped, Usage, ReadFault, WriteFault, NoMemory, YardFault, Unwritable}
+use Rattle.station_top.specs.declared.status.Status.TheVariants.{Done, Stopped, Usage, ReadFault, WriteFault, NoMemory, YardFault, Unwritable, BadFile}
 use Rattle.station_top.specs.declared.take.Taken.{Taken}
+use Rattle.station_top.proofs.Commands.{rov_call}
 use Rattle.station_top.proofs.Lengths.{walk_lengths}
 
 -- the port was handed out, taken from and given back
@@ -117,6 +119,14 @@ module _ {O : Type 0} {faults : O → ℕ} {told : O → Option (List ℕ)} {asi
 pub concludes_no_drill : (drill : DrillWords) (told : Option (List ℕ)) → DrillConcludes drill told told NoMemory
 concludes_no_drill drill told = record { meant = NoMemory; text = []; means = drill_starved; written = inl (refl, appends_none told) }
 
+-- a yard of which no call was made
+pub left_alone : {Ending : Type 0} (listened : Option Listening) (endings : ℕ) (ending : Option Ending) → ServesNobody listened listened endings endings ending ending
+left_alone listened endings ending = record { listened = refl; endings = refl; ending = refl }
+
+-- one call of the yard after another
+pub nobody_then : {Ending : Type 0} (l0 l1 l2 : Option Listening) (n0 n1 n2 : ℕ) (e0 e1 e2 : Option Ending) → l1 ≡ l0 → n1 ≡ n0 → e1 ≡ e0 → ServesNobody l1 l2 n1 n2 e1 e2 → ServesNobody l0 l2 n0 n2 e0 e2
+nobody_then l0 l1 l2 n0 n1 n2 e0 e1 e2 listened endings ending s = record { listened = s.listened ∙ listened; endings = s.endings ∙ endings; ending = s.ending ∙ ending }
+
 -- no cause has the status of a failed write
 pub no_write_fault : (cause : Cause) → status_of cause ≡ WriteFault → ⊥
 no_write_fault Ended is = cc is
@@ -145,19 +155,23 @@ concludes_unread meaning Stands Replies old new number told Usage from = absurd 
 concludes_unread meaning Stands Replies old new number told ReadFault from = absurd from
 concludes_unread meaning Stands Replies old new number told WriteFault from = absurd from
 concludes_unread meaning Stands Replies old new number told Unwritable from = absurd from
+concludes_unread meaning Stands Replies old new number told BadFile from = absurd from
 
 -- the words are a call
-pub answers_called : (Serves : Meaning → ServeWords → Outcome → Type 0) (call : Call) (words : List (List ℕ)) (old new : Option YardValue) (number calls : ℕ) (told0 told1 : Option (List ℕ)) (status : Status) → IsCall call words → CallConcludes (Serves (meaning_of call.lenient)) call.command (meaning_of call.lenient) old new number calls told0 told1 status
+pub answers_called : (Serves : Meaning → ServeWords → Outcome → Type 0) (call : Call) (words : List (List ℕ)) (old new : Option YardValue) (number calls : ℕ) (told0 told1 : Option (List ℕ)) (status : Status) → IsCall call words → CallConcludes (Serves (meaning_of call.lenient)) call.command (file_in call.lenient words) (meaning_of call.lenient) old new number calls told0 told1 status
     → Answers Serves words old new number calls told0 told1 status
 answers_called Serves call words old new number calls told0 told1 status is c = go call.command refl c
   where
     takes : (command : Command) → call.command ≡ command → TakesOneInput command → calls ≡ one_more number → Concludes (meaning_of call.lenient) (IsReplyTo command) old new number told0 told1 status → Answers Serves words old new number calls told0 told1 status
     takes command same one counted k = rw counted (replied_to k.meant k.text (called call k.meant k.text is (subst TakesOneInput (sym same) one) (subst (λ (m : Command). Runs (meaning_of call.lenient) (IsReplyTo m) old new number k.meant k.text) (sym same) k.runs)) k.written)
 
-    go : (command : Command) → call.command ≡ command → CallConcludes (Serves (meaning_of call.lenient)) command (meaning_of call.lenient) old new number calls told0 told1 status → Answers Serves words old new number calls told0 told1 status
+    go : (command : Command) → call.command ≡ command → CallConcludes (Serves (meaning_of call.lenient)) command (file_in call.lenient words) (meaning_of call.lenient) old new number calls told0 told1 status → Answers Serves words old new number calls told0 told1 status
     go (Replay query) same (counted, k) = takes (Replay query) same tt counted k
     go Check same (counted, k) = takes Check same tt counted k
     go Relay same (counted, k) = relayed_to call.lenient (subst (λ (m : Command). IsCall (record { command = m; lenient = call.lenient }) words) same is) counted k
+    go (Rov prefix) same k =
+        let named = rov_call prefix call.lenient words (subst (λ (m : Command). IsCall (record { command = m; lenient = call.lenient }) words) same is) in
+        judged_by named.0 prefix call.lenient named.1 (subst (λ (path : List ℕ). RovConcludes (meaning_of call.lenient) path prefix old new number calls told0 told1 status) named.2 k)
     go (Serve serve) same (outcome, comes, ends) = served serve call.lenient outcome (subst (λ (m : Command). IsCall (record { command = m; lenient = call.lenient }) words) same is) comes ends
     go (Drill drill) same (still, uncalled, k) =
         let of_drill : IsCall (record { command = Drill drill; lenient = call.lenient }) words = subst (λ (m : Command). IsCall (record { command = m; lenient = call.lenient }) words) same is in

@@ -17,3 +17,4 @@ pub mod OptionServe
 pub mod ThreeNumbers
 pub mod Drilling
 pub mod Relaying
+pub mod Judging

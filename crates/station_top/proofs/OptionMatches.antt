@@ -1,14 +1,14 @@
 -- What the matches tell of the options in the words.
-use Rattle.std.proofs.Common.{◌≡◌, ◌≢◌, ℕ, Bool, true, false, List, [], ◌∷◌, ◌++◌, Option, None, Some, map, codes, refl, sym, ap, subst, ◌∙◌, inl, inr, find}
-use Rattle.std.specs.Prelude.{◌⊎◌, fold}
-use Rattle.std.specs.List.{filter, list_any}
+use Rattle.std.proofs.Common.{◌≡◌, ℕ, Bool, true, false, List, [], ◌∷◌, ◌++◌, Option, None, Some, map, refl, sym, ap, subst, ◌∙◌, inl, inr, find}
+use Rattle.std.specs.Prelude.{fold}
+use Rattle.std.specs.List.{list_any}
 use Rattle.std.specs.Str.{bytes_eq}
 use Rattle.std.proofs.lemmas.Slice.Eq.{bytes_eq-Decides}
-use Rattle.clap.specs.Walk.{Row, Rule, Text, first_of, has_row, idle, nothing_held, settled, with_default, finished, walk, walk_from}
-use Rattle.clap.specs.Simple.{matches_of, is_simple}
-use Rattle.clap.specs.Faults.{fault_of, is_simple_and_free, settle_fault, walk_fault, entered_fault}
+use Rattle.clap.specs.Walk.{Row, Text, first_of, has_row, idle, settled, with_default}
+use Rattle.clap.specs.Simple.{matches_of}
+use Rattle.clap.specs.Faults.{fault_of, is_simple_and_free}
 use Rattle.station_top.specs.ServeOptions.{IsTold, dashed, option_names, serve_app}
-use Rattle.station_top.specs.ServeWords.{Setting, AreSettings, IsInFront, IsOption, flag, flag_alone, one_word, two_words, values_of}
+use Rattle.station_top.specs.ServeWords.{Setting, AreSettings, IsOption, flag, flag_alone, one_word, two_words, values_of}
 use Rattle.station_top.proofs.OptionWalk.{IsAmongNames, flag_name, ready_flag, Pairs, Passes, Uses, at, hold, ready, rules, row, first_empty, read, is_dashes, walk_end}
 
 abbrev pub settings_of : Pairs → List Setting

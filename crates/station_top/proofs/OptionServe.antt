@@ -1,31 +1,30 @@
 -- What a parse of the words tells of a call of `serve`.
-use Rattle.std.proofs.Common.{◌≡◌, ◌≢◌, ℕ, ◌<◌, ◌^◌, Bool, true, false, List, [], ◌∷◌, Option, None, Some, All, map, codes, refl, sym, ap, subst, ◌∙◌, inl, inr, arith, lit<}
-use Rattle.std.specs.Prelude.{◌⊎◌, ◌||◌}
+use Rattle.std.proofs.Common.{◌≡◌, ◌≢◌, ℕ, Bool, true, false, List, [], ◌∷◌, Option, None, Some, map, codes, refl, sym, ap, subst, ◌∙◌, inl, inr, arith, lit<}
+use Rattle.std.specs.Prelude.{◌||◌}
 use Rattle.std.specs.List.{list_any}
 use Rattle.std.proofs.lemmas.List.Elements.{All-from_get_or}
 use Rattle.bmp_specs.specs.declared.wire.Family.{Family}
 use Rattle.bmp_specs.specs.declared.wire.Family.TheVariants.{V4, V6}
-use Rattle.bmp_specs.specs.AddressText.{IsTextIn, IsAddressText}
+use Rattle.bmp_specs.specs.AddressText.{IsTextIn}
 use Rattle.bmp_specs.specs.NumberText.{IsNumberText, most_number}
-use Rattle.bmp_specs.specs.Values.{AddressValue}
 use Rattle.ip_prefix.proofs.Decimals.{all_digits}
 use Rattle.ip_prefix.proofs.V4Text.{v4_to, v4_lacks}
 use Rattle.ip_prefix.proofs.V6Text.{v6_lacks}
 use Rattle.clap.proofs.WalkLemmas.{first_value-rows}
-use Rattle.clap.specs.Walk.{Row, Text, first_of, has_row, rows_of}
+use Rattle.clap.specs.Walk.{Text, first_of, rows_of}
 use Rattle.clap.specs.Matches.{first_value, found_of}
 use Rattle.clap.specs.Kinds.{HasKind, Kinds}
 use Rattle.clap.specs.Values.{kind_of}
 use Rattle.clap.specs.declared.error.Error.{Error}
 use Rattle.clap.specs.declared.error.kind.ErrorKind.TheVariants.{OutOfMemory}
-use Rattle.clap.specs.Simple.{App, app_of, is_simple, matches_of}
-use Rattle.clap.specs.Faults.{fault_of, is_simple_and_free}
+use Rattle.clap.specs.Simple.{App, matches_of}
+use Rattle.clap.specs.Faults.{fault_of}
 use Rattle.clap.specs.declared.parser.matches.ArgMatches.{ArgMatches}
 use Rattle.station_top.specs.ServeOptions.{AreMatches, IsTold, dashed, is_dashes, option_names, serve_app}
-use Rattle.station_top.specs.ServeWords.{AreSettings, Gives, Has, IsPorts, IsRounds, IsSeconds, IsServe, MayGive, Setting, flag, values_of}
+use Rattle.station_top.specs.ServeWords.{Gives, IsPorts, IsRounds, IsSeconds, IsServe, MayGive, Setting, flag, values_of}
 use Rattle.station_top.specs.declared.serve_words.ServeWords.{ServeWords}
 use Rattle.station_top.proofs.OptionWalk.{IsAmongNames, IsPlainValue}
-use Rattle.station_top.proofs.OptionMatches.{are_told, is_simple_app}
+use Rattle.station_top.proofs.OptionMatches.{are_told}
 use Rattle.station_top.proofs.OptionTaken.{AreOnce, IsName, IsOnce, are_uses, no_dashes_in, no_hyphen, taken_words}
 use Rattle.station_top.proofs.Settings.{Never, Once, flag_empty}
 

@@ -1,19 +1,17 @@
 -- Words that are options, each given once, are taken.
-use Rattle.std.proofs.Common.{◌≡◌, ◌≢◌, ℕ, Bool, true, false, List, [], ◌∷◌, ◌++◌, Option, None, Some, is_some, map, codes, refl, sym, ap, subst, ◌∙◌, inl, inr, find, All, eqb-true, get_or, arith}
-use Rattle.std.specs.Prelude.{◌⊎◌, ⊤, fold, ◌==◌, ◌&&◌, not}
-use Rattle.std.specs.List.{filter, list_any}
+use Rattle.std.proofs.Common.{◌≡◌, ◌≢◌, ℕ, Bool, true, false, List, [], ◌∷◌, ◌++◌, Option, None, Some, is_some, codes, refl, sym, ap, subst, ◌∙◌, inl, inr, All, eqb-true, get_or, arith}
+use Rattle.std.specs.Prelude.{◌⊎◌, ◌==◌}
+use Rattle.std.specs.List.{list_any}
 use Rattle.std.specs.Str.{bytes_eq}
-use Rattle.std.specs.Option.{option_map_or}
 use Rattle.std.proofs.lemmas.Slice.Eq.{bytes_eq-Decides}
 use Rattle.std.proofs.lemmas.List.Elements.{All-head}
-use Rattle.clap.specs.Lexer.{long_of, short_of}
-use Rattle.clap.specs.Walk.{Row, Rule, Text, has_row, idle, settled, with_default, nothing_held, walk_from, walk}
-use Rattle.clap.specs.Faults.{fault_of, defaults_fault, default_fault, check_fault, settle_fault, walk_fault, entered_fault, level_fault}
+use Rattle.clap.specs.Walk.{Row, Text, has_row, idle, with_default, nothing_held, walk}
+use Rattle.clap.specs.Faults.{fault_of, defaults_fault, default_fault, check_fault, entered_fault}
 use Rattle.clap.specs.Takes.{is_given}
 use Rattle.clap.specs.Kinds.{Kinds, or_else}
 use Rattle.station_top.specs.ServeOptions.{dashed, option_names, serve_app}
 use Rattle.station_top.specs.ServeWords.{Setting, AreSettings, IsInFront, IsOption, flag_alone, one_word, two_words, values_of}
-use Rattle.station_top.proofs.OptionWalk.{Stands, flag_name, ready_flag, AreSpelled, ArePlain, IsAmongNames, IsPlainValue, IsSpelled, Pairs, Passes, Uses, at, hold, ready, rules, row, shape, taken, is_dashes, walk_end}
+use Rattle.station_top.proofs.OptionWalk.{Stands, flag_name, AreSpelled, ArePlain, IsAmongNames, IsPlainValue, IsSpelled, Pairs, Passes, Uses, at, hold, ready, rules, row, shape, taken, is_dashes}
 use Rattle.station_top.proofs.OptionMatches.{settings_of, row_at, row_stays, only_new, rows_are}
 use Rattle.clap.specs.Simple.{argument_words, built, entered, matches_of, names_of}
 

@@ -1,17 +1,15 @@
 -- What the walk makes of the words of `serve`.
-use Rattle.std.proofs.Common.{◌≡◌, ◌≢◌, ℕ, zero, suc, Bool, true, false, cond, List, [], ◌∷◌, ◌++◌, Option, None, Some, length, map, codes, refl, sym, ap, subst, ◌∙◌, inl, inr, arith, not, ◌&&◌, ◌||◌, find, append-nil, eqb-true, ◌+◌, take, drop}
+use Rattle.std.proofs.Common.{◌≡◌, ◌≢◌, ℕ, suc, Bool, true, false, List, [], ◌∷◌, ◌++◌, Option, None, Some, map, codes, refl, sym, ap, subst, ◌∙◌, inl, inr, arith, append-nil, eqb-true, ◌+◌, take, drop}
 use Rattle.std.specs.Prelude.{◌⊎◌, ⊤, fold, slice_get, ◌==◌}
 use Rattle.std.specs.List.{after_first, before_first, list_any}
 use Rattle.std.specs.List.{after_first, before_first, list_any, position_or_len}
 use Rattle.std.specs.Str.{bytes_eq, chars}
 use Rattle.std.proofs.lemmas.Slice.Eq.{bytes_eq-Decides}
-use Rattle.clap.specs.Walk.{Held, Row, Rule, Text, Waiting, Walk, arg_by_id, arg_by_index, arg_by_long, arg_by_short, has_row, idle, option, nothing_held, settled, walk_from, walked, with_values, without, at_row, bundle_met, used, more_values}
+use Rattle.clap.specs.Walk.{Held, Row, Rule, Text, Waiting, Walk, arg_by_id, arg_by_index, arg_by_long, arg_by_short, has_row, idle, option, settled, walked, with_values, without, at_row, bundle_met, used, more_values}
 use Rattle.clap.specs.Simple.{Shape, new_shape, filled_from, filled}
 use Rattle.clap.specs.Faults.{flags_fault, walk_fault, settle_fault, turn_fault, use_fault}
 use Rattle.clap.specs.Kinds.{Kinds, or_else}
 use Rattle.clap.specs.declared.error.kind.ErrorKind.TheVariants as kind
-use Rattle.clap.specs.declared.builder.action.ArgAction.TheVariants.{Set}
-use Rattle.clap.specs.declared.builder.value_parser.ValueParser.TheVariants as vp
 use Rattle.clap.specs.declared.builder.value_parser.Reading.TheVariants as reading
 use Rattle.clap.specs.declared.parser.matches.ValueSource.TheVariants.{CommandLine}
 use Rattle.clap.specs.Lexer.{has_byte, long_of, long_of_rest, short_of}

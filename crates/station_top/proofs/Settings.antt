@@ -1,17 +1,14 @@
 -- Settings one after another, and what they give for a name.
-use Rattle.std.proofs.Common.{◌≡◌, ◌≢◌, ℕ, ◌≤◌, Bool, true, false, cond, List, [], ◌∷◌, ◌++◌, Option, None, Some, length, map, take, codes, refl, sym, ap, subst, ◌∙◌, inl, inr, arith, append_assoc, length-append, append-nil, lt-ltb, eqb-true, get_or, lit<}
-use Rattle.std.specs.Prelude.{◌==◌, ◌⊎◌, nat_lt, IfNone, IfSome}
-use Rattle.std.specs.Borrow.{Bor}
-use Rattle.std.specs.List.{filter, position, position_or_len}
+use Rattle.std.proofs.Common.{◌≡◌, ◌≢◌, ℕ, ◌≤◌, Bool, true, false, cond, List, [], ◌∷◌, ◌++◌, Option, None, Some, length, take, codes, refl, sym, ap, subst, ◌∙◌, inl, inr, arith, length-append, lt-ltb, get_or, lit<}
+use Rattle.std.specs.Prelude.{◌==◌, nat_lt, IfNone, IfSome}
+use Rattle.std.specs.List.{position, position_or_len}
 use Rattle.std.specs.Str.{bytes_eq}
-use Rattle.std.proofs.lemmas.List.{map-append, append_cancel_left, take_at}
-use Rattle.std.proofs.lemmas.List.Elements.{filter-append}
+use Rattle.std.proofs.lemmas.List.{append_cancel_left, take_at}
 use Rattle.std.proofs.lemmas.Slice.Eq.{bytes_eq-Decides}
 use Rattle.ip_prefix.proofs.PrefixReading.{same_number}
 use Rattle.bmp_specs.specs.declared.wire.Family.{Family}
 use Rattle.bmp_specs.specs.declared.wire.Family.TheVariants.{V4}
 use Rattle.bmp_specs.specs.Prefix.{padded}
-use Rattle.bmp_specs.specs.AddressText.{IsAddressText}
 use Rattle.bmp_specs.specs.NumberText.{IsNumberText, most_number}
 use Rattle.bmp_specs.specs.Values.{AddressValue}
 use Rattle.ip_prefix.proofs.Decimals.{all_digits}

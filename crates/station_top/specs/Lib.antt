@@ -10,4 +10,5 @@ pub mod ServeWords
 pub mod ServeOptions
 pub mod DrillWords
 pub mod Drill
+pub mod Rov
 pub mod Explain

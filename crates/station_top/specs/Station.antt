@@ -1,16 +1,16 @@
 -- The top call: what it writes, what its status says, and what it asks of the yard.
-use Rattle.std.specs.Prelude.{◌≡◌, ◌≢◌, ℕ, Bool, false, ◌⊎◌, List, [], ◌∷◌, ◌++◌, Option, Some, None, Contains, Result, Ok, Err, length}
+use Rattle.std.specs.Prelude.{◌≡◌, ◌≢◌, ℕ, Bool, false, ◌⊎◌, List, [], ◌∷◌, ◌++◌, Option, Some, None, Contains, Result, Ok, Err, codes, length}
 use Rattle.std.specs.Io.KnownBytes.{Appends}
 use Rattle.bmp_specs.specs.declared.causes.Cause.{Cause}
 use Rattle.bmp_specs.specs.Check.{check_lines}
-use Rattle.bmp_specs.specs.Lines.{stop_line, usage_line}
+use Rattle.bmp_specs.specs.Lines.{line, number_line, stop_line, usage_line}
 use Rattle.bmp_specs.specs.LenientBody.{meaning_of}
 use Rattle.bmp_specs.specs.Life.{IsReadNoFurther}
 use Rattle.bmp_specs.specs.Meaning.{Meaning}
 use Rattle.bmp_specs.specs.Query.{quit}
 use Rattle.bmp_specs.specs.QueryReply.{IsReply}
 use Rattle.bmp_specs.specs.Session.{session_effects}
-use Rattle.bmp_specs.specs.Values.{EffectValue, EntryValue, opened}
+use Rattle.bmp_specs.specs.Values.{EffectValue, EntryValue, PrefixValue, opened}
 use Rattle.relay_out.specs.Messages.{IsRelayStream, stream_items}
 use Rattle.relay_out.specs.Relayed.{ReadsBack}
 use Rattle.relay_out.specs.Told.{IsTold, StreamValue}
@@ -20,7 +20,14 @@ use Rattle.wire_io.specs.Aside.{Aside, Given, Plan}
 use Rattle.wire_io.specs.Faults.{Rose}
 use Rattle.wire_io.specs.Writes.{AppendsFront}
 use Rattle.query_lang.specs.Queries.{query_value}
+use Rattle.rov_reply.specs.RovLines.{IsRovReply}
+use Rattle.rov_table.specs.declared.vrp.Vrp.{Vrp}
+use Rattle.rov_table.specs.VrpFile.{AreVrps, IsFirstBad, file_records}
 use Rattle.station_doors.specs.Doors.{YardValue, one_more}
+use Rattle.station_doors.specs.Files.{GivesFile}
+use Rattle.station_doors.specs.declared.files.FileFault.{FileFault}
+use Rattle.station_doors.specs.declared.files.FileFault.TheVariants as fault
+use Rattle.station_doors.specs.declared.listening.Listening.{Listening}
 use Rattle.station_run.specs.declared.outcome.Outcome.{Outcome}
 use Rattle.station_top.specs.Input.{HasCome}
 use Rattle.station_top.specs.Drill.{IsDrillText}
@@ -29,15 +36,15 @@ use Rattle.station_top.specs.DrillWords.{MayDrill}
 use Rattle.station_top.specs.ServeWords.{MayServe}
 use Rattle.station_top.specs.Take.{BreaksOff, Comes}
 use Rattle.station_top.specs.Status.{status_of, status_served}
-use Rattle.station_top.specs.Words.{IsCall, TakeMemory}
+use Rattle.station_top.specs.Words.{IsCall, IsRovCall, TakeMemory}
 use Rattle.station_top.specs.declared.drill_words.DrillWords.{DrillWords}
 use Rattle.station_top.specs.declared.serve_words.ServeWords.{ServeWords}
 use Rattle.station_top.specs.declared.status.Status.{Status}
-use Rattle.station_top.specs.declared.status.Status.TheVariants.{Done, Stopped, Usage, ReadFault, WriteFault, NoMemory, YardFault, Unwritable}
+use Rattle.station_top.specs.declared.status.Status.TheVariants.{Done, Stopped, Usage, ReadFault, WriteFault, NoMemory, YardFault, Unwritable, BadFile}
 use Rattle.station_top.specs.declared.take.Taken.{Taken}
 use Rattle.station_top.specs.declared.words.Call.{Call}
 use Rattle.station_top.specs.declared.words.Command.{Command}
-use Rattle.station_top.specs.declared.words.Command.TheVariants.{Replay, Check, Serve, Drill, Relay, Help, Version}
+use Rattle.station_top.specs.declared.words.Command.TheVariants.{Replay, Check, Serve, Drill, Relay, Rov, Help, Version}
 
 -- the bytes are the reply of a command on these entries
 abbrev pub IsReplyTo : Command → List EntryValue → List ℕ → Type 0
@@ -46,6 +53,7 @@ IsReplyTo Check entries bytes = bytes ≡ check_lines entries
 IsReplyTo (Serve serve) entries bytes = ⊥
 IsReplyTo (Drill drill) entries bytes = ⊥
 IsReplyTo Relay entries bytes = ⊥
+IsReplyTo (Rov prefix) entries bytes = ⊥
 IsReplyTo Help entries bytes = ⊥
 IsReplyTo Version entries bytes = ⊥
 
@@ -56,6 +64,7 @@ Explains Check text = ⊥
 Explains (Serve serve) text = ⊥
 Explains (Drill drill) text = ⊥
 Explains Relay text = ⊥
+Explains (Rov prefix) text = ⊥
 Explains Help text = text ≡ help_text
 Explains Version text = text ≡ version_line
 
@@ -66,18 +75,38 @@ MayAsk Check = Unit {0}
 MayAsk (Serve serve) = MayServe serve
 MayAsk (Drill drill) = MayDrill drill
 MayAsk Relay = Unit {0}
+MayAsk (Rov prefix) = Unit {0}
 MayAsk Help = Unit {0}
 MayAsk Version = Unit {0}
 
--- the command takes the one input connection and answers with lines; `relay` takes it too, and has a relation of its own
+-- the command takes the one input connection and answers with lines that its words alone ask for; `relay` and `rov` take it
+-- too, and have relations of their own
 abbrev pub TakesOneInput : Command → Type 0
 TakesOneInput (Replay query) = Unit {0}
 TakesOneInput Check = Unit {0}
 TakesOneInput (Serve serve) = ⊥
 TakesOneInput (Drill drill) = ⊥
 TakesOneInput Relay = ⊥
+TakesOneInput (Rov prefix) = ⊥
 TakesOneInput Help = ⊥
 TakesOneInput Version = ⊥
+
+-- the command serves routers and clients
+abbrev pub IsServing : Command → Type 0
+IsServing (Replay query) = ⊥
+IsServing Check = ⊥
+IsServing (Serve serve) = Unit {0}
+IsServing (Drill drill) = ⊥
+IsServing Relay = ⊥
+IsServing (Rov prefix) = ⊥
+IsServing Help = ⊥
+IsServing Version = ⊥
+
+-- the yard wasn't asked to listen, and took no ending
+pub record ServesNobody {Ending : Type 0} (listened0 listened1 : Option Listening) (endings0 endings1 : ℕ) (ending0 ending1 : Option Ending) : Type 0 where
+  pub listened : listened1 ≡ listened0
+  pub endings : endings1 ≡ endings0
+  pub ending : ending1 ≡ ending0
 
 -- the bytes are a reply, and then the line of the cause
 abbrev pub IsStopped : (List ℕ → Type 0) → Cause → List ℕ → Type 0
@@ -165,6 +194,29 @@ pub record Concludes (meaning : Meaning) (Replies : List EntryValue → List ℕ
   pub runs : Runs meaning Replies old new number meant text
   pub written : IsWritten told0 told1 text meant status
 
+-- the line of a file whose record of this number is no VRP
+abbrev pub badfile_line : ℕ → List ℕ
+badfile_line number = number_line (codes "badfile") number
+
+-- the line of a file that is too long
+abbrev pub longfile_line : List ℕ
+longfile_line = line (codes "longfile") []
+
+-- What `rov` comes to: by the file of this path, which is asked for first, and then by the input; and what it wrote, by its
+-- status. Where no port is asked for, so many calls of the yard are made, and the yard is left as it was.
+pub data RovConcludes (meaning : Meaning) (path : List ℕ) (prefix : PrefixValue) (old new : Option YardValue) (number calls : ℕ) (told0 told1 : Option (List ℕ)) (status : Status) : Type 0 where
+  -- the yard gave no file: nothing is written
+  no_file : GivesFile path number old new (Err fault.Failed) → calls ≡ one_more number → told1 ≡ told0 → status ≡ YardFault → RovConcludes meaning path prefix old new number calls told0 told1 status
+  -- want of memory while the file was taken, or its VRPs were read: nothing is written
+  file_starved : (given : Result (List ℕ) FileFault) → GivesFile path number old new given → calls ≡ one_more number → told1 ≡ told0 → status ≡ NoMemory → RovConcludes meaning path prefix old new number calls told0 told1 status
+  -- the file is too long: the line that says so, and nothing else
+  long_file : GivesFile path number old new (Err fault.TooLong) → calls ≡ one_more number → IsWritten told0 told1 longfile_line BadFile status → RovConcludes meaning path prefix old new number calls told0 told1 status
+  -- a record of the file is no VRP: the line with the number of the first such record, and nothing else
+  bad_file : (bytes : List ℕ) (place : ℕ) → GivesFile path number old new (Ok bytes) → IsFirstBad (file_records bytes) place → calls ≡ one_more number → IsWritten told0 told1 (badfile_line place) BadFile status → RovConcludes meaning path prefix old new number calls told0 told1 status
+  -- the file has these VRPs, and the input is taken: the line of each row within the prefix, judged by them
+  judged : (bytes : List ℕ) (vrps : List Vrp) (mid : Option YardValue) → GivesFile path number old mid (Ok bytes) → AreVrps (file_records bytes) vrps → calls ≡ one_more (one_more number)
+      → Concludes meaning (IsRovReply vrps prefix) mid new (one_more number) told0 told1 status → RovConcludes meaning path prefix old new number calls told0 told1 status
+
 -- what a drill comes to, before anything is written: the status that is meant, and the text
 pub data DrillMeans (drill : DrillWords) : Status → List ℕ → Type 0 where
   -- the replies on what the lanes make of their streams
@@ -179,16 +231,17 @@ pub record DrillConcludes (drill : DrillWords) (told0 told1 : Option (List ℕ))
   pub means : DrillMeans drill meant text
   pub written : IsWritten told0 told1 text meant status
 
--- What a command answers, and what it wrote: one that takes the one input connection makes one call of the yard; of
--- `serve` the relation says all; `drill` asks the yard for nothing.
-abbrev pub CallConcludes : (ServeWords → Outcome → Type 0) → Command → Meaning → Option YardValue → Option YardValue → ℕ → ℕ → Option (List ℕ) → Option (List ℕ) → Status → Type 0
-CallConcludes Serves (Replay query) meaning old new number calls told0 told1 status = (calls ≡ one_more number) × Concludes meaning (IsReplyTo (Replay query)) old new number told0 told1 status
-CallConcludes Serves Check meaning old new number calls told0 told1 status = (calls ≡ one_more number) × Concludes meaning (IsReplyTo Check) old new number told0 told1 status
-CallConcludes Serves (Serve serve) meaning old new number calls told0 told1 status = (outcome : Outcome) × Serves serve outcome × (status ≡ status_served outcome)
-CallConcludes Serves (Drill drill) meaning old new number calls told0 told1 status = (new ≡ old) × (calls ≡ number) × DrillConcludes drill told0 told1 status
-CallConcludes Serves Relay meaning old new number calls told0 told1 status = (calls ≡ one_more number) × RelayConcludes meaning old new number told0 told1 status
-CallConcludes Serves Help meaning old new number calls told0 told1 status = (new ≡ old) × (calls ≡ number) × IsWritten told0 told1 help_text Done status
-CallConcludes Serves Version meaning old new number calls told0 told1 status = (new ≡ old) × (calls ≡ number) × IsWritten told0 told1 version_line Done status
+-- What a command answers, and what it wrote: one that takes the one input connection makes one call of the yard, and `rov`
+-- one more before it, for the file; of `serve` the relation says all; `drill` asks the yard for nothing.
+abbrev pub CallConcludes : (ServeWords → Outcome → Type 0) → Command → List ℕ → Meaning → Option YardValue → Option YardValue → ℕ → ℕ → Option (List ℕ) → Option (List ℕ) → Status → Type 0
+CallConcludes Serves (Replay query) file meaning old new number calls told0 told1 status = (calls ≡ one_more number) × Concludes meaning (IsReplyTo (Replay query)) old new number told0 told1 status
+CallConcludes Serves Check file meaning old new number calls told0 told1 status = (calls ≡ one_more number) × Concludes meaning (IsReplyTo Check) old new number told0 told1 status
+CallConcludes Serves (Serve serve) file meaning old new number calls told0 told1 status = (outcome : Outcome) × Serves serve outcome × (status ≡ status_served outcome)
+CallConcludes Serves (Drill drill) file meaning old new number calls told0 told1 status = (new ≡ old) × (calls ≡ number) × DrillConcludes drill told0 told1 status
+CallConcludes Serves Relay file meaning old new number calls told0 told1 status = (calls ≡ one_more number) × RelayConcludes meaning old new number told0 told1 status
+CallConcludes Serves (Rov prefix) file meaning old new number calls told0 told1 status = RovConcludes meaning file prefix old new number calls told0 told1 status
+CallConcludes Serves Help file meaning old new number calls told0 told1 status = (new ≡ old) × (calls ≡ number) × IsWritten told0 told1 help_text Done status
+CallConcludes Serves Version file meaning old new number calls told0 told1 status = (new ≡ old) × (calls ≡ number) × IsWritten told0 told1 version_line Done status
 
 -- what a call answers, and what it wrote
 pub data Answers (Serves : Meaning → ServeWords → Outcome → Type 0) (words : List (List ℕ)) (old new : Option YardValue) (number calls : ℕ) (told0 told1 : Option (List ℕ)) (status : Status) : Type 0 where
@@ -200,6 +253,8 @@ pub data Answers (Serves : Meaning → ServeWords → Outcome → Type 0) (words
   drilled : (drill : DrillWords) → IsCall (record { command = Drill drill; lenient = false }) words → new ≡ old → calls ≡ number → DrillConcludes drill told0 told1 status → Answers Serves words old new number calls told0 told1 status
   -- they are a call of `relay`, which takes the one input connection
   relayed_to : (lenient : Bool) → IsCall (record { command = Relay; lenient = lenient }) words → calls ≡ one_more number → RelayConcludes (meaning_of lenient) old new number told0 told1 status → Answers Serves words old new number calls told0 told1 status
+  -- they are a call of `rov`: the file that is asked for is the one that they name
+  judged_by : (file : List ℕ) (prefix : PrefixValue) (lenient : Bool) → IsRovCall file prefix lenient words → RovConcludes (meaning_of lenient) file prefix old new number calls told0 told1 status → Answers Serves words old new number calls told0 told1 status
   -- they ask for the help text or the version, and the yard is asked for nothing
   explained : (call : Call) (text : List ℕ) → IsCall call words → Explains call.command text → new ≡ old → calls ≡ number → IsWritten told0 told1 text Done status → Answers Serves words old new number calls told0 told1 status
 
@@ -229,3 +284,4 @@ FromYard meaning Stands old new number (Err Usage) = ⊥
 FromYard meaning Stands old new number (Err ReadFault) = ⊥
 FromYard meaning Stands old new number (Err WriteFault) = ⊥
 FromYard meaning Stands old new number (Err Unwritable) = ⊥
+FromYard meaning Stands old new number (Err BadFile) = ⊥

@@ -1,13 +1,15 @@
 -- The words of a call.
-use Rattle.std.specs.Prelude.{◌≡◌, ◌≢◌, ◌⊎◌, ⊤, ℕ, Bool, true, false, List, [], ◌∷◌, codes}
+use Rattle.std.specs.Prelude.{◌≡◌, ◌≢◌, ◌⊎◌, ℕ, Bool, true, false, List, [], ◌∷◌, get_or, codes}
 use Rattle.std.specs.List.{join_with_byte}
+use Rattle.bmp_specs.specs.PrefixText.{IsPrefixText}
 use Rattle.bmp_specs.specs.Query.{QueryValue, quit, space, IsQuery}
+use Rattle.bmp_specs.specs.Values.{PrefixValue}
 use Rattle.query_lang.specs.Queries.{query_value}
 use Rattle.station_top.specs.DrillWords.{IsDrill}
 use Rattle.station_top.specs.ServeWords.{IsServe}
 use Rattle.station_top.specs.declared.words.Call.{Call}
 use Rattle.station_top.specs.declared.words.Command.{Command}
-use Rattle.station_top.specs.declared.words.Command.TheVariants.{Replay, Check, Serve, Drill, Relay, Help, Version}
+use Rattle.station_top.specs.declared.words.Command.TheVariants.{Replay, Check, Serve, Drill, Relay, Rov, Help, Version}
 
 -- the line is this query, which isn't the end of a session
 pub record IsAsking (line : List ℕ) (query : QueryValue) : Type 0 where
@@ -24,14 +26,30 @@ IsPlain false given plain = (plain ≡ given) × ((more : List (List ℕ)) → g
 abbrev pub IsReplay : QueryValue → Bool → List (List ℕ) → Type 0
 IsReplay query lenient given = (asked : List (List ℕ)) × IsPlain lenient given asked × IsAsking (join_with_byte space asked) query
 
+-- the words are a file and a prefix
+pub record NamesFile (file : List ℕ) (prefix : PrefixValue) (words : List (List ℕ)) : Type 0 where
+  pub text : List ℕ
+  pub spelled : words ≡ file ∷ text ∷ []
+  pub is_prefix : IsPrefixText text prefix
+
+-- The words behind `rov` are this file and the prefix. Any word is a file by its place: an empty one too, or `--lenient`
+-- behind `--lenient`.
+abbrev pub IsRovOf : List ℕ → PrefixValue → Bool → List (List ℕ) → Type 0
+IsRovOf file prefix lenient given = (asked : List (List ℕ)) × IsPlain lenient given asked × NamesFile file prefix asked
+
+-- the same of some file
+abbrev pub IsRov : PrefixValue → Bool → List (List ℕ) → Type 0
+IsRov prefix lenient given = (file : List ℕ) × IsRovOf file prefix lenient given
+
 -- The first of the words and those behind it are this command, which is lenient or isn't: `--lenient` stands right behind
--- `replay`, `check` or `relay`, or anywhere among the settings of `serve`.
+-- `replay`, `check`, `relay` or `rov`, or anywhere among the settings of `serve`.
 abbrev pub IsCommand : Command → Bool → List ℕ → List (List ℕ) → Type 0
 IsCommand (Replay query) lenient first given = (first ≡ codes "replay") × IsReplay (query_value query) lenient given
 IsCommand Check lenient first given = (first ≡ codes "check") × IsPlain lenient given []
 IsCommand (Serve serve) lenient first given = (first ≡ codes "serve") × IsServe serve lenient given
 IsCommand (Drill drill) lenient first given = (first ≡ codes "drill") × IsDrill drill given × (lenient ≡ false)
 IsCommand Relay lenient first given = (first ≡ codes "relay") × IsPlain lenient given []
+IsCommand (Rov prefix) lenient first given = (first ≡ codes "rov") × IsRov prefix lenient given
 IsCommand Help lenient first given = ((first ≡ codes "--help") ⊎ (first ≡ codes "-h")) × (given ≡ []) × (lenient ≡ false)
 IsCommand Version lenient first given = ((first ≡ codes "--version") ⊎ (first ≡ codes "-V")) × (given ≡ []) × (lenient ≡ false)
 
@@ -41,6 +59,17 @@ pub record IsCall (call : Call) (words : List (List ℕ)) : Type 0 where
   pub given : List (List ℕ)
   pub spelled : words ≡ first ∷ given
   pub is_command : IsCommand call.command call.lenient first given
+
+-- the words are a call of `rov` with this file and this prefix
+pub record IsRovCall (file : List ℕ) (prefix : PrefixValue) (lenient : Bool) (words : List (List ℕ)) : Type 0 where
+  pub given : List (List ℕ)
+  pub spelled : words ≡ codes "rov" ∷ given
+  pub is_rov : IsRovOf file prefix lenient given
+
+-- the word behind the first, or behind `--lenient`, where the file of a call stands
+abbrev pub file_in : Bool → List (List ℕ) → List ℕ
+file_in true words = get_or words 2 []
+file_in false words = get_or words 1 []
 
 -- to read the words behind this one takes memory
 abbrev pub TakesMemory : List ℕ → Type 0

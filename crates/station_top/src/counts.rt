@@ -158,7 +158,7 @@ fn add_where(count: u64, yes: bool) -> u64
 }
 
 // Writes a line of a word and a number.
-fn put_number<O: Sink>(out: &mut O, word: &[u8], number: u64) -> Result<(), Failed>
+pub(crate) fn put_number<O: Sink>(out: &mut O, word: &[u8], number: u64) -> Result<(), Failed>
     ensures { Writes O.faults O.told O.aside out.old (number_line word.now number) result out.new }
 {
     write_pieces(

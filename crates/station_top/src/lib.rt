@@ -1,10 +1,11 @@
 //! The station itself: words and connections in, a reply and a status out.
 //!
 //! `station` is the top call: the program hands it its words, the yard and standard output, and ends with
-//! the status that it answers. It answers five commands: `replay` with a query, its reply on what a router's
+//! the status that it answers. It answers six commands: `replay` with a query, its reply on what a router's
 //! stream leaves in its tables; `check`, how many messages of each type the stream has; `serve`, routers and
-//! clients side by side (`station_run`); `drill`, lanes over streams that follow from a few numbers; and `relay`, the BMP
-//! stream that rebuilds what a router's stream leaves (`relay_out`). All but `drill` read streams by the RFCs alone, or with
+//! clients side by side (`station_run`); `drill`, lanes over streams that follow from a few numbers; `relay`, the BMP
+//! stream that rebuilds what a router's stream leaves (`relay_out`); and `rov`, what the VRPs of a file say of its routes
+//! (`rov_table`, `rov_reply`). All but `drill` read streams by the RFCs alone, or with
 //! `--lenient` right after the command as routers send them; `drill` by the RFCs alone.
 //!
 //! Proved: which status comes, by the words and by what a yard in memory tells; which bytes were written,
@@ -13,6 +14,7 @@
 //! fault are answered exactly where one was counted; how many calls of the yard were made; and that the
 //! port is given back as it is. Of `serve`: which words are its options, and what `station_run` promises of it.
 //! Of `relay`: that the whole stream was written and is read back, or nothing, since it can't be written.
+//! Of `rov`: that the file is asked for first, by the word that names it, and what is written where it has no VRPs.
 //! Of `drill`: which words are its numbers, that the yard is asked for nothing, and that the bytes are the replies on
 //! what each lane makes of its stream.
 //! Begin with `specs/Station.antt`, then `src/top.rt`.
@@ -24,6 +26,7 @@ mod drill;
 mod drill_words;
 mod explain;
 mod replay;
+mod rov;
 mod serve_words;
 mod status;
 mod take;

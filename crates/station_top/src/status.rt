@@ -19,6 +19,9 @@ pub enum Status {
     YardFault,
     /// What the stream left can't be relayed. Nothing was written.
     Unwritable,
+    /// The file of validated ROA payloads (VRPs) has a record of another form, or is too long. The line that says so is all that was
+    /// written, and no byte of the stream was read.
+    BadFile,
 }
 
 impl Status {
@@ -37,6 +40,7 @@ impl Status {
             Status::NoMemory => 5,
             Status::YardFault => 6,
             Status::Unwritable => 8,
+            Status::BadFile => 9,
         }
     }
 }

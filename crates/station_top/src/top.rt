@@ -11,7 +11,9 @@ ghost use Rattle.station_run.specs.Serve.{AnswersFault as EndsFault, Comes};
 ghost use Rattle.station_top.specs.Status.{status_of, status_relayed, status_served};
 ghost use Rattle.station_top.specs.DrillWords.{MayDrill};
 ghost use Rattle.station_top.specs.ServeWords.{MayServe};
-ghost use Rattle.station_top.specs.Station.{Answers, CallConcludes, Concludes, RelayConcludes, DrillConcludes, FromYard, AnswersFault, IsStopped, IsWritten, MayAsk};
+ghost use Rattle.station_top.specs.Words.{IsCall, file_in};
+ghost use Rattle.station_top.specs.Station.{Answers, CallConcludes, Concludes, RelayConcludes, DrillConcludes, FromYard, AnswersFault, IsStopped, IsServing, IsWritten, MayAsk, ServesNobody};
+ghost use Rattle.station_top.specs.declared.words.Call.{Call as AnyCall};
 
 use crate::Status;
 use crate::account::{Account, Replies};
@@ -20,9 +22,10 @@ use crate::drill::write_drill;
 use crate::drill_words::DrillWords;
 use crate::explain::{help, version};
 use crate::replay::Replay;
+use crate::rov::run_rov;
 use crate::serve_words::ServeWords;
 use crate::take::{Taken, take_input};
-use crate::words::{Call, Command, WordsFault, read_words};
+use crate::words::{Call, Command, WordsFault, file_word, read_words};
 use bmp_message::{BodyReading, LenientReading, Reading};
 use bmp_specs::Cause;
 use core::mem::replace_with;
@@ -50,6 +53,7 @@ fn take_from<Y: Yard, A: Account + Drop, R: BodyReading + Drop>(
     ensures rose { result ≡ Err Status.YardFault → Rose (Y.faults yard.old) (Y.faults yard.new) }
     ensures calm { (result ≡ Err Status.YardFault → ⊥) → Y.faults yard.new ≡ Y.faults yard.old }
     ensures calls { Y.calls yard.new ≡ one_more (Y.calls yard.old) }
+    ensures nobody { ServesNobody (Y.listened yard.old) (Y.listened yard.new) (Y.endings yard.old) (Y.endings yard.new) (Y.last_ending yard.old) (Y.last_ending yard.new) }
 {
     let Ok(mut port) = yard.port(0) else {
         return Err(Status::YardFault);
@@ -118,7 +122,7 @@ fn status_after(cause: Cause) -> Status
 }
 
 // The status, unless the write failed.
-fn unless_failed(write: Result<(), Failed>, status: Status) -> Status
+pub(crate) fn unless_failed(write: Result<(), Failed>, status: Status) -> Status
     ensures fine { OnOk write (result ≡ status) }
     ensures failed { OnErr write (result ≡ Status.WriteFault) }
 {
@@ -138,6 +142,7 @@ fn run<A: Account + Drop, R: BodyReading + Drop, Y: Yard, O: Sink>(
     requires { A.Told.may_ask ask.now }
     ensures concludes { Concludes R.meaning (A.Told.replies ask.now) (Y.told yard.old) (Y.told yard.new) (Y.calls yard.old) (O.told out.old) (O.told out.new) result }
     ensures calls { Y.calls yard.new ≡ one_more (Y.calls yard.old) }
+    ensures nobody { ServesNobody (Y.listened yard.old) (Y.listened yard.new) (Y.endings yard.old) (Y.endings yard.new) (Y.last_ending yard.old) (Y.last_ending yard.new) }
     ensures out { AnswersFault (O.faults out.old) (O.faults out.new) result Status.WriteFault }
     ensures yard { AnswersFault (Y.faults yard.old) (Y.faults yard.new) result Status.YardFault }
     ensures aside { O.aside out.new ≡ O.aside out.old }
@@ -157,7 +162,7 @@ fn run<A: Account + Drop, R: BodyReading + Drop, Y: Yard, O: Sink>(
 }
 
 // The same, where bodies are read leniently or by the RFCs alone.
-fn run_by<A: Account + Drop, Y: Yard, O: Sink>(
+pub(crate) fn run_by<A: Account + Drop, Y: Yard, O: Sink>(
     alloc: Global,
     lenient: bool,
     ask: &<A::Told as Replies>::Ask,
@@ -167,6 +172,7 @@ fn run_by<A: Account + Drop, Y: Yard, O: Sink>(
     requires { A.Told.may_ask ask.now }
     ensures concludes { Concludes (meaning_of lenient) (A.Told.replies ask.now) (Y.told yard.old) (Y.told yard.new) (Y.calls yard.old) (O.told out.old) (O.told out.new) result }
     ensures calls { Y.calls yard.new ≡ one_more (Y.calls yard.old) }
+    ensures nobody { ServesNobody (Y.listened yard.old) (Y.listened yard.new) (Y.endings yard.old) (Y.endings yard.new) (Y.last_ending yard.old) (Y.last_ending yard.new) }
     ensures out { AnswersFault (O.faults out.old) (O.faults out.new) result Status.WriteFault }
     ensures yard { AnswersFault (Y.faults yard.old) (Y.faults yard.new) result Status.YardFault }
     ensures aside { O.aside out.new ≡ O.aside out.old }
@@ -198,6 +204,7 @@ fn run_relay<R: BodyReading + Drop, Y: Yard, O: Sink>(
 ) -> Status
     ensures concludes { RelayConcludes R.meaning (Y.told yard.old) (Y.told yard.new) (Y.calls yard.old) (O.told out.old) (O.told out.new) result }
     ensures calls { Y.calls yard.new ≡ one_more (Y.calls yard.old) }
+    ensures nobody { ServesNobody (Y.listened yard.old) (Y.listened yard.new) (Y.endings yard.old) (Y.endings yard.new) (Y.last_ending yard.old) (Y.last_ending yard.new) }
     ensures out { AnswersFault (O.faults out.old) (O.faults out.new) result Status.WriteFault }
     ensures yard { AnswersFault (Y.faults yard.old) (Y.faults yard.new) result Status.YardFault }
     ensures aside { O.aside out.new ≡ O.aside out.old }
@@ -220,6 +227,7 @@ fn run_relay<R: BodyReading + Drop, Y: Yard, O: Sink>(
 fn run_relay_by<Y: Yard, O: Sink>(alloc: Global, lenient: bool, yard: &mut Y, out: &mut O) -> Status
     ensures concludes { RelayConcludes (meaning_of lenient) (Y.told yard.old) (Y.told yard.new) (Y.calls yard.old) (O.told out.old) (O.told out.new) result }
     ensures calls { Y.calls yard.new ≡ one_more (Y.calls yard.old) }
+    ensures nobody { ServesNobody (Y.listened yard.old) (Y.listened yard.new) (Y.endings yard.old) (Y.endings yard.new) (Y.last_ending yard.old) (Y.last_ending yard.new) }
     ensures out { AnswersFault (O.faults out.old) (O.faults out.new) result Status.WriteFault }
     ensures yard { AnswersFault (Y.faults yard.old) (Y.faults yard.new) result Status.YardFault }
     ensures aside { O.aside out.new ≡ O.aside out.old }
@@ -296,31 +304,36 @@ fn write_text<O: Sink>(out: &mut O, text: &str) -> Status
     unless_failed(write_all(out, text.as_bytes()), Status::Done)
 }
 
-// Runs the command of a call.
+// Runs the command of a call. Of the words it takes the one that names a file, where the command has one.
 fn run_call<Y: Yard, O: Sink, R: Threads + Wait + Sync>(
     rt: &R,
     alloc: Global,
     call: Call,
+    words: &[String],
     yard: &mut Y,
     out: &mut O,
 ) -> Status
 where
     Y::Ending: FromEnding,
     requires { MayAsk call.command }
-    ensures concludes { CallConcludes (λ words outcome. Comes Y.Ending.shows (meaning_of call.lenient) words.at words.rounds (record { told = Y.told yard.old; calls = Y.calls yard.old; listened = Y.listened yard.old; endings = Y.endings yard.old; last_ending = Y.last_ending yard.old }) (record { told = Y.told yard.new; calls = Y.calls yard.new; listened = Y.listened yard.new; endings = Y.endings yard.new; last_ending = Y.last_ending yard.new }) (O.told out.old) (O.told out.new) outcome) call.command (meaning_of call.lenient) (Y.told yard.old) (Y.told yard.new) (Y.calls yard.old) (Y.calls yard.new) (O.told out.old) (O.told out.new) result }
+    ensures concludes { CallConcludes (λ serve outcome. Comes Y.Ending.shows (meaning_of call.lenient) serve.at serve.rounds (record { told = Y.told yard.old; calls = Y.calls yard.old; listened = Y.listened yard.old; endings = Y.endings yard.old; last_ending = Y.last_ending yard.old }) (record { told = Y.told yard.new; calls = Y.calls yard.new; listened = Y.listened yard.new; endings = Y.endings yard.new; last_ending = Y.last_ending yard.new }) (O.told out.old) (O.told out.new) outcome) call.command (file_in call.lenient (map string_bytes words.now)) (meaning_of call.lenient) (Y.told yard.old) (Y.told yard.new) (Y.calls yard.old) (Y.calls yard.new) (O.told out.old) (O.told out.new) result }
     ensures out { AnswersFault (O.faults out.old) (O.faults out.new) result Status.WriteFault }
     ensures yard { AnswersFault (Y.faults yard.old) (Y.faults yard.new) result Status.YardFault }
     ensures aside { O.aside out.new ≡ O.aside out.old }
+    ensures others { (IsServing call.command → ⊥) → ServesNobody (Y.listened yard.old) (Y.listened yard.new) (Y.endings yard.old) (Y.endings yard.new) (Y.last_ending yard.old) (Y.last_ending yard.new) }
 {
     let Call { command, lenient } = call;
     match command {
         Command::Replay(query) => run_by::<Replay, Y, O>(alloc, lenient, &query, yard, out),
         Command::Check => run_by::<Counts, Y, O>(alloc, lenient, &(), yard, out),
-        Command::Serve(words) => {
-            status_served_by(serve_by(rt, alloc, lenient, &words, yard, out))
+        Command::Serve(serve_words) => {
+            status_served_by(serve_by(rt, alloc, lenient, &serve_words, yard, out))
         }
-        Command::Drill(words) => run_drill(rt, alloc, words, out),
+        Command::Drill(drill_words) => run_drill(rt, alloc, drill_words, out),
         Command::Relay => run_relay_by(alloc, lenient, yard, out),
+        Command::Rov(prefix) => {
+            run_rov(alloc, lenient, file_word(words, lenient), prefix, yard, out)
+        }
         Command::Help => write_text(out, help()),
         Command::Version => write_text(out, version()),
     }
@@ -346,11 +359,17 @@ where
 /// the router's name and description, each peer that is up, its rows and its complete tables (`relay_out`). It writes no
 /// stop line. Where that can't be written it answers `Unwritable`, and nothing is written.
 ///
+/// `rov` with a file and a prefix asks the yard for the file, whose path is the very word that names it, and then takes the
+/// input as `replay` does and gives the port back. It writes a line for each row within the prefix: the origin of its
+/// route, and whether the file's VRPs make it valid or invalid or don't speak of it (RFC 6811, section 2); then the
+/// stop line. Where the file has a record of another form, or is too long, it answers `BadFile`: a line that says so is
+/// all that is written, and no port is asked for.
+///
 /// `--help`, or `-h`, writes the help text, and `--version`, or `-V`, the line with the version. They ask the yard for
 /// nothing and take no memory.
 ///
 /// Other words are usage. The bodies of the messages are read by the RFCs alone, and with `--lenient`, which stands right
-/// behind `replay`, `check` or `relay` or among the settings of `serve`, as routers send them (`lenient` of `bmp_specs`).
+/// behind `replay`, `check`, `relay` or `rov` or among the settings of `serve`, as routers send them (`lenient` of `bmp_specs`).
 pub fn station<Y: Yard, O: Sink, R: Threads + Wait + Sync>(
     rt: &R,
     alloc: Global,
@@ -368,9 +387,12 @@ where
     ensures yard { AnswersFault (Y.faults yard.old) (Y.faults yard.new) result Status.YardFault }
 
     ensures aside { O.aside out.new ≡ O.aside out.old }
+
+    // Where the words are no call of `serve`, the yard isn't asked to listen, and is handed no ending.
+    ensures others { ((call : AnyCall) → IsCall call (map string_bytes words.now) → IsServing call.command → ⊥) → ServesNobody (Y.listened yard.old) (Y.listened yard.new) (Y.endings yard.old) (Y.endings yard.new) (Y.last_ending yard.old) (Y.last_ending yard.new) }
 {
     match read_words(alloc, words) {
-        Ok(call) => run_call(rt, alloc, call, yard, out),
+        Ok(call) => run_call(rt, alloc, call, words, yard, out),
         Err(WordsFault::Usage) => unless_failed(write_all(out, USAGE.as_bytes()), Status::Usage),
         Err(WordsFault::NoMemory) => Status::NoMemory,
     }

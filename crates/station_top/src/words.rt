@@ -1,14 +1,17 @@
-ghost use Rattle.std.specs.Prelude.{◌≡◌, ◌≢◌, ◌↔◌, ◌⊎◌, [], Bool, IsTrue, IfSome, IfNone, IfOk, Err, false, map, codes};
+ghost use Rattle.std.specs.Prelude.{◌≡◌, ◌≢◌, ◌↔◌, ◌⊎◌, ℕ, List, [], Bool, IsTrue, IfSome, IfNone, IfOk, Err, false, map, get_or, codes};
 ghost use Rattle.std.specs.List.{join_with_byte};
 ghost use Rattle.std.specs.String.{string_bytes};
+ghost use Rattle.bmp_specs.specs.PrefixText.{IsPrefixText};
 ghost use Rattle.bmp_specs.specs.Query.{QueryValue, quit, space};
+ghost use Rattle.bmp_specs.specs.Values.{PrefixValue};
 ghost use Rattle.query_lang.specs.Queries.{query_value};
-ghost use Rattle.station_top.specs.Words.{IsAsking, IsCall, IsCommand, IsPlain, IsReplay, TakeMemory, TakesMemory};
+ghost use Rattle.station_top.specs.Words.{IsAsking, IsCall, IsCommand, IsPlain, IsReplay, IsRov, NamesFile, TakeMemory, TakesMemory, file_in};
 ghost use Rattle.station_top.specs.declared.words.Call.{Call as AnyCall};
 ghost use Rattle.station_top.specs.declared.words.Command.{Command as AnyCommand};
 
 use crate::drill_words::{DrillWords, read_drill};
 use crate::serve_words::{ServeWords, read_serve};
+use ip_prefix::{Prefix, parse_prefix};
 use query_lang::{Query, parse};
 use std::alloc::Global;
 use thiserror::Error;
@@ -30,6 +33,10 @@ pub enum Command {
 
     /// `relay`: a BMP stream that rebuilds what the input leaves.
     Relay,
+
+    /// `rov`, a file of validated ROA payloads (VRPs) and a prefix: what the VRPs say of each route within the prefix. The file
+    /// stays a word of the call.
+    Rov(Prefix),
 
     /// `--help`: what the commands are.
     Help,
@@ -87,6 +94,12 @@ fn is_relay(word: &str) -> bool
     ensures { IsTrue result ↔ (word.now ≡ codes "relay") }
 {
     word == "relay"
+}
+
+fn is_rov(word: &str) -> bool
+    ensures { IsTrue result ↔ (word.now ≡ codes "rov") }
+{
+    word == "rov"
 }
 
 fn is_lenient(word: &str) -> bool
@@ -178,6 +191,37 @@ fn read_plain(given: &[String]) -> Option<bool>
     }
 }
 
+// The prefix that a word is.
+fn read_prefix(word: &str) -> Option<Prefix>
+    ensures some { IfSome result (λ prefix. IsPrefixText word.now prefix) }
+    ensures none { IfNone result ((prefix : PrefixValue) → IsPrefixText word.now prefix → ⊥) }
+{
+    parse_prefix(word.as_bytes())
+}
+
+// The prefix behind the file, where the words are these two.
+fn read_judged(words: &[String]) -> Option<Prefix>
+    ensures some { IfSome result (λ prefix. (file : List ℕ) × NamesFile file prefix (map string_bytes words.now)) }
+    ensures none { IfNone result ((file : List ℕ) (prefix : PrefixValue) → NamesFile file prefix (map string_bytes words.now) → ⊥) }
+{
+    match words {
+        [_, prefix] => read_prefix(prefix.as_str()),
+        _ => None,
+    }
+}
+
+// What the words behind `rov` ask for, but for the file.
+fn read_rov(given: &[String]) -> Option<(Prefix, bool)>
+    ensures some { IfSome result (λ read. IsRov read.0 read.1 (map string_bytes given.now)) }
+    ensures none { IfNone result ((prefix : PrefixValue) (lenient : Bool) → IsRov prefix lenient (map string_bytes given.now) → ⊥) }
+{
+    let (lenient, asked) = split_lenient(given);
+    match read_judged(asked) {
+        Some(prefix) => Some((prefix, lenient)),
+        None => None,
+    }
+}
+
 // The call that a word and those after it are.
 fn read_call(alloc: Global, first: &str, given: &[String]) -> Result<Call, WordsFault>
     ensures ok { IfOk result (λ call. IsCommand call.command call.lenient first.now (map string_bytes given.now)) }
@@ -215,6 +259,15 @@ fn read_call(alloc: Global, first: &str, given: &[String]) -> Result<Call, Words
         return match read_plain(given) {
             Some(lenient) => Ok(Call {
                 command: Command::Relay,
+                lenient,
+            }),
+            None => Err(WordsFault::Usage),
+        };
+    }
+    if is_rov(first) {
+        return match read_rov(given) {
+            Some((prefix, lenient)) => Ok(Call {
+                command: Command::Rov(prefix),
                 lenient,
             }),
             None => Err(WordsFault::Usage),
@@ -261,5 +314,26 @@ pub fn read_words(alloc: Global, words: &[String]) -> Result<Call, WordsFault>
     match words {
         [first, given @ ..] => read_call(alloc, first.as_str(), given),
         [] => Err(WordsFault::Usage),
+    }
+}
+
+// The word at this place; empty where there is none.
+fn word_at(words: &[String], place: usize) -> &str
+    ensures { result.now ≡ get_or (map string_bytes words.now) place [] }
+{
+    match words.get(place) {
+        Some(word) => word.as_str(),
+        None => "",
+    }
+}
+
+/// The word that names the file of a call: the one behind the command, or behind `--lenient` where the call is lenient.
+pub fn file_word(words: &[String], lenient: bool) -> &str
+    ensures { result.now ≡ file_in lenient (map string_bytes words.now) }
+{
+    if lenient {
+        word_at(words, 2)
+    } else {
+        word_at(words, 1)
     }
 }

@@ -1,6 +1,5 @@
 use Rattle.std.proofs.Common.{Some, codes, sym, ap, ◌∙◌}
 use Rattle.bmp_specs.specs.AddressText.{IsAddressText}
-use Rattle.bmp_specs.specs.Values.{AddressValue}
 use Rattle.std.proofs.Common.{◌≡◌}
 use Rattle.station_top.specs.ServeWords.{loopback}
 use Rattle.station_top.proofs.Settings.{else_may, is_loopback, left_out, none_may, only_may, some_may}

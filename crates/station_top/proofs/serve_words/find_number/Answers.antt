@@ -1,6 +1,5 @@
 use Rattle.std.proofs.Common.{Some, sym, ap, ◌∙◌}
 use Rattle.bmp_specs.specs.NumberText.{IsNumberText}
-use Rattle.station_top.specs.ServeOptions.{dashed}
 use Rattle.station_top.proofs.Settings.{none_given, not_given, one_number, only_given, some_given}
 use Rattle.station_top.proofs.OptionServe.{told_never, told_once}
 use Rattle.station_top.proofs.serve_words.find_number.Goals as goal

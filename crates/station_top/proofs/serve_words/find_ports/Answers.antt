@@ -1,4 +1,4 @@
-use Rattle.std.proofs.Common.{◌≡◌, Bool, codes, false, refl, sym}
+use Rattle.std.proofs.Common.{◌≡◌, codes, false, refl, sym}
 use Rattle.station_top.specs.ServeWords.{IsPorts}
 use Rattle.station_top.proofs.Settings.{else_may, left_out, none_may, one_ports, only_may, some_may}
 use Rattle.station_top.proofs.OptionServe.{told_never, told_once}

@@ -1,4 +1,4 @@
-use Rattle.std.proofs.Common.{◌≡◌, ℕ, None, Option, refl, sym}
+use Rattle.std.proofs.Common.{◌≡◌, None, refl, sym}
 use Rattle.station_top.specs.ServeWords.{IsSeconds}
 use Rattle.station_top.proofs.Settings.{else_may, left_out, none_may, one_time, only_may, some_may}
 use Rattle.station_top.proofs.OptionServe.{told_never, told_once}

@@ -1,4 +1,4 @@
-use Rattle.std.proofs.Common.{◌≡◌, List, ℕ, ◌∙◌, sym, subst}
+use Rattle.std.proofs.Common.{List, ℕ, sym, subst}
 use Rattle.bmp_specs.specs.NumberText.{IsNumberText}
 use Rattle.station_top.proofs.Settings.{far_rounds, no_rounds}
 use Rattle.station_top.proofs.serve_words.rounds_of.Goals as goal

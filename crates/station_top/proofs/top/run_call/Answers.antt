@@ -1,4 +1,6 @@
-use Rattle.std.proofs.Common.{refl}
+use Rattle.std.proofs.Common.{ℕ, List, refl, subst}
+use Rattle.bmp_specs.specs.LenientBody.{meaning_of}
+use Rattle.station_top.specs.Station.{RovConcludes}
 use Rattle.station_top.proofs.Concluding.{ends_write, ends_yard}
 use Rattle.station_top.proofs.top.run_call.Goals as goal
 
@@ -25,3 +27,6 @@ returns-in-Drill-clause-yard g c = record { rose = λ is. absurd (c.run_drill.en
 
 pub returns-in-Relay-clause-concludes : goal.returns-in-Relay-clause-concludes
 returns-in-Relay-clause-concludes g c = rw c.in-Relay.is (c.run_relay_by.ensures.calls, c.run_relay_by.ensures.concludes)
+
+pub returns-in-Rov-clause-concludes : goal.returns-in-Rov-clause-concludes
+returns-in-Rov-clause-concludes g c = rw c.in-Rov.is (subst (λ (path : List ℕ). RovConcludes (meaning_of c.args.call.lenient) path c.in-Rov.prefix (g.Y.Yard.told c.args.yard.now) (g.Y.Yard.told c.run_rov.new.yard) (g.Y.Yard.calls c.args.yard.now) (g.Y.Yard.calls c.run_rov.new.yard) (g.O.Sink.told c.args.out.now) (g.O.Sink.told c.run_rov.new.out) c.run_rov.result) c.file_word.ensures c.run_rov.ensures.concludes)

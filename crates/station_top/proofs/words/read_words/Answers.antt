@@ -1,6 +1,5 @@
-use Rattle.std.proofs.Common.{◌≡◌, ◌<◌, ◌-◌, ◌∷◌, List, ℕ, Err, length, map, take, drop, sym, ap, subst, ◌∙◌, arith}
+use Rattle.std.proofs.Common.{◌<◌, ◌-◌, length, map, take, drop, subst, arith}
 use Rattle.std.specs.String.{string_bytes}
-use Rattle.station_top.specs.declared.words.WordsFault.TheVariants.{NoMemory}
 use Rattle.station_top.specs.Words.{TakesMemory}
 use Rattle.station_top.proofs.Commands.{first_word}
 use Rattle.station_top.proofs.words.read_words.Goals as goal
