@@ -16,5 +16,6 @@ pub mod OptionTaken
 pub mod OptionServe
 pub mod ThreeNumbers
 pub mod Drilling
+pub mod DrillOne
 pub mod Relaying
 pub mod Judging

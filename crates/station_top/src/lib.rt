@@ -25,6 +25,7 @@ mod counts;
 mod drill;
 mod drill_words;
 mod explain;
+mod law;
 mod replay;
 mod rov;
 mod serve_words;
@@ -34,6 +35,7 @@ mod top;
 mod words;
 
 pub use drill_words::DrillWords;
+pub use law::drills_have_one_text;
 pub use serve_words::ServeWords;
 pub use status::Status;
 pub use take::{MOST_READ, MOST_TAKEN};
