@@ -4,7 +4,6 @@ import ipaddress
 import json
 import pathlib
 import re
-import subprocess
 import tempfile
 
 import harness
@@ -151,23 +150,33 @@ def origins_of_worked_rows():
             same(found, list(zip(("10.0.0.0/8", "10.1.0.0/16"), verdicts)), repr(text))
 
 
+def own_as(stream, key):
+    """The speaker's AS by the OPEN that it sent: FRR 10 has AS 0 in that of its Loc-RIB."""
+    return 0 if stream.name.startswith("frr10") and key.startswith("3-") else 65001
+
+
 @test
-def origins_are_those_of_the_program():
-    if run([harness.PROGRAM, "rov", "/dev/null", "0.0.0.0/0"], stdin=subprocess.DEVNULL).returncode == 2:
-        print("origins_are_those_of_the_program: passed over, since this program has no rov")
-        return
+def origins_by_the_program():
+    seen = set()
     for stream in streams():
-        text = HEAD + "".join(f"AS{asn},{network},{longest},x\n" for asn, network, longest in payloads_of(stream))
-        with file_of(text) as path:
-            for everything in ("0.0.0.0/0", "::/0"):
-                told = run([harness.PROGRAM, "rov", path, everything], stdin=open(stream, "rb")).stdout.decode().splitlines()
-                wanted = [line.split(" ")[1:5] + line.split(" ")[6:] for line in told if line.startswith("rov ")]
-                found = []
-                for line in bmpq("--vrps", path, "--own-as", 65001, *recorded(stream), f"within {everything}").decode().splitlines():
-                    if line.startswith("route "):
-                        words = line.split(" ")
-                        found.append(words[1:5] + [words[-1].removeprefix("rov=")] + [word for word in words if word.startswith("id=")])
-                same(found, wanted, f"{stream.name}: {everything}")
+        payloads = payloads_of(stream)
+        text = HEAD + "".join(f"AS{asn},{network},{longest},x\n" for asn, network, longest in payloads)
+        for options in [], ["--lenient"]:
+            wanted = {4: [], 6: []}
+            for _, key, view, prefix, attributes in table_of(stream, *options):
+                origin = origin_of(attributes["path"], own_as(stream, key))
+                words = [key, view, prefix, "none" if origin is None else origin, verdict(prefix, origin, payloads)]
+                words += [f"id={attributes['id']}"] if "id" in attributes else []
+                wanted[ipaddress.ip_network(prefix).version].append("rov 0 " + " ".join(map(str, words)))
+                seen.add(words[4])
+            with file_of(text) as path:
+                for version, everything in (4, "0.0.0.0/0"), (6, "::/0"):
+                    done = run([harness.PROGRAM, "rov", *options, path, everything], stdin=open(stream, "rb"))
+                    first, *lines, end, stop = done.stdout.decode().splitlines()
+                    what = f"{stream.name}: {options} {everything}"
+                    same((lines, end), (wanted[version], f"end {len(wanted[version])}"), what)
+                    same((first, stop), tuple(replay(stream, "table", *options).decode().splitlines()[place] for place in (0, -1)), what)
+    same(seen, {"valid", "invalid", "not-found"}, "verdicts")
 
 
 @test
