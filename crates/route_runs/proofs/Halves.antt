@@ -71,7 +71,7 @@ nlri_cat es fs halves q has = elim (some_of_both (value_at nlri_cmp q es) (value
 ]
 
 -- ---- the order of a joined list
-all_cat : {Y : Type 0} (P : Y → Type 0) (xs ys : List Y) → AllByRecursion P xs → AllByRecursion P ys → AllByRecursion P (xs ++ ys)
+pub all_cat : {Y : Type 0} (P : Y → Type 0) (xs ys : List Y) → AllByRecursion P xs → AllByRecursion P ys → AllByRecursion P (xs ++ ys)
 all_cat P [] ys a b = b
 all_cat P (x ∷ xs) ys a b = (a.0, all_cat P xs ys a.1 b)
 
@@ -79,7 +79,7 @@ all_to : {Y : Type 0} (P Q : Y → Type 0) (xs : List Y) → ((y : Y) → P y �
 all_to P Q [] h a = tt
 all_to P Q (x ∷ xs) h a = (h x a.0, all_to P Q xs h a.1)
 
-keys_are : {X : Type 0} (P : NlriValue → Type 0) (es : List (NlriValue × X)) → AreKeys P es → AllByRecursion (λ (e : NlriValue × X). P e.0) es
+pub keys_are : {X : Type 0} (P : NlriValue → Type 0) (es : List (NlriValue × X)) → AreKeys P es → AllByRecursion (λ (e : NlriValue × X). P e.0) es
 keys_are {X = X} P es h = all_listed (λ (e : NlriValue × X). P e.0) es (λ e c. h e.0 (listed_has es e c))
 
 rising_both : {X : Type 0} (es fs : List (NlriValue × X)) → AllByRecursion (λ (e : NlriValue × X). IsNlriOf V4 e.0) es → AllByRecursion (λ (e : NlriValue × X). IsNlriOf V6 e.0) fs → Rising nlri_cmp es → Rising nlri_cmp fs → Rising nlri_cmp (es ++ fs)

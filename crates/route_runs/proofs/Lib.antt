@@ -5,6 +5,7 @@ pub mod Overriding
 pub mod Contents
 pub mod Searching
 pub mod UpTo
+pub mod Onward
 pub mod Renaming
 pub mod OneSet
 pub mod Hints
@@ -25,3 +26,4 @@ pub mod LastOfHalves
 pub mod NumberOrder
 pub mod NumberBytes
 pub mod ChangesOfHalves
+pub mod Setwise

@@ -14,3 +14,4 @@ pub mod Keys
 pub mod NumberKeys
 pub mod Origins
 pub mod Spots
+pub mod Sets

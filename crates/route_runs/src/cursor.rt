@@ -6,10 +6,10 @@ ghost use Rattle.std.specs.Option.{option_map};
 ghost use Rattle.std.specs.Ordering.{is_lt, is_eq};
 ghost use Rattle.route_runs.specs.Override.{value_at};
 ghost use Rattle.route_runs.specs.Runs.{latest, seen, shared};
-ghost use Rattle.route_runs.specs.Places.{shown, is_after, is_from, IsAfterPoint, IsFirst, IsNext, has_key, has_latest};
+ghost use Rattle.route_runs.specs.Places.{shown, told, turned, is_after, is_from, is_no_less, IsAfterPoint, IsFirst, IsFirstOver};
 ghost use Rattle.route_runs.specs.Cursor.{moved, AreBefore, AreBehind};
 
-use crate::find::{after_place, lesser, set_of};
+use crate::find::{after_place, set_of};
 use crate::key::RunKey;
 use crate::run::Run;
 use crate::runs::Runs;
@@ -148,31 +148,39 @@ fn near<K: RunKey>(keys: &[K], place: Option<K>, hint: usize) -> usize
     }
 }
 
+// Whether a key is that of a row or before it, or there is no row.
+fn comes_up<K: RunKey, A>(row: &Option<(K, Option<&Arc<A>>)>, key: &K) -> bool
+    ensures { result ≡ is_no_less (turned K.cmp) (option_map told row.now) key.now }
+{
+    match row {
+        None => true,
+        Some(row) => match row.0.cmp(key) {
+            Ordering::Less => false,
+            _ => true,
+        },
+    }
+}
+
 impl<K: RunKey, A> Run<K, A> {
-    // The first key after a place, and where it is.
-    fn next_near(&self, place: Option<K>, hint: usize) -> (Option<K>, usize)
-        ensures { IsNext K.cmp place (has_key K.cmp self.now) result.0 }
+    // The first row after a place, or the one of the earlier runs where that is before it; and where the keys after the
+    // place begin.
+    fn next_over<'a>(
+        &'a self,
+        place: Option<K>,
+        hint: usize,
+        earlier: Option<(K, Option<&'a Arc<A>>)>,
+    ) -> (Option<(K, Option<&'a Arc<A>>)>, usize)
+        ensures { IsFirstOver K.cmp (is_after K.cmp place) (λ q. value_at K.cmp q self.now) (option_map told earlier.entry) (option_map told result.0) }
     {
         let at = near(&self.keys, place, hint);
-        if at < self.keys.len() {
-            (Some(self.keys[at]), at)
-        } else {
-            (None, at)
+        if at >= self.keys.len() {
+            return (earlier, at);
         }
-    }
-
-    // What the run has at a key.
-    fn find_near(&self, key: &K, hint: usize) -> Option<Option<&Arc<A>>>
-        ensures { option_map (option_map shared) result ≡ value_at K.cmp key.now self.now }
-    {
-        let at = near_key(&self.keys, key, hint);
-        if at == 0 {
-            return None;
+        let key = self.keys[at];
+        if !comes_up(&earlier, &key) {
+            return (earlier, at);
         }
-        if is_same(&self.keys[at - 1], key) {
-            return Some(set_of(&self.packs, self.handles[at - 1]));
-        }
-        None
+        (Some((key, set_of(&self.packs, self.handles[at]))), at)
     }
 }
 
@@ -188,55 +196,23 @@ pub(crate) fn keep_hint(hints: &mut [usize; 40], at: usize, hint: usize) {
     }
 }
 
-// What the latest run that has a key says of it.
-fn latest_near<'a, K: RunKey, A>(
+// The first key of any run after a place, with what the latest run that has it says of it.
+fn first_row<'a, K: RunKey, A>(
     runs: &'a [Arc<Run<K, A>>],
-    key: &K,
-    hints: &[usize; 40],
-) -> Option<Option<&'a Arc<A>>>
-    ensures { option_map (option_map shared) result ≡ latest K.cmp key.now (map arc_value runs.now) }
-{
-    let mut at = runs.len();
-    while at > 0 {
-        at -= 1;
-        if let Some(found) = runs[at].find_near(key, hint_of(hints, at)) {
-            return Some(found);
-        }
-    }
-    None
-}
-
-// The set of a key.
-fn live_near<'a, K: RunKey, A>(
-    runs: &'a [Arc<Run<K, A>>],
-    key: &K,
-    hints: &[usize; 40],
-) -> Option<&'a Arc<A>>
-    ensures { option_map shared result ≡ seen (latest K.cmp key.now (map arc_value runs.now)) }
-{
-    match latest_near(runs, key, hints) {
-        Some(found) => found,
-        None => None,
-    }
-}
-
-// The first key of any run after a place.
-fn least_near<K: RunKey, A>(
-    runs: &[Arc<Run<K, A>>],
     place: Option<K>,
     hints: &mut [usize; 40],
-) -> Option<K>
-    ensures { IsNext K.cmp place (has_latest K.cmp (map arc_value runs.now)) result }
+) -> Option<(K, Option<&'a Arc<A>>)>
+    ensures { IsFirst K.cmp (is_after K.cmp place) (λ q. latest K.cmp q (map arc_value runs.now)) (option_map told result) }
 {
-    let mut best = None;
+    let mut first = None;
     let mut at = 0;
     while at < runs.len() {
-        let (key, hint) = runs[at].next_near(place, hint_of(hints, at));
+        let (row, hint) = runs[at].next_over(place, hint_of(hints, at), first);
         keep_hint(hints, at, hint);
-        best = lesser(best, key);
+        first = row;
         at += 1;
     }
-    best
+    first
 }
 
 // The first live pair after a place.
@@ -249,13 +225,13 @@ fn first_near<'a, K: RunKey, A>(
 {
     let mut at = place;
     loop {
-        let Some(key) = least_near(runs, at, hints) else {
+        let Some(row) = first_row(runs, at, hints) else {
             return None;
         };
-        if let Some(set) = live_near(runs, &key, hints) {
-            return Some((key, set));
+        if let Some(set) = row.1 {
+            return Some((row.0, set));
         }
-        at = Some(key);
+        at = Some(row.0);
     }
 }
 

@@ -6,12 +6,11 @@ ghost use Rattle.std.specs.Option.{option_map};
 ghost use Rattle.route_runs.specs.Override.{value_at};
 ghost use Rattle.route_runs.specs.Rows.{sets_of, set_at, IsHandle};
 ghost use Rattle.route_runs.specs.Runs.{latest, seen, shared};
-ghost use Rattle.route_runs.specs.Places.{shown, is_after, is_from, IsAfterPoint, IsFirst, IsNext, has_key, has_latest, lesser_of};
+ghost use Rattle.route_runs.specs.Places.{IsAfterPoint};
 
 use crate::key::RunKey;
 use crate::run::{GONE, Pack, Run};
 use crate::runs::Runs;
-use std::cmp::Ordering;
 use std::sync::Arc;
 
 /// The set that a handle names.
@@ -73,22 +72,6 @@ pub(crate) fn live_in<'a, K: RunKey, A>(runs: &'a [Arc<Run<K, A>>], key: &K) -> 
     match latest_in(runs, key) {
         Some(found) => found,
         None => None,
-    }
-}
-
-// The lesser of two keys.
-pub(crate) fn lesser<K: RunKey>(a: Option<K>, b: Option<K>) -> Option<K>
-    ensures { result ≡ lesser_of K.cmp a b }
-{
-    match a {
-        None => b,
-        Some(first) => match b {
-            None => Some(first),
-            Some(second) => match second.cmp(&first) {
-                Ordering::Less => Some(second),
-                _ => Some(first),
-            },
-        },
     }
 }
 

@@ -1,4 +1,4 @@
-ghost use Rattle.std.specs.Prelude.{◌≡◌, IfSome};
+ghost use Rattle.std.specs.Prelude.{◌≡◌, Bool, IfSome};
 ghost use Rattle.std.specs.declared.cmp.Ordering.TheVariants.{Less, Equal};
 
 /// Keys that are equal in their order only where they are the same.
@@ -18,6 +18,12 @@ pub(crate) trait TableKey: RunKey {
     ghost spot_of: { Self → Self.Spot };
 
     ghost is_key: { Self → Type 0 };
+
+    ghost is_marked: { Self → Bool };
+
+    /// Whether it has a path identifier.
+    fn has_id(&self) -> bool
+        ensures { result ≡ is_marked self.now };
 
     /// The spot of this key.
     fn spot(&self) -> Self::Spot

@@ -124,6 +124,7 @@ impl RunKey for Key4 {
 impl TableKey for Key4 {
     type Spot = u32;
 
+    ghost use Rattle.std.specs.Option.{is_some};
     ghost use Rattle.bmp_specs.specs.declared.wire.Family.TheVariants.{V4};
     ghost use Rattle.route_runs.specs.Nlri.{IsNlriOf};
     ghost use Rattle.route_runs.specs.Spots.{spot4_of, spots4_rise};
@@ -131,6 +132,12 @@ impl TableKey for Key4 {
     ghost spot_of = { spot4_of };
 
     ghost is_key = { IsNlriOf V4 };
+
+    ghost is_marked = { λ n. is_some n.id };
+
+    fn has_id(&self) -> bool {
+        unmarked(self.bits, self.id).is_some()
+    }
 
     // The first 20 bits of the address.
     fn spot(&self) -> u32 {

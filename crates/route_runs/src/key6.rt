@@ -138,6 +138,7 @@ impl RunKey for Key6 {
 impl TableKey for Key6 {
     type Spot = u64;
 
+    ghost use Rattle.std.specs.Option.{is_some};
     ghost use Rattle.bmp_specs.specs.declared.wire.Family.TheVariants.{V6};
     ghost use Rattle.route_runs.specs.Nlri.{IsNlriOf};
     ghost use Rattle.route_runs.specs.NumberKeys.{high_of};
@@ -146,6 +147,12 @@ impl TableKey for Key6 {
     ghost spot_of = { high_of };
 
     ghost is_key = { IsNlriOf V6 };
+
+    ghost is_marked = { λ n. is_some n.id };
+
+    fn has_id(&self) -> bool {
+        unmarked(self.bits, self.id).is_some()
+    }
 
     // The upper half of the address.
     fn spot(&self) -> u64 {

@@ -47,6 +47,7 @@ mod packs;
 mod run;
 mod runs;
 mod see;
+mod sets;
 mod table;
 mod table_cursor;
 mod tidy;
@@ -56,5 +57,6 @@ mod weave;
 
 pub use changes::Changes;
 pub use origin_walk::OriginWalk;
+pub use sets::SetTest;
 pub use table::RouteTable;
 pub use walk::{Place, Walk};

@@ -1,5 +1,5 @@
 ghost use Rattle.std.specs.Prelude.{◌≡◌, ◌+◌, ◌++◌, ◌≤◌, [], length, min, Some, IfOk, IsTrue};
-ghost use Rattle.std.specs.List.{filter};
+ghost use Rattle.std.specs.List.{AllByRecursion, filter};
 ghost use Rattle.std.specs.List.Sorted.{IsStrictlySortedBy};
 ghost use Rattle.std.specs.Map.{keys_of};
 ghost use Rattle.std.specs.Option.{option_map};
@@ -11,6 +11,7 @@ ghost use Rattle.route_runs.specs.Origins.{when, with_origin};
 ghost use Rattle.route_runs.specs.Override.{value_at};
 ghost use Rattle.route_runs.specs.Places.{is_after, is_from};
 ghost use Rattle.route_runs.specs.Runs.{shared, IsChanged};
+ghost use Rattle.route_runs.specs.Sets.{RoutePasses};
 ghost use Rattle.route_runs.specs.Walk.{left, pairs_from};
 
 use crate::changes::Changes;
@@ -21,6 +22,7 @@ use crate::listed::Listed;
 use crate::longest::longest_by_looks;
 use crate::looks::Looks;
 use crate::origin_walk::{OriginWalk, least};
+use crate::sets::{SetTest, all_pass};
 use crate::table_cursor::{TableCursor, family_of};
 use crate::walk::{Place, Walk};
 use ip_prefix::{Addr, Family, Nlri, Prefix};
@@ -187,6 +189,16 @@ impl RouteTable {
         ensures { result ≡ min (length self.now) 18446744073709551615 }
     {
         self.low.count().saturating_add(self.high.count())
+    }
+
+    /// Whether it is known at once that each route passes a test: the IPv4 ones have a path identifier where `low` is so and
+    /// none elsewhere, the IPv6 ones where `high` is, and the attributes of each pass. Each list of attributes that the table
+    /// keeps is tested once, however many routes have it. Those that no route has any more are tested too, until a merge
+    /// drops them: so all routes may pass and it isn't known.
+    pub fn all_pass<T: SetTest>(&self, low: bool, high: bool) -> bool
+        ensures { IsTrue result → AllByRecursion (RoutePasses low high T.passes) self.now }
+    {
+        all_pass::<Key4, T>(self.low.rows(), low) && all_pass::<Key6, T>(self.high.rows(), high)
     }
 
     /// Whether it is known at once that there is no route. A table whose last route is withdrawn may still have runs,

@@ -5,8 +5,8 @@ use Rattle.route_runs.specs.Places.{IsPassed, is_after}
 use Rattle.route_runs.specs.Runs.{joined, latest}
 use Rattle.route_runs.proofs.cursor.first_near.Given as goal
 
-abbrev pub invariant-loop-key : goal.invariant-loop-key
-invariant-loop-key g l = IsPassed g.K.Ord.cmp (λ q. latest g.K.Ord.cmp q (map arc_value l.runs)) l.initial.at l.at
+abbrev pub invariant-loop-row : goal.invariant-loop-row
+invariant-loop-row g l = IsPassed g.K.Ord.cmp (λ q. latest g.K.Ord.cmp q (map arc_value l.runs)) l.initial.at l.at
 
-abbrev pub decreases-loop-key : goal.decreases-loop-key
-decreases-loop-key g l = length (filter (λ e. is_after g.K.Ord.cmp l.at e.0) (joined (map arc_value l.runs)))
+abbrev pub decreases-loop-row : goal.decreases-loop-row
+decreases-loop-row g l = length (filter (λ e. is_after g.K.Ord.cmp l.at e.0) (joined (map arc_value l.runs)))
