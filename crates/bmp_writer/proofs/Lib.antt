@@ -1,3 +1,4 @@
+pub mod Announcing
 pub mod AttributesRead
 pub mod CapabilitiesRead
 pub mod Carrying

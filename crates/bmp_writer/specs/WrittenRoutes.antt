@@ -112,6 +112,12 @@ pub record CanBeGiven (attrs : AttrsValue) : Type 0 where
   pub communities : 4 * length attrs.communities ≤ 65535
   pub hop : IsShortHop attrs.hop
 
+-- A Route Monitoring message can announce any one prefix with these attributes, of a peer and a view that a header can name;
+-- and some field has them, save for a next hop of at most 255 bytes.
+pub record CanBeAnnounced (attrs : AttrsValue) : Type 0 where
+  pub given : IsGiven attrs
+  pub carries : (key : KeyValue) (view : View) (n : NlriValue) → key.kind ≤ loc_rib → (key.kind ≡ loc_rib → key.address.family ≡ V4) → IsViewOf key view → n.prefix.bits ≤ 128 → CanCarryRoutes key view [] (n ∷ []) attrs
+
 -- the side that a view speaks of
 abbrev pub side_of_view : View → Side
 side_of_view InPre = Inward

@@ -35,7 +35,7 @@ mod routes;
 mod update;
 
 pub use initiation::put_initiation;
-pub use limits::can_routes;
+pub use limits::{can_announce, can_routes};
 pub use mark::put_mark;
 pub use peer_down::put_peer_down;
 pub use peer_up::{can_peer_up, put_peer_up};

@@ -1,14 +1,17 @@
 //! Whether a Route Monitoring message can carry routes.
-ghost use Rattle.std.specs.Prelude.{◌≡◌, ◌≤◌, ◌<◌, ◌+◌, ◌*◌, ◌==◌, ◌↔◌, false, not, [], length, map, IsTrue, ◌++◌};
+ghost use Rattle.std.specs.Prelude.{◌≡◌, ◌≤◌, ◌<◌, ◌+◌, ◌*◌, ◌==◌, ◌↔◌, true, false, not, [], length, map, IsTrue, ◌++◌};
 ghost use Rattle.std.specs.List.{AllByRecursion, IsDistinct, list_any};
 ghost use Rattle.std.specs.Option.{is_some as some_of};
 ghost use Rattle.bmp_specs.specs.Attributes.{read_types};
 ghost use Rattle.bmp_specs.specs.PeerHeader.{IsViewOf, loc_rib};
 ghost use Rattle.bmp_specs.specs.declared.wire.Family.{Family};
-ghost use Rattle.bmp_writer.specs.WrittenRoutes.{AreAlike, AreKept, CanBeGiven, CanCarryRoutes, FitsPath, HasFourOctets, HasNeededHop, HasOctets, IsAlike, IsGiven, IsKeptForm, IsOtherCode, IsShortHop, family_of as family_at, ids_of};
+ghost use Rattle.bmp_writer.specs.WrittenAttributes.{front_size, others_size, with_hop};
+ghost use Rattle.bmp_writer.specs.WrittenRoutes.{AreAlike, AreKept, CanBeAnnounced, CanBeGiven, CanCarryRoutes, FitsPath, HasFourOctets, HasNeededHop, HasOctets, IsAlike, IsGiven, IsKeptForm, IsOtherCode, IsShortHop, family_of as family_at, ids_of};
 ghost use Rattle.bmp_writer.specs.WrittenUpdate.{AreShort, HasRoom, hop_bytes, is_plain as plain_of, places, update_size, where_so};
 
 use crate::attributes::EXTENDED_LENGTH;
+use crate::front::left_by_front;
+use crate::others::left_by_others;
 use crate::path::{are_short_segments, left_by_segments};
 use crate::peer_up::has_four_octets;
 use crate::routes::family_of;
@@ -242,6 +245,35 @@ fn can_be_given(attrs: &Attrs) -> bool
     }
     let others = attrs.others.as_slice();
     are_kept(others) && are_distinct(others)
+}
+
+// Whether the message has room for the attributes beside any prefix. Beside what is counted here stand 23 octets and at most
+// 21 of a prefix, and in MP_REACH_NLRI at most 9 and 255 of the next hop.
+fn fit_with_any(attrs: &Attrs) -> bool
+    ensures { IsTrue result → front_size (with_hop true attrs.now) + others_size attrs.now.others ≤ 65227 }
+{
+    let Some(left) = left_by_front(65227, attrs, true) else {
+        return false;
+    };
+    match left_by_others(left, attrs.others.as_slice()) {
+        Some(_) => true,
+        None => false,
+    }
+}
+
+/// Whether it is known at once that `put_routes` can announce any one prefix with these attributes, and that they are some
+/// that a field can have, as `can_routes` says of one prefix. Where there is no next hop, or the attributes nearly fill a
+/// message, it isn't known.
+pub fn can_announce(attrs: &Attrs) -> bool
+    ensures { IsTrue result → CanBeAnnounced attrs.now }
+{
+    if attrs.hop.is_none() {
+        return false;
+    }
+    if !are_short(&attrs.path) {
+        return false;
+    }
+    can_be_given(attrs) && fit_with_any(attrs)
 }
 
 /// Whether `put_routes` can write it, and the attributes are some that a field can have, with a next hop that is absent

@@ -9,7 +9,7 @@ ghost use Rattle.bmp_writer.specs.WrittenUpdate.{CanPlace, places, update_size};
 
 use crate::common::{common_header, put};
 use crate::peer::{PEER_HEADER, put_peer_header};
-use crate::update::{put_update, size_of_update};
+use crate::update::{put_update, sizes_of};
 use bgp_update::NlriList;
 use bmp_frames::{COMMON_HEADER, PeerKey, ROUTE_MONITORING, View};
 use ip_prefix::{Family, Nlri};
@@ -64,9 +64,9 @@ fn put_message(
     ensures err { OnErr result (Keeps out.old out.new) }
 {
     let family = family_of(withdrawn, announced);
-    let size = size_of_update(family, withdrawn, announced, attrs);
-    put_headers(out, key, view, size)?;
-    put_update(out, family, withdrawn, announced, attrs)
+    let sizes = sizes_of(family, withdrawn, announced, attrs);
+    put_headers(out, key, view, sizes.update)?;
+    put_update(out, family, withdrawn, announced, attrs, sizes)
 }
 
 /// Appends a Route Monitoring message with one UPDATE, which withdraws prefixes and then announces others with these

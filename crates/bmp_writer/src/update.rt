@@ -159,19 +159,31 @@ fn size_of_field(family: Family, withdrawn: &[Nlri], announced: &[Nlri], attrs: 
     }
 }
 
-/// How many octets the message takes.
-pub(crate) fn size_of_update(
+/// How many octets the attributes of a message take, and how many it takes itself.
+#[derive(Clone, Copy)]
+pub(crate) struct Sizes {
+    pub(crate) field: usize,
+    pub(crate) update: usize,
+}
+
+/// The sizes of the message.
+pub(crate) fn sizes_of(
     family: Family,
     withdrawn: &[Nlri],
     announced: &[Nlri],
     attrs: &Attrs,
-) -> usize
+) -> Sizes
     requires { CanPlace (places family withdrawn.now announced.now attrs.now) }
-    ensures { result ≡ update_size (places family withdrawn.now announced.now attrs.now) }
+    ensures field { result.field ≡ field_size (places family withdrawn.now announced.now attrs.now) }
+    ensures update { result.update ≡ update_size (places family withdrawn.now announced.now attrs.now) }
 {
-    match left_by_update(family, withdrawn, announced, attrs) {
-        Some(left) => LONGEST - left,
-        None => unreachable!(),
+    let field = size_of_field(family, withdrawn, announced, attrs);
+    let before = size_of_nlris(of_v4(family, withdrawn));
+    let plain = is_plain(family, &attrs.hop);
+    let after = size_of_nlris(where_there(plain, announced));
+    Sizes {
+        field,
+        update: SHORTEST + before + field + after,
     }
 }
 
@@ -199,19 +211,21 @@ fn put_field(
     put_others(out, told_others(announced, attrs))
 }
 
-// "Path Attributes" behind their length.
+// "Path Attributes" behind their length, which is this.
 fn put_counted_field(
     out: &mut ByteList,
     family: Family,
     withdrawn: &[Nlri],
     announced: &[Nlri],
     attrs: &Attrs,
+    size: usize,
 ) -> Result<(), NoMemory>
-    requires { CanPlace (places family withdrawn.now announced.now attrs.now) }
+    requires can { CanPlace (places family withdrawn.now announced.now attrs.now) }
+    requires size { size ≡ field_size (places family withdrawn.now announced.now attrs.now) }
     ensures ok { OnOk result (Appends (IsCountedOf (IsField family (places family withdrawn.now announced.now attrs.now))) out.old out.new) }
     ensures err { OnErr result (Keeps out.old out.new) }
 {
-    let size = size_of_field(family, withdrawn, announced, attrs) as u16;
+    let size = size as u16;
     out.extend(&size.to_be_bytes())?;
     put_field(out, family, withdrawn, announced, attrs)
 }
@@ -238,22 +252,25 @@ fn header(size: u16) -> [u8; 19]
     ]
 }
 
-/// Appends the message. For want of memory fewer bytes stand behind those of before.
+/// Appends the message, which has these sizes. For want of memory fewer bytes stand behind those of before.
 pub(crate) fn put_update(
     out: &mut ByteList,
     family: Family,
     withdrawn: &[Nlri],
     announced: &[Nlri],
     attrs: &Attrs,
+    sizes: Sizes,
 ) -> Result<(), NoMemory>
-    requires { CanPlace (places family withdrawn.now announced.now attrs.now) }
+    requires can { CanPlace (places family withdrawn.now announced.now attrs.now) }
+    requires field { sizes.field ≡ field_size (places family withdrawn.now announced.now attrs.now) }
+    requires update { sizes.update ≡ update_size (places family withdrawn.now announced.now attrs.now) }
     ensures ok { OnOk result (Appends (IsUpdateOf family (places family withdrawn.now announced.now attrs.now)) out.old out.new) }
     ensures err { OnErr result (Keeps out.old out.new) }
 {
     let plain = is_plain(family, &attrs.hop);
-    let size = size_of_update(family, withdrawn, announced, attrs) as u16;
+    let size = sizes.update as u16;
     out.extend(&header(size))?;
     put_counted_nlris(out, of_v4(family, withdrawn))?;
-    put_counted_field(out, family, withdrawn, announced, attrs)?;
+    put_counted_field(out, family, withdrawn, announced, attrs, sizes.field)?;
     put_nlris(out, where_there(plain, announced))
 }

@@ -40,6 +40,6 @@ returns-clause-ok c =
     let out : Appends (IsCountedOf (AreOwnNlri p.withdrawn)) c.extend.new.self c.put_counted_nlris.new.out = subst (λ (l : List NlriValue). Appends (IsCountedOf (AreOwnNlri l)) c.extend.new.self c.put_counted_nlris.new.out) c.of_v4.ensures c.in_ok-put_counted_nlris.ensures.ok in
     on_ok_weaker c.put_nlris.result
     (λ (q : Appends (AreOwnNlri c.where_there.result.now) c.put_counted_field.new.out c.put_nlris.new.out).
-    update_put c.args.family p c.size_of_update-size.result c.header.result c.args.out.now c.extend.new.self c.put_counted_nlris.new.out c.put_counted_field.new.out c.put_nlris.new.out c.size_of_update-size.ensures (omega (arith, c.size_of_update-size.ensures, c.requires.fits)) c.header.ensures c.in_ok-extend.ensures.ok out c.in_ok-put_counted_field.ensures.ok
+    update_put c.args.family p c.args.sizes.update c.header.result c.args.out.now c.extend.new.self c.put_counted_nlris.new.out c.put_counted_field.new.out c.put_nlris.new.out c.requires.update (omega (arith, c.requires.update, c.requires.can.fits)) c.header.ensures c.in_ok-extend.ensures.ok out c.in_ok-put_counted_field.ensures.ok
     (subst (λ (l : List NlriValue). Appends (AreOwnNlri l) c.put_counted_field.new.out c.put_nlris.new.out) there q))
     c.put_nlris.ensures.ok
