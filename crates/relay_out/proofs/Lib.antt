@@ -4,7 +4,7 @@ pub mod PeersLeft
 pub mod RelayLaw
 pub mod Handing
 pub mod Steps
-pub mod Looked
+pub mod Judged
 pub mod Writes
 pub mod TablesTold
 pub mod Emitting

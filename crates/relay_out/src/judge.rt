@@ -1,13 +1,14 @@
-ghost use Rattle.std.specs.Prelude.{◌≡◌, ◌↔◌, ◌≤◌, [], ◌∷◌, IsTrue, IfOk, length};
+ghost use Rattle.std.specs.Prelude.{◌≡◌, ◌↔◌, [], ◌∷◌, IsTrue, IfOk, Some, map};
 ghost use Rattle.std.specs.List.{AllByRecursion};
 ghost use Rattle.std.specs.Option.{is_some};
 ghost use Rattle.bmp_specs.specs.declared.wire.Family.{Family};
 ghost use Rattle.bmp_specs.specs.PathIds.{uses_path_ids};
 ghost use Rattle.bmp_specs.specs.PeerHeader.{IsViewOf, loc_rib};
-ghost use Rattle.bmp_writer.specs.WrittenRoutes.{side_of_view};
+ghost use Rattle.bmp_writer.specs.WrittenRoutes.{CanBeAnnounced, side_of_view};
 ghost use Rattle.relay_out.specs.Items.{item_value};
-ghost use Rattle.bmp_writer.specs.WrittenRoutes.{CanBeGiven, IsShortHop};
-ghost use Rattle.relay_out.specs.Judging.{AreGiven, HasFewSegments, Refuses};
+ghost use Rattle.relay_out.specs.Judging.{Refuses};
+ghost use Rattle.relay_out.specs.Messages.{announces};
+ghost use Rattle.relay_out.specs.Tables.{table_rows};
 ghost use Rattle.relay_out.specs.Writable.{CanAnnounce, CanBringUp, CanComplete, CanTell, IsWritable};
 
 use crate::fault::EmitFault;
@@ -17,12 +18,13 @@ use bgp_open::{PeerInfo, Side, path_ids};
 use bgp_update::NlriList;
 use bmp_frames::{LOC_RIB, PeerKey};
 use bmp_specs::{Family, View};
-use bmp_writer::{can_peer_up, can_routes};
+use bmp_writer::{can_announce, can_peer_up, can_routes};
 use ip_prefix::Nlri;
-use path_attrs::{AsPath, Attrs};
+use path_attrs::Attrs;
 use rib_model::{Route, RowKey};
+use route_runs::{RouteTable, SetTest};
 use std::alloc::Global;
-use wire_io::{ByteList, NoMemory};
+use wire_io::NoMemory;
 
 // The side that a view speaks of.
 fn side_of(view: View) -> Side
@@ -49,16 +51,23 @@ fn can_bring_up(key: &PeerKey, info: &PeerInfo) -> bool
     can_peer_up(key, info)
 }
 
+// Whether the peer's OPEN messages agree on path identifiers, for a family in a view.
+fn agree_on_ids(info: &PeerInfo, family: Family, view: View) -> bool
+    ensures { result ≡ uses_path_ids info.now.sent info.now.received family (side_of_view view) }
+{
+    path_ids(&info.sent, &info.received, family, side_of(view))
+}
+
 // Whether the row has a path identifier exactly where its peer's OPEN messages agree on them.
 fn has_agreed_id(info: &PeerInfo, row: &RowKey) -> bool
     ensures { IsTrue result ↔ (uses_path_ids info.now.sent info.now.received row.now.nlri.prefix.address.family (side_of_view row.now.view) ≡ is_some row.now.nlri.id) }
 {
     let family = row.nlri.prefix.addr().family();
-    path_ids(&info.sent, &info.received, family, side_of(row.view)) == row.nlri.id.is_some()
+    agree_on_ids(info, family, row.view) == row.nlri.id.is_some()
 }
 
 // Whether a Route Monitoring message can announce the row.
-fn can_announce(
+fn can_announce_row(
     alloc: Global,
     info: &PeerInfo,
     row: &RowKey,
@@ -101,56 +110,33 @@ pub(crate) fn is_writable(alloc: Global, item: &Item<'_>) -> Result<bool, NoMemo
     match item {
         Item::Tells { name, description } => Ok(can_tell(name, description)),
         Item::BringsUp { key, info } => Ok(can_bring_up(key, info)),
-        Item::Announces { info, row, route } => can_announce(alloc, info, row, route),
+        Item::Announces { info, row, route } => can_announce_row(alloc, info, row, route),
         Item::Completes { key, view, .. } => Ok(can_complete(key, *view)),
     }
 }
 
-// Whether the length of the next hop fits one octet (RFC 4760, section 3).
-fn is_short_hop(hop: &Option<ByteList>) -> bool
-    ensures { IsTrue result ↔ IsShortHop hop.now }
-{
-    match hop {
-        Some(hop) => hop.as_slice().len() <= 255,
-        None => true,
+// The attributes with which any prefix can be announced.
+struct Announceable;
+
+impl SetTest for Announceable {
+    ghost passes = { CanBeAnnounced };
+
+    fn test(attrs: &Attrs) -> bool {
+        can_announce(attrs)
     }
 }
 
-// Whether the path has so few segments that their types and lengths have room.
-fn has_few_segments(path: &Option<AsPath>) -> bool
-    ensures { IsTrue result ↔ HasFewSegments path.now }
+// Whether it is known at once that each row of a table can be announced.
+fn can_announce_all(table: &RouteTable, key: &PeerKey, view: View, info: &PeerInfo) -> bool
+    ensures { IsTrue result → AllByRecursion IsWritable (map (announces info.now) (table_rows key.now view (Some table.now))) }
 {
-    match path {
-        Some(path) => path.as_slice().len() <= 32767,
-        None => true,
-    }
-}
-
-// Whether the next hop has room, and the segments of the path and the communities have it in 65,535 octets each (RFC 4271,
-// section 4.3). No field has the attributes where one of them has not.
-fn has_room(attrs: &Attrs) -> bool
-    ensures { CanBeGiven attrs.now → IsTrue result }
-{
-    if !is_short_hop(&attrs.hop) {
+    table.see_order();
+    if !can_complete(key, view) {
         return false;
     }
-    if !has_few_segments(&attrs.path) {
-        return false;
-    }
-    attrs.communities.as_slice().len() <= 16383
-}
-
-// Whether those of each route have.
-fn have_room(routes: &[&Route]) -> bool
-    ensures { AreGiven routes.now → IsTrue result }
-{
-    for at in 0..routes.len() {
-        let route = routes[at];
-        if !has_room(route) {
-            return false;
-        }
-    }
-    true
+    let low = agree_on_ids(info, Family::V4, view);
+    let high = agree_on_ids(info, Family::V6, view);
+    table.all_pass::<Announceable>(low, high)
 }
 
 /// Judges whether each message can be written, and writes nothing.
@@ -183,7 +169,13 @@ impl Takes for Judge {
         Err(EmitFault::Unwritable)
     }
 
-    // A first judgement of all, which touches the attributes of each.
+    // All rows of a table can be written where its attributes can be with any prefix. Where that isn't known, they are judged
+    // row by row.
+    fn has_taken(&self, table: &RouteTable, key: &PeerKey, view: View, info: &PeerInfo) -> bool {
+        can_announce_all(table, key, view, info)
+    }
+
+    // There is nothing to look at: few tables are judged by their rows.
     fn look(
         &mut self,
         key: &PeerKey,
@@ -192,9 +184,6 @@ impl Takes for Judge {
         nlris: &[Nlri],
         routes: &[&Route],
     ) -> Result<(), EmitFault> {
-        if have_room(routes) {
-            return Ok(());
-        }
-        Err(EmitFault::Unwritable)
+        Ok(())
     }
 }

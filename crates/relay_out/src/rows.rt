@@ -121,6 +121,9 @@ fn hand_table<T: Takes>(
     requires { AllByRecursion T.may (map (announces info.now) (table_rows key.now view (Some table.now))) }
     ensures { Hands T.of T.took T.stopped (map (announces info.now) (table_rows key.now view (Some table.now))) taker.old result taker.new }
 {
+    if taker.has_taken(table, key, view, info) {
+        return Ok(());
+    }
     table.see_order();
     hand_walk(table.walk(Place::First), key, view, info, taker)
 }

@@ -12,6 +12,7 @@ use bmp_specs::View;
 use ip_prefix::Nlri;
 use path_attrs::Attrs;
 use rib_model::Route;
+use route_runs::RouteTable;
 use std::alloc::Global;
 use std::marker::Model;
 use std::snapshot::Snapshot;
@@ -120,6 +121,10 @@ impl<O: Sink> Takes for Writer<O> {
             return Ok(());
         }
         self.flush()
+    }
+
+    fn has_taken(&self, table: &RouteTable, key: &PeerKey, view: View, info: &PeerInfo) -> bool {
+        false
     }
 
     // Writes what is held back where the announcements would make it long. So the attributes of each are touched.

@@ -3,9 +3,13 @@ use Rattle.bmp_specs.specs.Orders.{nlri_cmp}
 use Rattle.router_tables.specs.Views.{Table}
 use Rattle.relay_out.specs.Handed.{Hands}
 use Rattle.query_eval.proofs.RowOrder.{in_order_rising}
+use Rattle.relay_out.proofs.Judged.{hands_taken}
 use Rattle.relay_out.proofs.Steps.{items_of_pairs}
 use Rattle.std.specs.List.{AllByRecursion}
 use Rattle.relay_out.proofs.rows.hand_table.Goals as goal
+
+pub returns-then-has_taken : goal.returns-then-has_taken
+returns-then-has_taken g c = hands_taken c.args.taker.now _ (c.has_taken.ensures c.if-has_taken.true)
 
 pub returns : goal.returns
 returns g c =
