@@ -1,46 +1,79 @@
 -- The pairs of an origin AS and a key of the rows of runs.
-use Rattle.std.proofs.Common.{◌≡◌, Result, Ok, Err, IfOk, ℕ, ◌+◌, ◌<◌, ◌≤◌, inl, inr, true, List, length, take, get_or, Option, None, Some, option_and_then, refl, ap, sym, ◌∙◌, subst, arith}
+use Rattle.std.proofs.Common.{◌≡◌, Result, Ok, Err, IfOk, ℕ, ◌+◌, ◌/◌, ◌%◌, ◌<◌, ◌≤◌, nat_eq, if◌then◌else◌, inl, inr, true, false, List, [], length, map, take, get_or, Option, None, Some, option_and_then, refl, ap, sym, ◌∙◌, subst, arith}
 use Rattle.std.specs.declared.cmp.Ordering.{Ordering}
 use Rattle.std.specs.Cmp.{IsTotalOrder}
-use Rattle.std.specs.List.{Contains}
+use Rattle.std.specs.List.{slice_get, Contains}
 use Rattle.std.specs.Option.{is_some, option_map}
-use Rattle.std.proofs.lemmas.Bool.{cases_lt}
-use Rattle.std.proofs.lemmas.List.{get_or_default, take_all}
+use Rattle.std.proofs.lemmas.Bool.{cases_Bool, cases_lt}
+use Rattle.std.proofs.lemmas.Bool.Decides.{nat_tests}
+use Rattle.std.proofs.lemmas.List.{get_or_default, length-map, take_all}
+use Rattle.std.proofs.lemmas.Option.{slice_get-map}
+use Rattle.std.proofs.Math.ListN.{get_or-eq_default, get_or-map}
 use Rattle.std.proofs.lemmas.Map.Lookups.{CmpEqualImpliesEq}
 use Rattle.route_runs.specs.Keys.{pair_cmp}
 use Rattle.route_runs.specs.Message.{IsAllSet}
-use Rattle.route_runs.specs.Origins.{is_number, of_origin, AreAdded, AreAll, AreNamed, Covers, HasPairs, IsIndexed}
+use Rattle.route_runs.specs.Origins.{is_number, of_origin, told_origin, AreAdded, AreAll, AreNamed, Covers, HasPairs, IsIndexed}
 use Rattle.route_runs.specs.Override.{value_at, or_else}
-use Rattle.route_runs.specs.Rows.{set_at, paired, rows, IsRun}
+use Rattle.route_runs.specs.Rows.{gone, set_at, paired, rows, IsRun}
 use Rattle.route_runs.specs.Runs.{latest, seen, changed, contents, IsChanged}
 use Rattle.route_runs.proofs.Contents.{value-contents}
+use Rattle.route_runs.proofs.Handles.{set_gone}
 use Rattle.route_runs.proofs.Origins.{number_of}
 use Rattle.route_runs.proofs.Overriding.{value-named}
 use Rattle.route_runs.proofs.Searching.{has_row, has_rows, value_found, latest_step}
 
-module _ {K S A : Type 0} (spot : K → S) (origin : A → Option ℕ) (packs : List (List A)) (ks : List K) (vs : List ℕ) where
-  pub named_none : (pairs : List (ℕ × S)) → AreNamed spot origin packs ks vs 0 pairs
+-- ---- the origins of all sets
+module _ {A : Type 0} (origin : A → Option ℕ) where
+  flat : (o : Option A) → option_and_then (λ (p : Option ℕ). p) (option_map origin o) ≡ option_and_then origin o
+  flat None = refl
+  flat (Some x) = refl
+
+  -- of one that is gone none is told
+  told_gone : (packs : List (List A)) (h : ℕ) → length packs < 1048576 → h ≡ gone → told_origin (map (map origin) packs) h ≡ None
+  told_gone packs h few e =
+      let far : length (map (map origin) packs) ≤ h / 4096 = rw (length-map packs (map origin), e) (omega (arith, few)) in
+      ap (λ l. option_and_then (λ (p : Option ℕ). p) (slice_get l (h % 4096))) (get_or-eq_default (map (map origin) packs) [] far)
+
+  told_live : (packs : List (List A)) (h : ℕ) → nat_eq h gone ≡ false → told_origin (map (map origin) packs) h ≡ option_and_then origin (set_at packs h)
+  told_live packs h live =
+      ap (λ l. option_and_then (λ (p : Option ℕ). p) (slice_get l (h % 4096))) (get_or-map (map origin) packs (h / 4096) [])
+      ∙ ap (option_and_then (λ (p : Option ℕ). p)) (slice_get-map origin (get_or packs (h / 4096) []) (h % 4096))
+      ∙ flat (slice_get (get_or packs (h / 4096) []) (h % 4096))
+      ∙ ap (λ b. option_and_then origin (if b then None else slice_get (get_or packs (h / 4096) []) (h % 4096))) (sym live)
+
+  pub told_named : (packs : List (List A)) → length packs < 1048576 → (h : ℕ) → told_origin (map (map origin) packs) h ≡ option_and_then origin (set_at packs h)
+  told_named packs few h = elim (cases_Bool (nat_eq h gone)) [
+    | inl is ↦ let e : h ≡ gone = grind (arith, nat_tests, is) in told_gone packs h few e ∙ ap (option_and_then origin) (sym (set_gone packs h e))
+    | inr live ↦ told_live packs h live
+  ]
+
+module _ {K S : Type 0} (spot : K → S) (origin : ℕ → Option ℕ) (ks : List K) (vs : List ℕ) where
+  pub named_none : (pairs : List (ℕ × S)) → AreNamed spot origin ks vs 0 pairs
   named_none pairs k d asn lt h = absurd (omega (arith, lt))
 
-  pub named_more : (n : ℕ) (pairs pairs' : List (ℕ × S)) (key : K) (s : S) (o : Option ℕ) → n < length ks → key ≡ get_or ks n key → s ≡ spot key → o ≡ option_and_then origin (set_at packs (get_or vs n 0))
-      → ((p : ℕ × S) → Contains pairs p → Contains pairs' p) → ((asn : ℕ) → is_number asn o ≡ true → Contains pairs' (asn, s)) → AreNamed spot origin packs ks vs n pairs → AreNamed spot origin packs ks vs (n + 1) pairs'
+  pub named_more : (n : ℕ) (pairs pairs' : List (ℕ × S)) (key : K) (s : S) (o : Option ℕ) → n < length ks → key ≡ get_or ks n key → s ≡ spot key → o ≡ origin (get_or vs n 0)
+      → ((p : ℕ × S) → Contains pairs p → Contains pairs' p) → ((asn : ℕ) → is_number asn o ≡ true → Contains pairs' (asn, s)) → AreNamed spot origin ks vs n pairs → AreNamed spot origin ks vs (n + 1) pairs'
   named_more n pairs pairs' key s o within is stands names kept added so_far k d asn lt h = elim (cases_lt k n) [
     | inl less ↦ kept _ (so_far k d asn less h)
     | inr more ↦
         let same : k ≡ n = omega (arith, lt, more) in
         let at : key ≡ get_or ks k d = is ∙ get_or_default ks n key d within ∙ ap (λ k. get_or ks k d) (sym same) in
-        subst (λ q. Contains pairs' (asn, q)) (stands ∙ ap spot at) (added asn (ap (is_number asn) (names ∙ ap (λ k. option_and_then origin (set_at packs (get_or vs k 0))) (sym same)) ∙ h))
+        subst (λ q. Contains pairs' (asn, q)) (stands ∙ ap spot at) (added asn (ap (is_number asn) (names ∙ ap (λ k. origin (get_or vs k 0)) (sym same)) ∙ h))
   ]
 
-  pub named_all : (n : ℕ) (pairs : List (ℕ × S)) → length ks ≤ n → AreNamed spot origin packs ks vs n pairs → AreNamed spot origin packs ks vs (length ks) pairs
+  pub named_all : (n : ℕ) (pairs : List (ℕ × S)) → length ks ≤ n → AreNamed spot origin ks vs n pairs → AreNamed spot origin ks vs (length ks) pairs
   named_all n pairs le so_far k d asn lt h = so_far k d asn (omega (arith, lt, le)) h
+
+  -- the same by another way to an origin
+  pub named_as : (other : ℕ → Option ℕ) → ((h : ℕ) → origin h ≡ other h) → (n : ℕ) (pairs : List (ℕ × S)) → AreNamed spot origin ks vs n pairs → AreNamed spot other ks vs n pairs
+  named_as other same n pairs named k d asn lt h = named k d asn lt (ap (is_number asn) (same (get_or vs k 0)) ∙ h)
 
 module _ {K S A : Type 0} (cmp : K → K → Ordering) (total : IsTotalOrder cmp) (exact : CmpEqualImpliesEq cmp) (spot : K → S) (origin : A → Option ℕ) (packs : List (List A)) (ks : List K) (vs : List ℕ) (run : IsRun cmp packs ks vs) where
   seen_has : (o : Option (Option A)) (asn : ℕ) → is_some (of_origin origin asn (seen o)) ≡ true → is_some o ≡ true
   seen_has None asn h = absurd cc
   seen_has (Some x) asn h = refl
 
-  pub named_rows : (pairs : List (ℕ × S)) → AreNamed spot origin packs ks vs (length ks) pairs → AreAdded cmp spot origin (rows packs ks vs) pairs
+  pub named_rows : (pairs : List (ℕ × S)) → AreNamed spot (λ h. option_and_then origin (set_at packs h)) ks vs (length ks) pairs → AreAdded cmp spot origin (rows packs ks vs) pairs
   named_rows pairs named q asn h =
       let r = has_row cmp total exact ks vs q (sym (has_rows cmp total exact packs ks vs run q) ∙ seen_has (value_at cmp q (rows packs ks vs)) asn h) in
       let value : value_at cmp q (rows packs ks vs) ≡ Some (set_at packs (get_or vs r.0 0)) =

@@ -1,8 +1,8 @@
 -- The rows whose path has an origin AS, and the index by which they are found.
-use Rattle.std.specs.Prelude.{◌≡◌, ℕ, Bool, true, false, nat_eq, if◌then◌else◌, List, Option, None, Some, option_and_then, MatchOption, ◌<◌, slice_index_or, replicate}
+use Rattle.std.specs.Prelude.{◌≡◌, ℕ, ◌/◌, ◌%◌, Bool, true, false, nat_eq, if◌then◌else◌, List, [], Option, None, Some, option_and_then, MatchOption, ◌<◌, slice_index_or, replicate}
 use Rattle.std.specs.declared.cmp.Ordering.{Ordering}
 use Rattle.std.specs.declared.cmp.Ordering.TheVariants.{Less}
-use Rattle.std.specs.List.{Contains, filter}
+use Rattle.std.specs.List.{slice_get, Contains, filter}
 use Rattle.std.specs.Option.{is_some}
 use Rattle.std.specs.Ordering.{is_lt}
 use Rattle.bmp_specs.specs.declared.wire.Family.TheVariants.{V4, V6}
@@ -11,7 +11,6 @@ use Rattle.bmp_specs.specs.Values.{AttrsValue, NlriValue}
 use Rattle.route_runs.specs.Keys.{pair_cmp}
 use Rattle.route_runs.specs.Override.{value_at}
 use Rattle.route_runs.specs.Places.{is_after, is_from}
-use Rattle.route_runs.specs.Rows.{set_at}
 use Rattle.route_runs.specs.Runs.{latest, seen}
 
 -- the origin AS of a route (RFC 6811, section 2), where it has a path and the path has one
@@ -59,9 +58,13 @@ pub record HasPairs {K U : Type 0} (cmp : K → K → Ordering) (pairs : List (�
   pub there : (p : ℕ × K) → Contains pairs p → is_some (value_at (pair_cmp cmp) p added) ≡ true
   pub none_gone : (p : ℕ × K) → is_some (value_at (pair_cmp cmp) p added) ≡ true → is_some (seen (value_at (pair_cmp cmp) p added)) ≡ true
 
--- the spots of the first n of these rows that have an origin are in a list of pairs
-abbrev pub AreNamed : {K S A : Type 0} → (K → S) → (A → Option ℕ) → List (List A) → List K → List ℕ → ℕ → List (ℕ × S) → Type 0
-AreNamed {K} spot origin packs ks vs n pairs = (k : ℕ) (d : K) (asn : ℕ) → k < n → is_number asn (option_and_then origin (set_at packs (slice_index_or vs k 0))) ≡ true → Contains pairs (asn, spot (slice_index_or ks k d))
+-- the origin of the set that a handle names, of the origins of all sets of each pack
+abbrev pub told_origin : List (List (Option ℕ)) → ℕ → Option ℕ
+told_origin origins h = option_and_then (λ (o : Option ℕ). o) (slice_get (slice_index_or origins (h / 4096) []) (h % 4096))
+
+-- the spots of the first n of these rows that have an origin are in a list of pairs, where a handle has this origin
+abbrev pub AreNamed : {K S : Type 0} → (K → S) → (ℕ → Option ℕ) → List K → List ℕ → ℕ → List (ℕ × S) → Type 0
+AreNamed {K} spot origin ks vs n pairs = (k : ℕ) (d : K) (asn : ℕ) → k < n → is_number asn (origin (slice_index_or vs k 0)) ≡ true → Contains pairs (asn, spot (slice_index_or ks k d))
 
 -- each key that a list has passes a test
 abbrev pub AreKeysBy : {K X : Type 0} → (K → K → Ordering) → (K → Type 0) → List (K × X) → Type 0

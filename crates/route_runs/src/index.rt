@@ -1,12 +1,11 @@
-ghost use Rattle.std.specs.Prelude.{◌≡◌, ℕ, true, length, map, IfOk, IsTrue, OnOk};
+ghost use Rattle.std.specs.Prelude.{◌≡◌, ℕ, true, length, map, option_and_then, IfOk, IsTrue, OnOk};
 ghost use Rattle.std.specs.Arc.{arc_value};
-ghost use Rattle.std.specs.List.{AllByRecursion, Contains};
-ghost use Rattle.route_runs.specs.Origins.{attrs_origin, is_number, AreAdded, AreAll, AreNamed, Covers, HasPairs, IsIndexed};
-ghost use Rattle.route_runs.specs.Rows.{sets_of, IsHandle};
+ghost use Rattle.std.specs.List.{slice_get, Contains};
+ghost use Rattle.route_runs.specs.Origins.{attrs_origin, is_number, told_origin, AreAdded, AreAll, AreNamed, Covers, HasPairs, IsIndexed};
+ghost use Rattle.route_runs.specs.Rows.{sets_of};
 ghost use Rattle.route_runs.specs.Runs.{IsChanged};
 
 use crate::cursor::is_same;
-use crate::find::set_of;
 use crate::key::{RunKey, TableKey};
 use crate::listed::Listed;
 use crate::origin::origin_of;
@@ -68,20 +67,71 @@ fn add_pair<S: RunKey>(
     }
 }
 
+// The origins of the sets of a pack, in their order.
+fn origins_of(alloc: Global, pack: &[Arc<Attrs>]) -> Result<Vec<Option<u32>>, NoMemory>
+    ensures { IfOk result (λ list. list.items ≡ map attrs_origin (map arc_value pack.now)) }
+{
+    let Ok(mut list) = Vec::with_capacity(alloc, pack.len()) else {
+        return Err(NoMemory);
+    };
+    for set in pack {
+        if list.push(origin_of(Some(set))).is_err() {
+            return Err(NoMemory);
+        }
+    }
+    Ok(list)
+}
+
+// The origins of all sets of packs. Sets lie in memory as they came, and rows name them in another order, most of them
+// more than once: so each is looked into once, in its turn.
+fn all_origins(alloc: Global, packs: &[Arc<Pack<Attrs>>]) -> Result<Vec<Vec<Option<u32>>>, NoMemory>
+    ensures { IfOk result (λ list. map (λ v. v.items) list.items ≡ map (map attrs_origin) (sets_of packs.now)) }
+{
+    let Ok(mut list) = Vec::with_capacity(alloc, packs.len()) else {
+        return Err(NoMemory);
+    };
+    for pack in packs {
+        let origins = origins_of(alloc, pack.as_slice())?;
+        if list.push(origins).is_err() {
+            return Err(NoMemory);
+        }
+    }
+    Ok(list)
+}
+
+// The origin at a place of a pack.
+fn origin_in(origins: &[Option<u32>], place: usize) -> Option<u32>
+    ensures { result ≡ option_and_then (λ o. o) (slice_get origins.now place) }
+{
+    match origins.get(place) {
+        Some(origin) => *origin,
+        None => None,
+    }
+}
+
+// The origin of the set that a handle names.
+fn origin_at(origins: &[Vec<Option<u32>>], handle: u32) -> Option<u32>
+    ensures { result ≡ told_origin (map (λ v. v.items) origins.now) handle }
+{
+    match origins.get((handle / 4096) as usize) {
+        Some(pack) => origin_in(pack.as_slice(), (handle % 4096) as usize),
+        None => None,
+    }
+}
+
 // Adds the pairs of rows that have an origin.
 fn add_rows<K: TableKey>(
     pairs: &mut Vec<(u32, K::Spot)>,
     keys: &[K],
     handles: &[u32],
-    packs: &[Arc<Pack<Attrs>>],
+    origins: &[Vec<Option<u32>>],
 ) -> Result<(), NoMemory>
-    requires even { length handles.now ≡ length keys.now }
-    requires handles { AllByRecursion (IsHandle (sets_of packs.now)) handles.now }
+    requires { length handles.now ≡ length keys.now }
     ensures kept { OnOk result ((p : ℕ × K.Spot) → Contains pairs.old.items p → Contains pairs.new.items p) }
-    ensures added { OnOk result (AreNamed K.spot_of attrs_origin (sets_of packs.now) keys.now handles.now (length keys.now) pairs.new.items) }
+    ensures added { OnOk result (AreNamed K.spot_of (told_origin (map (λ v. v.items) origins.now)) keys.now handles.now (length keys.now) pairs.new.items) }
 {
     for at in 0..keys.len() {
-        let origin = origin_of(set_of(packs, handles[at]));
+        let origin = origin_at(origins, handles[at]);
         add_pair(pairs, origin, keys[at].spot())?;
     }
     Ok(())
@@ -89,13 +139,15 @@ fn add_rows<K: TableKey>(
 
 // Adds the pairs of the rows of a run that have an origin.
 fn add_pairs<K: TableKey>(
+    alloc: Global,
     pairs: &mut Vec<(u32, K::Spot)>,
     run: &Run<K, Attrs>,
 ) -> Result<(), NoMemory>
     ensures kept { OnOk result ((p : ℕ × K.Spot) → Contains pairs.old.items p → Contains pairs.new.items p) }
     ensures added { OnOk result (AreAdded K.cmp K.spot_of attrs_origin run.now pairs.new.items) }
 {
-    add_rows(pairs, &run.keys, &run.handles, &run.packs)
+    let origins = all_origins(alloc, &run.packs)?;
+    add_rows(pairs, &run.keys, &run.handles, &origins)
 }
 
 // The run of these pairs.
@@ -118,7 +170,7 @@ fn pairs_of<K: TableKey>(
     let Ok(mut pairs) = Vec::with_capacity(alloc, run.len()) else {
         return Err(NoMemory);
     };
-    add_pairs(&mut pairs, run)?;
+    add_pairs(alloc, &mut pairs, run)?;
     run_of(alloc, pairs)
 }
 
@@ -130,7 +182,7 @@ fn anew<K: TableKey>(
     ensures { IfOk result (IsIndexed K.cmp K.Spot.cmp K.spot_of attrs_origin runs.now) }
 {
     let mut pairs = Vec::new(alloc);
-    add_all(&mut pairs, runs.runs.as_slice())?;
+    add_all(alloc, &mut pairs, runs.runs.as_slice())?;
     let rows = run_of(alloc, pairs)?;
     let mut index = Runs::new(alloc);
     index.push(alloc, rows, 1)?;
@@ -139,13 +191,14 @@ fn anew<K: TableKey>(
 
 // Adds the pairs of all runs.
 fn add_all<K: TableKey>(
+    alloc: Global,
     pairs: &mut Vec<(u32, K::Spot)>,
     runs: &[Arc<Run<K, Attrs>>],
 ) -> Result<(), NoMemory>
     ensures { OnOk result (AreAll K.cmp K.spot_of attrs_origin (map arc_value runs.now) pairs.new.items) }
 {
     for run in runs {
-        add_pairs(pairs, run)?;
+        add_pairs(alloc, pairs, run)?;
     }
     Ok(())
 }
