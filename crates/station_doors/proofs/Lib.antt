@@ -1,4 +1,5 @@
 pub mod Sessions
 pub mod Lent
 pub mod Rests
+pub mod Planned
 pub mod DiskPaths

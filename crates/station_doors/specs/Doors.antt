@@ -121,6 +121,16 @@ pub record Reads (old new : Aside) (result : Result ℕ Failed) (buf : List ℕ)
 pub record Closes (old new : Aside) : Type 0 where
   pub same : new ≡ record old { rest = new.rest; closed = one_more old.closed; is_open = false }
 
+-- how a read went
+abbrev pub went_so : Result ℕ Failed → LastRead
+went_so (Ok n) = read_of n
+went_so (Err e) = failed
+
+-- how the reads went, the last first, after one more, where that is kept
+abbrev pub Went : Option (List LastRead) → Option (List LastRead) → Result ℕ Failed → Type 0
+Went None new result = new ≡ None
+Went (Some old) new result = new ≡ Some (went_so result ∷ old)
+
 -- how many bytes are asked for, where so many were taken of the connection
 abbrev pub read_size : ℕ → ℕ
 read_size taken = min most_read (most_taken - taken)
@@ -152,6 +162,16 @@ pub record FileValue : Type 0 where
 pub record DiskShown : Type 0 where
   pub value : DiskValue
   pub faults : ℕ
+
+-- What a port was made over that keeps on a disk what another gives, as they were then: that port, and how many of its
+-- calls were made that its plan numbers; the disk; the place of the byte that more is kept behind, and whether the keeping
+-- had stopped.
+pub record MadeOver : Type 0 where
+  pub shows : Aside
+  pub calls : ℕ
+  pub disk : DiskShown
+  pub place : ℕ
+  pub stopped : Bool
 
 -- a disk of a yard: under which path, and what it shows; none where it was handed out and not given back since
 pub record DiskAt : Type 0 where

@@ -1,4 +1,5 @@
 pub mod Doors
+pub mod Planned
 pub mod Paths
 pub mod Files
 pub mod Disks

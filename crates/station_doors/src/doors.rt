@@ -1,9 +1,10 @@
-ghost use Rattle.std.specs.Prelude.{◌≡◌, ℕ, ◌<◌, ◌≤◌, Option, Some, None, [], IsTrue, IfSome, OnErr, length};
+ghost use Rattle.std.specs.Prelude.{◌≡◌, ℕ, ◌<◌, ◌≤◌, List, Option, Some, None, [], IsTrue, IfSome, OnErr, length};
 ghost use Rattle.std.specs.Io.{ReadsAtMost};
 ghost use Rattle.std.specs.Io.KnownBytes.{Keeps};
+ghost use Rattle.bmp_specs.specs.Life.{LastRead};
 ghost use Rattle.wire_io.specs.Aside.{Aside};
 ghost use Rattle.wire_io.specs.Faults.{HasCause};
-ghost use Rattle.station_doors.specs.Doors.{Opens, Reads, Closes, AsPlanned, noted_writes, read_size, YardValue, IsLane, askers_of, Listens, HandsOut, HandsOutLink, TakesBack, TakesLinkBack, KeepsEnding, one_more};
+ghost use Rattle.station_doors.specs.Doors.{Opens, Reads, Closes, AsPlanned, MadeOver, Went, noted_writes, read_size, YardValue, IsLane, askers_of, Listens, HandsOut, HandsOutLink, TakesBack, TakesLinkBack, KeepsEnding, one_more};
 ghost use Rattle.station_doors.specs.Disks.{HandsOutDisk, TakesDiskBack};
 ghost use Rattle.station_doors.specs.Files.{GivesFile, HasFileCause};
 ghost use Rattle.station_doors.specs.declared.listening.Listening.{Listening};
@@ -21,12 +22,20 @@ pub trait Port {
     /// How many of its calls were made that its plan numbers.
     ghost calls: { Self → ℕ } = { λ _. 0 };
 
+    /// What it was made over, as that was then. It stays through its life, as its plan does.
+    ghost stays: { Self → Option MadeOver } = { λ _. None };
+
+    /// How its reads went, the last first, where it keeps that.
+    ghost went: { Self → Option (List LastRead) } = { λ _. None };
+
     /// Opens the next connection, of which no byte was given. False where there is none. It fails only
     /// where the plan, if it is shown, has a call that fails.
     fn next_connection(&mut self) -> Result<bool, Failed>
         ensures opens { Opens (aside self.old) (aside self.new) result }
         ensures planned { IfSome (aside self.old).plan (λ plan. OnErr result (plan.fails ≡ [] → ⊥)) }
-        ensures calls { calls self.new ≡ calls self.old };
+        ensures calls { calls self.new ≡ calls self.old }
+        ensures stays { stays self.new ≡ stays self.old }
+        ensures went { went self.new ≡ went self.old };
 
     /// Gives the next bytes of the present connection, which is open: at least one, or none at its end. It
     /// is asked for 65,536 bytes, or for what is left up to 2^46 bytes of one connection.
@@ -36,13 +45,17 @@ pub trait Port {
         requires is_open { IsTrue (aside self.old).is_open }
         ensures bound { ReadsAtMost result buf.new }
         ensures reads { Reads (aside self.old) (aside self.new) result buf.new }
-        ensures planned { AsPlanned (aside self.old).plan (calls self.old) (calls self.new) result };
+        ensures planned { AsPlanned (aside self.old).plan (calls self.old) (calls self.new) result }
+        ensures stays { stays self.new ≡ stays self.old }
+        ensures went { Went (went self.old) (went self.new) result };
 
     /// Closes the present connection, which is open. Nothing is read of it after that.
     fn close(&mut self)
         requires { IsTrue (aside self.old).is_open }
         ensures closes { Closes (aside self.old) (aside self.new) }
-        ensures calls { calls self.new ≡ calls self.old };
+        ensures calls { calls self.new ≡ calls self.old }
+        ensures stays { stays self.new ≡ stays self.old }
+        ensures went { went self.new ≡ went self.old };
 }
 
 /// The place of one client, which gives one connection after another and takes what is written to it. Its count
