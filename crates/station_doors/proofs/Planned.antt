@@ -8,7 +8,7 @@ use Rattle.bmp_specs.specs.Life.{LastRead, gave, gave_none, failed, most_taken, 
 use Rattle.wire_io.specs.declared.sink.Failed.{Failed}
 use Rattle.wire_io.specs.Aside.{Aside, Given, Plan, fresh}
 use Rattle.station_doors.specs.Doors.{Opens, OpensNext, GivesNext, Reads, GivesBytes, Closes, AsPlanned, given_more, one_more, read_of, read_size, untouched}
-use Rattle.station_doors.specs.Planned.{first_of, Gives, GoesAsPlanned, ReadsAsPlanned, AllGave, GaveBefore, last_of_reads, FollowsFirst, FollowsNone, FollowsBy, FollowsPlan, Follows}
+use Rattle.station_doors.specs.Planned.{first_of, Gives, ReadsAsPlanned, AllGave, GaveBefore, last_of_reads, FollowsBy, FollowsPlan, Follows}
 
 -- a read gave bytes, or none
 pub read_some : (n : ℕ) → n ≢ 0 → read_of n ≡ gave
@@ -117,8 +117,7 @@ follows_untouched plan = record {
 module _ (plan : Plan) (a b : Aside) (calls : ℕ) (went : List LastRead) where
   opened_by : (gs : List Given) → FollowsBy plan a calls went gs → Opens a b (Ok true) → FollowsBy plan b calls went (gs ++ fresh ∷ [])
   opened_by [] f o =
-      let first = opens_first plan.connections b.coming b.rest (subst (λ (c : Option (List (List ℕ))). OpensNext c b.coming b.rest (Ok true)) f.coming o.coming) in
-      (
+      let first = opens_first plan.connections b.coming b.rest (subst (λ (c : Option (List (List ℕ))). OpensNext c b.coming b.rest (Ok true)) f.coming o.coming) in (
         o.opened ∙ ap one_more f.opened,
         λ fine calm.
             record {
