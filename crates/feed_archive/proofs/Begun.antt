@@ -1,17 +1,18 @@
 -- An archive that was read and then synced.
-use Rattle.std.proofs.Common.{◌≡◌, inl, inr, ℕ, List, ◌∷◌, refl, sym, ◌∙◌, ap, subst, Result, Ok, Err}
+use Rattle.std.proofs.Common.{◌≡◌, inl, inr, ℕ, List, [], ◌∷◌, length, length-append, arith, refl, sym, ◌∙◌, ap, subst, Result, Ok, Err}
 use Rattle.wire_io.specs.declared.sink.Failed.{Failed as DiskFailed}
 use Rattle.disk_doors.specs.Images.{Moment, IsImage, settled}
 use Rattle.disk_doors.specs.Disk.{DiskValue, Rests, Syncs}
 use Rattle.disk_doors.proofs.Torn.{settled_image}
 use Rattle.disk_doors.proofs.Passing.{passes_rests, passes_more, lasts_then, goes_lasts}
 use Rattle.feed_archive.specs.Archive.{IsArchive, joined}
-use Rattle.feed_archive.specs.Recovering.{Holds, seen}
+use Rattle.feed_archive.specs.Recovering.{Holds, FaultFits, seen}
+use Rattle.feed_archive.specs.Scanning.{IsPlain}
 use Rattle.feed_archive.specs.Appending.{IsClosedAt, Keeps, Began, Refuses}
 use Rattle.feed_archive.specs.declared.fault.RecoverFault.{RecoverFault}
 use Rattle.feed_archive.specs.declared.fault.RecoverFault.TheVariants.{Failed, Damaged, TooLong, NoMemory}
 use Rattle.feed_archive.proofs.OneContent.{seen_archive}
-use Rattle.feed_archive.proofs.Empty.{settled_only}
+use Rattle.feed_archive.proofs.Empty.{settled_only, empty_content}
 
 pub keeps_rests : (old new : DiskValue) → Rests old new → Keeps old new
 keeps_rests old new r = record { keeps = λ w only. passes_rests (λ c. Holds c w) old new r only }
@@ -67,3 +68,18 @@ module _ (old mid new : DiskValue) (u : Unit {0}) (rests : Rests old mid) (s : S
         only = settled_only new.now old.now.file (joined pieces) now_is has;
         keeps = keeps_synced old mid new (Ok u) rests s;
       }
+
+-- an archive that was created, and to which nothing was appended
+fresh_file : (d : DiskValue) → d.now ≡ settled (0 ∷ []) → d.now.file ≡ 0 ∷ []
+fresh_file d is = ap (λ (m : Moment). m.file) is
+
+pub fresh_plain : (d : DiskValue) (fault : RecoverFault) → d.now ≡ settled (0 ∷ []) → FaultFits d.now.file fault → IsPlain fault
+fresh_plain d Failed is f = tt
+fresh_plain d NoMemory is f = tt
+fresh_plain d (Damaged offset) is f = f.2 [] (subst (λ (l : List ℕ). Holds l []) (sym (fresh_file d is)) empty_content)
+fresh_plain d TooLong is f = f.1 [] (subst (λ (l : List ℕ). Holds l []) (sym (fresh_file d is)) empty_content)
+
+pub fresh_place : (d : DiskValue) (pieces : List (List ℕ)) (place : ℕ) → d.now ≡ settled (0 ∷ []) → IsArchive (seen d.now.file) pieces place → place ≡ 0
+fresh_place d pieces place is a =
+    let whole = seen_archive d.now.file pieces place a in
+    omega (arith, ap length (fresh_file d is), ap length whole.split, length-append whole.front (whole.gate ∷ whole.rest), whole.place_is)

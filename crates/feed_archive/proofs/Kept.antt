@@ -1,18 +1,21 @@
 -- What is kept of what a port gave, call by call.
-use Rattle.std.proofs.Common.{◌≡◌, inl, inr, ⊎_elim, ℕ, suc, ◌+◌, ◌*◌, ◌<◌, ◌≤◌, length, List, [], ◌∷◌, ◌++◌, refl, sym, ◌∙◌, ap, subst, append_assoc, append-nil, length-append, arith, Option, None, Some, Err}
-use mathlib.Core.Bool.{Bool, false, false≢true}
+use Rattle.std.proofs.Common.{◌≡◌, inl, inr, ⊎_elim, ℕ, zero, suc, ◌+◌, ◌*◌, ◌<◌, ◌≤◌, length, List, [], ◌∷◌, ◌++◌, refl, sym, ◌∙◌, ap, subst, append_assoc, append-nil, length-append, arith, Option, None, Some, Err}
+use mathlib.Core.Bool.{Bool, true, false, false≢true}
 use Rattle.bmp_specs.specs.Life.{most_read}
 use Rattle.disk_doors.specs.Images.{Moment, IsImage}
 use Rattle.disk_doors.specs.Disk.{DiskValue, moments, AllImages, Passes, Lasts}
 use Rattle.disk_doors.specs.Note.{Event}
 use Rattle.disk_doors.proofs.Passing.{passes_none, passes_then, passes_weaker, rests_none, lasts_none, lasts_then, sound_later, sound_smaller}
+use Rattle.wire_io.specs.Aside.{Aside}
+use Rattle.feed_archive.specs.Archive.{HasContent}
 use Rattle.feed_archive.specs.Recovering.{Holds, HasOnly}
 use Rattle.feed_archive.specs.Appending.{IsBeforeOrAfter, AppendCause, AppendAnswers, AppendPlanned, ArchiveValue}
 use Rattle.feed_archive.specs.declared.fault.AppendFault.{AppendFault}
 use Rattle.feed_archive.specs.declared.fault.AppendFault.TheVariants.{Failed as DiskFailed, Full, Stopped}
 use Rattle.wire_io.specs.Faults.{Rose}
 use Rattle.std.specs.Option.{is_some}
-use Rattle.feed_archive.specs.Keeping.{gave, lost, is_refused, HasFrontOf, HasBetween, Ran, HasKept, KeepCause, KeepsExactly, KeepsDisk, KeepsGoing, KeepsPlace}
+use Rattle.feed_archive.proofs.OneContent.{seen_archive}
+use Rattle.feed_archive.specs.Keeping.{gave, lost, is_refused, failures, keep_aside, told_by, HasFrontOf, HasBetween, Ran, HasKept, KeepCause, KeepsExactly, KeepsDisk, KeepsGoing, KeepsPlace}
 
 pub kept_new : (tells : Type 0) (d : DiskValue) → HasKept tells d d []
 kept_new tells d = record {
@@ -193,6 +196,23 @@ going_gave made old new refused g before after = record { same = λ e. after ∙
 
 pub going_lost : {D : Type 0} (made : Bool) (old new : ArchiveValue D) (size : ℕ) (refused : Option AppendFault) (fault : AppendFault) → is_some refused ≡ false → KeepsGoing made old.stopped refused → AppendAnswers old new size (Err fault) → KeepsGoing made new.stopped (Some fault)
 going_lost made old new size (Some other) fault e g a = absurd (false≢true (sym e))
-going_lost made old new size None DiskFailed e g a = record { same = λ is. absurd cc; stopped = λ is. absurd cc }
-going_lost made old new size None Full e g a = record { same = λ is. absurd cc; stopped = λ is. absurd cc }
-going_lost made old new size None Stopped e g a = record { same = λ is. absurd cc; stopped = λ is. sym (g.same refl) ∙ a.0 }
+going_lost made old new size None DiskFailed e g a = record { same = λ not. absurd (not refl); stopped = λ is. absurd cc }
+going_lost made old new size None Full e g a = record { same = λ not. ap (λ (v : ArchiveValue _). v.stopped) a.2 ∙ g.same (λ f. absurd cc); stopped = λ is. absurd cc }
+going_lost made old new size None Stopped e g a = record { same = λ not. ap (λ (v : ArchiveValue _). v.stopped) a.1 ∙ g.same (λ f. absurd cc); stopped = λ is. sym (g.same (λ f. absurd cc)) ∙ a.0 }
+
+-- each refused piece, and each read after it, counts among the reads that failed
+failures_some : (es : List Event) → is_refused es ≡ true → 0 < failures es
+failures_some [] e = absurd (cc e)
+failures_some ((zero, m, b) ∷ es) e = failures_some es e
+failures_some ((suc zero, m, b) ∷ es) e = omega arith
+failures_some ((suc (suc zero), m, b) ∷ es) e = omega (arith, failures_some es e)
+failures_some ((suc (suc (suc k)), m, b) ∷ es) e = failures_some es e
+
+pub refused_counts : (inner base : Aside) (es : List Event) → is_refused es ≡ true → inner.read_faults < (keep_aside inner base es).read_faults
+refused_counts inner base es e = subst (λ (b : Bool). inner.read_faults < (told_by b inner base es).read_faults) (sym e) (omega (arith, failures_some es e))
+
+-- the file as it reads has the content that each file has which a crash may leave
+pub file_content : (m : Moment) (content : List ℕ) → HasOnly m content → HasContent m.file content
+file_content m content only =
+    let has = only m.file (inl refl) in
+    record { pieces = has.pieces; place = has.place; is = seen_archive m.file has.pieces has.place has.is; content_is = has.content_is }

@@ -8,3 +8,4 @@ pub mod Begun
 pub mod Steps
 pub mod Kept
 pub mod Telling
+pub mod Asked

@@ -1,6 +1,7 @@
 -- What is told of a port that keeps what it gives, call by call.
-use Rattle.std.proofs.Common.{◌≡◌, ℕ, suc, ◌+◌, ◌<◌, List, [], ◌∷◌, ◌++◌, Option, None, Some, Result, Ok, Err, take, length, refl, sym, ◌∙◌, ap, subst, append_assoc, append-nil, length-append, arith}
+use Rattle.std.proofs.Common.{◌≡◌, ℕ, suc, ◌+◌, ◌*◌, ◌<◌, ◌≤◌, List, [], ◌∷◌, ◌++◌, Option, None, Some, Result, Ok, Err, take, length, refl, sym, ◌∙◌, ap, subst, append_assoc, append-nil, length-append, arith}
 use Rattle.std.specs.Option.{is_some}
+use Rattle.feed_archive.specs.Archive.{most_archive}
 use Rattle.feed_archive.specs.Appending.{ArchiveValue, AppendAnswers}
 use Rattle.feed_archive.specs.declared.fault.AppendFault.{AppendFault}
 use Rattle.feed_archive.specs.declared.fault.AppendFault.TheVariants.{Failed as DiskFailed, Full, Stopped}
@@ -163,7 +164,7 @@ pub tells_calm : (first inner : Aside) (bytes : List ℕ) → TellsBytes first i
 tells_calm first inner bytes t = record { told = λ g s. let u = t.told g s in record { given = u.given; given_is = u.given_is; bytes_are = u.bytes_are; present = u.present } }
 
 pub inner_new : (first : Aside) → InnerGave first first []
-inner_new first = record { plan = refl; told = tells_new first; calm = λ plan is none. (refl, refl) }
+inner_new first = record { plan = refl; told = tells_new first; later = omega arith; calm = λ plan is none. (refl, refl) }
 
 module _ (first i0 i1 : Aside) (es fs : List Event) (t : InnerGave first i0 es) where
   -- it gave bytes, which are kept or refused
@@ -171,6 +172,7 @@ module _ (first i0 i1 : Aside) (es fs : List Event) (t : InnerGave first i0 es) 
   inner_gave n buf o r grown = record {
     plan = r.plan ∙ t.plan;
     told = record { told = λ g s. told_gives i0 i1 (gave es ++ lost es) (gave fs ++ lost fs) n buf (t.told.told g s) o r.given r.is_open grown };
+    later = omega (arith, r.cause.later, t.later);
     calm = λ plan is none. let c = t.calm plan is none in (r.cause.fine ∙ c.0, r.calm ∙ c.1);
   }
 
@@ -184,6 +186,7 @@ module _ (first i0 i1 : Aside) (es fs : List Event) (t : InnerGave first i0 es) 
   inner_failed before after e buf r p same = record {
     plan = r.plan ∙ t.plan;
     told = record { told = λ g s. subst (Told i1) (sym same) (told_fails i0 i1 (gave es ++ lost es) e buf (t.told.told g s) r.given r.is_open) };
+    later = omega (arith, r.cause.later, t.later);
     calm = λ plan is none. absurd (read_planned plan before after e is none p);
   }
 
@@ -195,6 +198,7 @@ module _ (first i0 i1 : Aside) (es fs : List Event) (t : InnerGave first i0 es) 
   inner_opens r o p same = record {
     plan = o.plan ∙ t.plan;
     told = record { told = λ g s. subst (Told i1) (sym same) (told_opens i0 i1 (gave es ++ lost es) r (t.told.told g s) o.given o.is_open) };
+    later = omega (arith, o.calm, t.later);
     calm = calm_opens r o p;
   }
 
@@ -202,34 +206,40 @@ module _ (first i0 i1 : Aside) (es fs : List Event) (t : InnerGave first i0 es) 
   inner_closes c same = record {
     plan = ap (λ (a : Aside). a.plan) c.same ∙ t.plan;
     told = record { told = λ g s. subst (Told i1) (sym same) (told_closes i0 i1 (gave es ++ lost es) (t.told.told g s) (ap (λ (a : Aside). a.given) c.same) (ap (λ (a : Aside). a.is_open) c.same)) };
+    later = omega (arith, ap (λ (a : Aside). a.read_faults) c.same, t.later);
     calm = λ plan is none. let d = t.calm plan is none in (ap (λ (a : Aside). a.read_faults) c.same ∙ d.0, ap (λ (a : Aside). a.open_faults) c.same ∙ d.1);
   }
 
 -- nothing happened below
 pub inner_same : (first i0 : Aside) (es fs : List Event) → gave fs ++ lost fs ≡ gave es ++ lost es → InnerGave first i0 es → InnerGave first i0 fs
-inner_same first i0 es fs same t = record { plan = t.plan; told = record { told = λ g s. subst (Told i0) (sym same) (t.told.told g s) }; calm = t.calm }
+inner_same first i0 es fs same t = record { plan = t.plan; told = record { told = λ g s. subst (Told i0) (sym same) (t.told.told g s) }; later = t.later; calm = t.calm }
 
 pub place_new : (place : ℕ) (refused : Option AppendFault) → (refused ≡ Some Full → ⊥) → KeepsPlace place place [] refused
-place_new place refused not = record { least = λ f. omega arith; small = λ f. omega arith; full = λ e. absurd (not e); some = λ e. absurd (false≢true e) }
+place_new place refused not = record { least = λ f. omega arith; small = λ f. omega arith; full = λ e. absurd (not e); long = λ e. absurd (not e); some = λ e. absurd (false≢true e) }
 
 pub place_on : (k made now : ℕ) (es : List Event) (refused : Option AppendFault) → KeepsPlace made now es refused → KeepsPlace made now ((suc (suc k), 0, []) ∷ es) refused
-place_on k made now es refused p = record { least = p.least; small = p.small; full = p.full; some = p.some }
+place_on k made now es refused p = record { least = p.least; small = p.small; full = p.full; long = p.long; some = p.some }
 
 pub place_gave : (made old new : ℕ) (es : List Event) (piece : List ℕ) (refused : Option AppendFault) → is_some refused ≡ false → KeepsPlace made old es refused → 0 < length piece → new ≡ old + 5 + length piece → KeepsPlace made new ((0, 0, piece) ∷ es) refused
 place_gave made old new es piece None e p some is = record {
   least = λ f. omega (arith, p.least f, is, length-append (gave es) piece);
   small = λ f. omega (arith, p.small f, some, is, length-append (gave es) piece);
   full = λ e. absurd cc;
+  long = λ e. absurd cc;
   some = p.some;
 }
 place_gave made old new es piece (Some fault) e p some is = absurd (false≢true (sym e))
 
+-- where there is no room for one more record, there is none for six bytes for each byte
+too_long : (made now gave piece all : ℕ) → now ≤ made + 6 * gave → 0 < piece → most_archive < now + 6 + piece → all ≡ gave + piece → most_archive < made + 6 * all + 1
+too_long made now gave piece all small some full is = omega (arith, small, some, full, is)
+
 pub place_lost : {D : Type 0} (made : ℕ) (old new : ArchiveValue D) (es : List Event) (piece : List ℕ) (refused : Option AppendFault) (fault : AppendFault) → is_some refused ≡ false → KeepsPlace made old.place es refused → AppendAnswers old new (length piece) (Err fault)
     → 0 < length piece → KeepsPlace made new.place ((1, 0, piece) ∷ es) (Some fault)
 place_lost made old new es piece (Some other) fault e p a h = absurd (false≢true (sym e))
-place_lost made old new es piece None DiskFailed e p a h = record { least = λ f. absurd (f refl); small = λ f. absurd (f refl); full = λ e. absurd cc; some = λ e. h }
-place_lost made old new es piece None Full e p a h = record { least = λ f. omega (arith, p.least (λ e. absurd cc), ap (λ (v : ArchiveValue _). v.place) a.2); small = λ f. omega (arith, p.small (λ e. absurd cc), ap (λ (v : ArchiveValue _). v.place) a.2); full = λ e. omega (arith, a.1, ap (λ (v : ArchiveValue _). v.place) a.2); some = λ e. h }
-place_lost made old new es piece None Stopped e p a h = record { least = λ f. omega (arith, p.least (λ e. absurd cc), ap (λ (v : ArchiveValue _). v.place) a.1); small = λ f. omega (arith, p.small (λ e. absurd cc), ap (λ (v : ArchiveValue _). v.place) a.1); full = λ e. absurd cc; some = λ e. h }
+place_lost made old new es piece None DiskFailed e p a h = record { least = λ f. absurd (f refl); small = λ f. absurd (f refl); full = λ e. absurd cc; long = λ e. absurd cc; some = λ e. h }
+place_lost made old new es piece None Full e p a h = record { least = λ f. omega (arith, p.least (λ e. absurd cc), ap (λ (v : ArchiveValue _). v.place) a.2); small = λ f. omega (arith, p.small (λ e. absurd cc), ap (λ (v : ArchiveValue _). v.place) a.2); full = λ e. omega (arith, a.1, ap (λ (v : ArchiveValue _). v.place) a.2); long = λ e. too_long made old.place (length (gave es)) (length piece) (length (gave es ++ piece)) (p.small (λ f. absurd cc)) h a.1 (length-append (gave es) piece); some = λ e. h }
+place_lost made old new es piece None Stopped e p a h = record { least = λ f. omega (arith, p.least (λ e. absurd cc), ap (λ (v : ArchiveValue _). v.place) a.1); small = λ f. omega (arith, p.small (λ e. absurd cc), ap (λ (v : ArchiveValue _). v.place) a.1); full = λ e. absurd cc; long = λ e. absurd cc; some = λ e. h }
 
 pub not_false : (r : Result Bool Failed) → r ≡ Ok false → r ≡ Ok true → ⊥
 not_false r e f = absurd cc

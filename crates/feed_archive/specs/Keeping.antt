@@ -1,8 +1,9 @@
 -- A port that keeps what it gives: what it tells, and what its archive holds.
 use Rattle.std.specs.Prelude.{◌≡◌, ℕ, zero, suc, ◌+◌, ◌*◌, ◌<◌, ◌≤◌, ◌⊎◌, Bool, true, false, cond, List, [], ◌∷◌, ◌++◌, length, Option, None, Some}
-use Rattle.bmp_specs.specs.Life.{failed, most_read}
+use Rattle.bmp_specs.specs.Life.{LastRead, gave as gave_some, gave_none, failed, most_read}
 use Rattle.wire_io.specs.Aside.{Aside, Given, Plan, fresh}
-use Rattle.station_doors.specs.Doors.{given_more}
+use Rattle.station_doors.specs.Doors.{MadeOver, given_more}
+use Rattle.station_doors.specs.Planned.{Follows}
 use Rattle.disk_doors.specs.Images.{IsImage}
 use Rattle.disk_doors.specs.Disk.{DiskValue, Passes, Rests, Lasts, IsSound}
 use Rattle.disk_doors.specs.Note.{Event}
@@ -14,7 +15,8 @@ use Rattle.feed_archive.specs.declared.fault.AppendFault.TheVariants.{Failed as 
 use Rattle.wire_io.specs.Faults.{Rose}
 
 -- What was noted, the last first: a piece that was given (0), the piece whose append was refused (1), a later read, which
--- failed (2), and a connection that was opened (any other).
+-- failed (2), a connection that was opened (3), a read of the port below that gave none (4), and one that failed (any
+-- other).
 
 -- the bytes that were given
 abbrev pub gave_more : ℕ → List ℕ → List ℕ → List ℕ
@@ -50,11 +52,38 @@ abbrev pub opens_later : ℕ → Bool → Bool
 opens_later zero before = before
 opens_later (suc zero) before = false
 opens_later (suc (suc zero)) before = before
-opens_later (suc (suc (suc k))) before = true
+opens_later (suc (suc (suc zero))) before = true
+opens_later (suc (suc (suc (suc k)))) before = before
 
 abbrev pub opened_later : List Event → Bool
 opened_later [] = false
 opened_later (e ∷ es) = opens_later e.0 (opened_later es)
+
+-- how its reads went, the last first
+abbrev pub went_more : ℕ → List LastRead → List LastRead
+went_more zero before = gave_some ∷ before
+went_more (suc zero) before = failed ∷ before
+went_more (suc (suc zero)) before = failed ∷ before
+went_more (suc (suc (suc zero))) before = before
+went_more (suc (suc (suc (suc zero)))) before = gave_none ∷ before
+went_more (suc (suc (suc (suc (suc k))))) before = failed ∷ before
+
+abbrev pub went_of : List Event → List LastRead
+went_of [] = []
+went_of (e ∷ es) = went_more e.0 (went_of es)
+
+-- how the reads of the port below went, the last first
+abbrev pub asked_more : ℕ → List LastRead → List LastRead
+asked_more zero before = gave_some ∷ before
+asked_more (suc zero) before = gave_some ∷ before
+asked_more (suc (suc zero)) before = before
+asked_more (suc (suc (suc zero))) before = before
+asked_more (suc (suc (suc (suc zero)))) before = gave_none ∷ before
+asked_more (suc (suc (suc (suc (suc k))))) before = failed ∷ before
+
+abbrev pub asked : List Event → List LastRead
+asked [] = []
+asked (e ∷ es) = asked_more e.0 (asked es)
 
 -- how many reads failed here
 abbrev pub fails_more : ℕ → ℕ → ℕ
@@ -80,7 +109,8 @@ abbrev pub given_by : Option (List Given) → ℕ → Option (List Given) → Op
 given_by base zero before = before
 given_by base (suc zero) before = marked base
 given_by base (suc (suc zero)) before = marked before
-given_by base (suc (suc (suc k))) before = joined_by before
+given_by base (suc (suc (suc zero))) before = joined_by before
+given_by base (suc (suc (suc (suc k)))) before = before
 
 abbrev pub given_later : Option (List Given) → List Event → Option (List Given)
 given_later base [] = base
@@ -116,6 +146,13 @@ pub record KeepPortValue (P D : Type 0) : Type 0 where
   pub before : P
   pub events : List Event
   pub refused : Option AppendFault
+
+-- what it was made over
+abbrev pub made_over : {P D : Type 0} → (P → Aside) → (P → ℕ) → (D → DiskValue) → (D → ℕ) → P → ArchiveValue D → MadeOver
+made_over shows calls disk faults first made = record { shows = shows first; calls = calls first; disk = record { value = disk made.disk; faults = faults made.disk }; place = made.place; stopped = made.stopped }
+
+abbrev pub stays_of : {P D : Type 0} → (P → Aside) → (P → ℕ) → (D → DiskValue) → (D → ℕ) → KeepPortValue P D → Option MadeOver
+stays_of shows calls disk faults k = Some (made_over shows calls disk faults k.first k.made)
 
 -- the file holds the first content, then a front of these bytes
 pub record HasFrontOf (first bytes file : List ℕ) : Type 0 where
@@ -173,14 +210,21 @@ pub record TellsBytes (first now : Aside) (bytes : List ℕ) : Type 0 where
 pub record InnerGave (first inner : Aside) (es : List Event) : Type 0 where
   pub plan : inner.plan ≡ first.plan
   pub told : TellsBytes first inner (gave es ++ lost es)
+  pub later : first.read_faults ≤ inner.read_faults
   pub calm : (plan : Plan) → first.plan ≡ Some plan → plan.fails ≡ [] → (inner.read_faults ≡ first.read_faults) × (inner.open_faults ≡ first.open_faults)
 
+-- the port below follows its plan, and where no piece was refused its reads went as those of this port
+pub record KeepsPlan (first inner : Aside) (before calls : ℕ) (es : List Event) : Type 0 where
+  pub follows : Follows first inner before calls (asked es)
+  pub same : is_refused es ≡ false → asked es ≡ went_of es
+
 -- The closing byte's place grew by one at least and six at most for each byte that was given, and a full archive has no room
--- for the record of the refused piece.
+-- for the record of the refused piece, nor for six bytes for each that the port below gave.
 pub record KeepsPlace (made now : ℕ) (es : List Event) (refused : Option AppendFault) : Type 0 where
   pub least : (refused ≡ Some DiskFailed → ⊥) → made + length (gave es) ≤ now
   pub small : (refused ≡ Some DiskFailed → ⊥) → now ≤ made + 6 * length (gave es)
   pub full : refused ≡ Some Full → most_archive < now + 6 + length (lost es)
+  pub long : refused ≡ Some Full → most_archive < made + 6 * length (gave es ++ lost es) + 1
   -- the piece that was refused has a byte
   pub some : is_refused es ≡ true → 0 < length (lost es)
 
@@ -197,9 +241,9 @@ pub record KeepsDisk (tells : Type 0) (made now : DiskValue) (place : ℕ) (es :
   pub lasts : tells → Lasts made now
   pub planned : tells → refused ≡ Some DiskFailed → IsSound made (place + 6 * length (gave es ++ lost es) + 1) → ⊥
 
--- an archive that had not failed before is never refused as one that had
+-- an archive that had not failed before is never refused as one that had, and goes on but where the disk failed
 pub record KeepsGoing (made now : Bool) (refused : Option AppendFault) : Type 0 where
-  pub same : refused ≡ None → now ≡ made
+  pub same : (refused ≡ Some DiskFailed → ⊥) → now ≡ made
   pub stopped : refused ≡ Some Stopped → made ≡ true
 
 -- where the disk failed no append, a crash leaves exactly what was given

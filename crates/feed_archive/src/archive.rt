@@ -1,6 +1,8 @@
-ghost use Rattle.std.specs.Prelude.{◌≡◌, ◌<◌, ◌≤◌, ◌+◌, ◌++◌, List, ℕ, false, length, OnOk, IfOk, IfErr, MatchResult};
+ghost use Rattle.std.specs.Prelude.{◌≡◌, ◌<◌, ◌≤◌, ◌+◌, ◌++◌, List, [], ◌∷◌, ℕ, false, length, OnOk, IfOk, IfErr, MatchResult};
 ghost use Rattle.disk_doors.specs.Disk.{Passes, Lasts};
+ghost use Rattle.disk_doors.specs.Images.{settled};
 ghost use Rattle.feed_archive.specs.Recovering.{HasOnly, FaultCause, FaultFits, FaultPlanned};
+ghost use Rattle.feed_archive.specs.Scanning.{IsPlain};
 ghost use Rattle.feed_archive.specs.Appending.{IsBeforeOrAfter, IsClosedAt, AppendAnswers, AppendCause, AppendPlanned, Began, Keeps, Refuses};
 
 use crate::filling::{ROOM, fill};
@@ -51,11 +53,13 @@ impl<D: Disk> Archive<D> {
     /// Takes the disk and the memory of all later calls, reads the archive, and syncs. It writes nothing.
     ///
     /// After Ok every crash leaves the content that was read, also where an append that was cut short had left the disk
-    /// with two. Where it refuses, the disk is handed back: nothing was done to it, or its sync failed.
+    /// with two. Where it refuses, the disk is handed back: nothing was done to it, or its sync failed. An archive that was
+    /// created on the disk, and nothing since, is never refused as damaged or too long.
     pub fn begin(alloc: Global, disk: D) -> Result<Archive<D>, BeginRefused<D>>
         ensures ok { D.tells → IfOk result (λ a. Began (D.shows disk) (D.shows a.disk)) }
         ensures closed { D.tells → IfOk result (λ a. IsClosedAt (D.shows a.disk).now a.place) }
         ensures stopped { IfOk result (λ a. a.stopped ≡ false) }
+        ensures fresh { D.tells → (D.shows disk).now ≡ settled (0 ∷ []) → MatchResult result (λ a. a.place ≡ 0) (λ r. IsPlain r.fault) }
         ensures refused { D.tells → IfErr result (λ r. Keeps (D.shows disk) (D.shows r.disk) × Refuses (D.shows disk) (D.shows r.disk) r.fault × FaultFits (D.shows disk).now.file r.fault) }
         ensures planned { D.tells → IfErr result (λ r. FaultPlanned (D.shows disk) r.fault) }
         ensures cause { MatchResult result (λ a. D.faults a.disk ≡ D.faults disk) (λ r. FaultCause (D.faults disk) (D.faults r.disk) r.fault) }

@@ -1,9 +1,9 @@
-ghost use Rattle.std.specs.Prelude.{◌≡◌, ◌<◌, ◌++◌, [], None, List, ℕ, length, is_some, IsTrue};
+ghost use Rattle.std.specs.Prelude.{◌≡◌, ◌<◌, ◌++◌, [], None, Some, List, ℕ, length, is_some, IsTrue};
 ghost use Rattle.std.specs.Io.{ReadsAtMost};
-ghost use Rattle.station_doors.specs.Doors.{Reads, AsPlanned, read_size};
+ghost use Rattle.station_doors.specs.Doors.{Reads, AsPlanned, Went, read_size};
 ghost use Rattle.disk_doors.specs.Disk.{Passes};
 ghost use Rattle.feed_archive.specs.Recovering.{HasOnly};
-ghost use Rattle.feed_archive.specs.Keeping.{HasKept, TellsBytes, InnerGave, KeepsPlace, KeepCause, KeepsExactly, KeepsDisk, KeepsGoing, HasBetween, is_refused, gave, lost, keep_aside};
+ghost use Rattle.feed_archive.specs.Keeping.{HasKept, TellsBytes, InnerGave, KeepsPlan, KeepsPlace, KeepCause, KeepsExactly, KeepsDisk, KeepsGoing, HasBetween, stays_of, is_refused, gave, lost, went_of, keep_aside};
 
 use crate::{AppendFault, Archive};
 use disk_doors::{Disk, Notes};
@@ -21,6 +21,10 @@ const FAILED_LATER: u64 = 2;
 
 const OPENED: u64 = 3;
 
+const GAVE_NONE: u64 = 4;
+
+const FAILED_BELOW: u64 = 5;
+
 /// A port over another, which keeps what it gives in an archive before it gives it.
 ///
 /// A read asks the port below, appends what came as one record, and only then gives it. Once an append was refused, that
@@ -35,7 +39,7 @@ pub struct KeepPort<P: Port, D: Disk> {
     first: Snapshot<P>,
     made: Snapshot<Archive<D>>,
     before: Snapshot<P>,
-    // What was given and refused, and what was called since a refusal.
+    // What was given and refused, how the other reads went, and what was opened.
     notes: Notes,
     // The answer of the append that was refused.
     refused: Option<AppendFault>,
@@ -45,7 +49,7 @@ pub struct KeepPort<P: Port, D: Disk> {
 
 impl<P: Port, D: Disk> Model for KeepPort<P, D> {
     ghost use Rattle.std.specs.Prelude.{◌≡◌, is_some, length};
-    ghost use Rattle.feed_archive.specs.Keeping.{KeepPortValue, HasKept, TellsBytes, InnerGave, KeepsPlace, KeepCause, KeepsExactly, KeepsDisk, KeepsGoing, is_refused, gave, keep_aside};
+    ghost use Rattle.feed_archive.specs.Keeping.{KeepPortValue, HasKept, TellsBytes, InnerGave, KeepsPlan, KeepsPlace, KeepCause, KeepsExactly, KeepsDisk, KeepsGoing, is_refused, gave, keep_aside};
 
     ghost Value = { KeepPortValue P D };
 
@@ -59,7 +63,8 @@ impl<P: Port, D: Disk> Model for KeepPort<P, D> {
         × KeepsPlace k.made.value.place k.archive.place k.notes.events k.refused
         × (k.given ≡ length (gave k.notes.events))
         × KeepsDisk D.tells (D.shows k.made.value.disk) (D.shows k.archive.disk) k.made.value.place k.notes.events k.refused
-        × KeepsGoing k.made.value.stopped k.archive.stopped k.refused };
+        × KeepsGoing k.made.value.stopped k.archive.stopped k.refused
+        × KeepsPlan (P.aside k.first.value) (P.aside k.inner) (P.calls k.first.value) (P.calls k.inner) k.notes.events };
 }
 
 impl<P: Port, D: Disk> KeepPort<P, D> {
@@ -107,6 +112,7 @@ impl<P: Port, D: Disk> KeepPort<P, D> {
         ensures kept { HasKept D.tells (D.shows self.made.disk) (D.shows self.archive.disk) self.events }
         ensures told { TellsBytes (P.aside self.first) (keep_aside (P.aside self.inner) (P.aside self.before) self.events) (gave self.events) }
         ensures inner { InnerGave (P.aside self.first) (P.aside self.inner) self.events }
+        ensures plan { KeepsPlan (P.aside self.first) (P.aside self.inner) (P.calls self.first) (P.calls self.inner) self.events }
         ensures place { KeepsPlace self.made.place self.archive.place self.events self.refused }
         ensures disk { KeepsDisk D.tells (D.shows self.made.disk) (D.shows self.archive.disk) self.made.place self.events self.refused }
         ensures going { KeepsGoing self.made.stopped self.archive.stopped self.refused }
@@ -130,6 +136,10 @@ impl<P: Port, D: Disk> KeepPort<P, D> {
 impl<P: Port, D: Disk> Port for KeepPort<P, D> {
     ghost aside = { λ k. keep_aside (P.aside k.inner) (P.aside k.before) k.events };
 
+    ghost stays = { λ k. stays_of P.aside P.calls D.shows D.faults k };
+
+    ghost went = { λ k. Some (went_of k.events) };
+
     fn next_connection(&mut self) -> Result<bool, Failed> {
         match self.inner.next_connection() {
             Ok(true) => {
@@ -149,6 +159,8 @@ impl<P: Port, D: Disk> Port for KeepPort<P, D> {
         ensures bound { ReadsAtMost result buf.new }
         ensures reads { Reads (keep_aside (P.aside self.old.inner) (P.aside self.old.before) self.old.events) (keep_aside (P.aside self.new.inner) (P.aside self.new.before) self.new.events) result buf.new }
         ensures planned { AsPlanned (keep_aside (P.aside self.old.inner) (P.aside self.old.before) self.old.events).plan 0 0 result }
+        ensures stays { stays_of P.aside P.calls D.shows D.faults self.new ≡ stays_of P.aside P.calls D.shows D.faults self.old }
+        ensures went { Went (Some (went_of self.old.events)) (Some (went_of self.new.events)) result }
         ensures any_moment { D.tells → (first : List ℕ) → HasOnly (D.shows self.old.made.disk).now first → Passes (HasBetween first (gave self.old.events) (gave self.new.events ++ lost self.new.events)) (D.shows self.old.archive.disk) (D.shows self.new.archive.disk) }
     {
         if self.refused.is_some() {
@@ -158,9 +170,13 @@ impl<P: Port, D: Disk> Port for KeepPort<P, D> {
         self.before = Snapshot::of(&self.inner);
         let count = match self.inner.read(buf) {
             Ok(count) => count,
-            Err(failed) => return Err(failed),
+            Err(failed) => {
+                self.notes.note(&[FAILED_BELOW, 0], &[]);
+                return Err(failed);
+            }
         };
         if count == 0 {
+            self.notes.note(&[GAVE_NONE, 0], &[]);
             return Ok(0);
         }
         match self.archive.append(&buf[..count]) {

@@ -1,5 +1,5 @@
 use Rattle.disk_doors.proofs.Passing.{rests_none}
-use Rattle.feed_archive.proofs.Begun.{keeps_rests, keeps_synced, refuses_rests, refuses_synced, begun_closed, begun}
+use Rattle.feed_archive.proofs.Begun.{keeps_rests, keeps_synced, refuses_rests, refuses_synced, begun_closed, begun, fresh_plain, fresh_place}
 use Rattle.feed_archive.proofs.archive.Archive.begin.Goals as goal
 
 pub returns-in_default-clause-refused : goal.returns-in_default-clause-refused
@@ -24,3 +24,9 @@ returns-clause-ok g c = λ t. let a = c.in-Ok-scan.ensures.told t in begun _ _ _
 
 pub returns-clause-closed : goal.returns-clause-closed
 returns-clause-closed g c = λ t. let a = c.in-Ok-scan.ensures.told t in begun_closed _ _ _ _ (c.in-Ok-scan.ensures.rests t) (c.in-Ok-sync.ensures.told t) _ _ a.1
+
+pub returns-in-Err-clause-fresh : goal.returns-in-Err-clause-fresh
+returns-in-Err-clause-fresh g c = λ t is. fresh_plain (g.D.Disk.shows c.args.disk) _ is (c.in-Err.ensures.told t)
+
+pub returns-clause-fresh : goal.returns-clause-fresh
+returns-clause-fresh g c = λ t is. let a = c.in-Ok-scan.ensures.told t in fresh_place (g.D.Disk.shows c.args.disk) _ _ is a.1
