@@ -4,6 +4,7 @@ pub mod Causes
 pub mod Drawing
 pub mod Taking
 pub mod Coming
+pub mod Below
 pub mod CheckCounts
 pub mod Replaying
 pub mod Concluding

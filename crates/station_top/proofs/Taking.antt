@@ -1,8 +1,6 @@
 -- A connection that is taken to its end, read by read.
-use Rattle.std.proofs.Common.{◌≡◌, ◌≢◌, ℕ, zero, suc, ◌+◌, ◌<◌, ◌≤◌, length, take, List, [], ◌∷◌, ◌++◌, Option, Some, None, Bool, Result, Ok, Err, refl, ap, sym, ◌∙◌, subst, append_assoc, append-nil, length-append, length-take, arith, if◌then◌else◌}
-use Rattle.std.proofs.Math.Dec.{eqb-suc-zero}
-use borrow.Author.Count.{below_more}
-use Rattle.std.specs.Prelude.{IsTrue, IfSome, Contains, OnErr}
+use Rattle.std.proofs.Common.{◌≡◌, ◌≢◌, ℕ, ◌+◌, ◌<◌, ◌≤◌, length, take, List, [], ◌∷◌, ◌++◌, Option, Some, None, Result, Ok, Err, refl, ap, sym, ◌∙◌, subst, append_assoc, append-nil, length-append, length-take, arith}
+use Rattle.std.specs.Prelude.{IsTrue, IfSome, OnErr}
 use Rattle.std.specs.Io.KnownBytes.{Consumes, Keeps}
 use Rattle.bmp_specs.specs.declared.causes.Cause.{Cause}
 use Rattle.bmp_specs.specs.declared.causes.Cause.TheVariants.{ReadFault, Full}
@@ -11,13 +9,15 @@ use Rattle.bmp_specs.specs.Meaning.{Meaning, WalksBy}
 use Rattle.bmp_specs.specs.Values.{EntryValue, opened}
 use Rattle.bmp_specs.specs.Walk.{Verdict}
 use Rattle.wire_io.specs.declared.sink.Failed.{Failed}
-use Rattle.wire_io.specs.Aside.{Aside, Given, Plan}
+use Rattle.wire_io.specs.Aside.{Aside, Given}
 use Rattle.wire_io.specs.Faults.{Rose}
-use Rattle.station_doors.specs.Doors.{Reads, AsPlanned, GivesBytes, given_more, read_of}
+use Rattle.station_doors.specs.Doors.{Reads, AsPlanned, Went, GivesBytes, given_more, read_of, went_so}
+use Rattle.station_doors.specs.Planned.{AllGave, Gives}
+use Rattle.station_doors.proofs.Planned.{read_some, gives_none, gives_then, last_gave, last_none, last_failed, all_before, all_last}
 use Rattle.bmp_message.specs.Effects.{GivesMessages}
 use Rattle.bmp_message.specs.StreamWalk.{WalkValue, HasReached, rest_of, verdict_with}
 use Rattle.station_top.specs.Account.{HasNoted, HasDrawn, IsDrained, IsEnded}
-use Rattle.station_top.specs.Take.{GivesMore, IsNew, Takes, TakesBytes, Gives, ReadsAsPlanned, cause_at_end}
+use Rattle.station_top.specs.Take.{GivesMore, IsNew, Takes, TakesBytes, ReadsOn, cause_at_end}
 use Rattle.station_top.specs.declared.take.Taken.{Taken}
 use Rattle.station_top.proofs.Causes.{come_end, come_fault, come_full, come_early, come_early_here, not_early, undecided}
 use Rattle.station_top.proofs.Fronts.{read_no_further}
@@ -66,11 +66,6 @@ pub record Goes (first now : Aside) (calls0 calls : ℕ) (taken : ℕ) : Type 0 
   pub open_faults : now.open_faults ≡ first.open_faults
   pub read_faults : now.read_faults ≡ first.read_faults
 
--- no read was made
-pub gives_none : (plan : Option Plan) (calls : ℕ) → calls ≡ 0 → IfSome plan (λ p. Gives p calls [])
-gives_none None calls e = tt
-gives_none (Some p) calls e = record { most = omega (arith, e); fewest = omega arith; calm = λ k below fails. absurd (omega (arith, e, below)) }
-
 pub goes_none : (a : Aside) (calls : ℕ) → IsNew a → Goes a a calls calls 0
 goes_none a calls n = record { bytes = []; plan = refl; coming = refl; rest = consumes_none a.rest; given = n.fresh; opened = refl; closed = refl; is_open = n.is_open; refused = refl; taken_is = n.none; count = refl; planned = gives_none a.plan calls; open_faults = refl; read_faults = refl }
 
@@ -82,35 +77,26 @@ given_failed : (a b c : Option (List Given)) (s buf : List ℕ) (e : Failed) →
 given_failed None b c s buf e p q = subst (λ (o : Option (List Given)). GivesBytes o c (Err e) buf) p q
 given_failed (Some gs) b c s buf e p q = subst (λ (o : Option (List Given)). GivesBytes o c (Err e) buf) p q ∙ ap (λ (l : List Given). Some l) (given_more_twice gs s [] gave failed)
 
-read_some : (n : ℕ) → n ≢ 0 → read_of n ≡ gave
-read_some zero h = absurd (h refl)
-read_some (suc n) h = ap (λ (b : Bool). if b then gave_none else gave) (eqb-suc-zero n)
+-- reads were made since, where that is kept, and each gave bytes
+abbrev pub GaveOn : Option (List LastRead) → Option (List LastRead) → Type 0
+GaveOn None now = now ≡ None
+GaveOn (Some old) now = (went : List LastRead) × AllGave went × (now ≡ Some (went ++ old))
 
--- a read gave bytes
-gives_then : (plan0 plan : Option Plan) (c d m : ℕ) (bytes buf : List ℕ) → plan ≡ plan0 → IfSome plan0 (λ x. Gives x c bytes) → AsPlanned plan c d (Ok m) → m ≢ 0 → m ≤ length buf → m ≤ most_read → length bytes ≤ most_taken → IfSome plan0 (λ x. Gives x d (bytes ++ take m buf))
-gives_then None plan c d m bytes buf e h p some within size room = tt
-gives_then (Some x) plan c d m bytes buf e h p some within size room =
-    let q = subst (λ (o : Option Plan). AsPlanned o c d (Ok m)) e p in
-    let next : d ≡ c + 1 = omega (arith, q.0, h.most, room) in
-    let long : length (bytes ++ take m buf) ≡ length bytes + m = omega (arith, length-append bytes (take m buf), length-take m buf, within) in
-    record {
-      most = omega (arith, next, long, h.most, some);
-      fewest = omega (arith, next, long, h.fewest, size);
-      calm = subst (λ (i : ℕ). (k : ℕ) → k < i → Contains x.fails k → ⊥) (sym next) (below_more (λ (k : ℕ). Contains x.fails k → ⊥) c h.calm q.1);
-    }
+pub gave_on_none : (w : Option (List LastRead)) → GaveOn w w
+gave_on_none None = refl
+gave_on_none (Some old) = ([], tt, refl)
 
--- the last read gave bytes, it gave none, or it failed
-last_gave : (plan : Option Plan) (c : ℕ) (bytes : List ℕ) → IfSome plan (λ x. Gives x c bytes) → IfSome plan (λ x. ReadsAsPlanned x bytes gave)
-last_gave None c bytes h = tt
-last_gave (Some x) c bytes h = (c, h, tt)
+pub gave_on_more : (w0 w after : Option (List LastRead)) (m : ℕ) → GaveOn w0 w → Went w after (Ok m) → m ≢ 0 → GaveOn w0 after
+gave_on_more None w after m g on some = subst (λ (o : Option (List LastRead)). Went o after (Ok m)) g on
+gave_on_more (Some old) w after m g on some = (gave ∷ g.0, g.1, subst (λ (o : Option (List LastRead)). Went o after (Ok m)) g.2 on ∙ ap (λ (l : LastRead). Some (l ∷ (g.0 ++ old))) (read_some m some))
 
-last_none : (plan0 plan : Option Plan) (c d : ℕ) (bytes : List ℕ) → plan ≡ plan0 → IfSome plan0 (λ x. Gives x c bytes) → AsPlanned plan c d (Ok 0) → IfSome plan0 (λ x. ReadsAsPlanned x bytes gave_none)
-last_none None plan c d bytes e h p = tt
-last_none (Some x) plan c d bytes e h p = let q = subst (λ (o : Option Plan). AsPlanned o c d (Ok 0)) e p in (c, h, q.1)
+reads_on : (w0 w : Option (List LastRead)) → GaveOn w0 w → ReadsOn w0 w gave
+reads_on None w g = g
+reads_on (Some old) w g = (g.0, all_before g.0 g.1, all_last g.0 g.1, g.2)
 
-last_failed : (plan0 plan : Option Plan) (c d : ℕ) (bytes : List ℕ) (fault : Failed) → plan ≡ plan0 → IfSome plan0 (λ x. Gives x c bytes) → AsPlanned plan c d (Err fault) → IfSome plan0 (λ x. ReadsAsPlanned x bytes failed)
-last_failed None plan c d bytes fault e h p = tt
-last_failed (Some x) plan c d bytes fault e h p = let q = subst (λ (o : Option Plan). AsPlanned o c d (Err fault)) e p in (c, h, q.1)
+reads_last : (w0 w after : Option (List LastRead)) (r : Result ℕ Failed) → GaveOn w0 w → Went w after r → ReadsOn w0 after (went_so r)
+reads_last None w after r g on = subst (λ (o : Option (List LastRead)). Went o after r) g on
+reads_last (Some old) w after r g on = (went_so r ∷ g.0, g.1, refl, subst (λ (o : Option (List LastRead)). Went o after r) g.2 on)
 
 -- a read gave bytes
 pub goes_more : (a0 a b : Aside) (calls0 c d n m : ℕ) (buf : List ℕ) → Goes a0 a calls0 c n → Reads a b (Ok m) buf → AsPlanned a.plan c d (Ok m) → m ≢ 0 → m ≤ length buf → n + m ≤ most_taken → m ≤ most_read → Goes a0 b calls0 d (n + m)
@@ -160,8 +146,8 @@ waits meaning bytes messages offset rest w = subst (λ (l : List ℕ). IsReadNoF
 
 module _ (R : Type 0) (meaning : Meaning) (state : R → meaning.State) (gives : GivesMessages meaning) (Stands : List EntryValue → Type 0) (a0 a : Aside) (calls0 c n : ℕ) (walk : WalkValue R) (revision : ℕ) (t : Taking meaning state Stands a0 a calls0 c n walk revision) where
   -- a read gave none
-  pub takes_end : (b : Aside) (d' : ℕ) (buf : List ℕ) (taken : Taken) → Reads a b (Ok 0) buf → AsPlanned a.plan c d' (Ok 0) → 0 < length buf → n < most_taken → taken ≡ record { cause = cause_at_end (rest_of walk) walk.offset; revision = revision } → Takes meaning Stands a0 b calls0 taken
-  takes_end b d' buf taken r p some room is =
+  pub takes_end : (w0 w after : Option (List LastRead)) (b : Aside) (d' : ℕ) (buf : List ℕ) (taken : Taken) → GaveOn w0 w → Went w after (Ok 0) → Reads a b (Ok 0) buf → AsPlanned a.plan c d' (Ok 0) → 0 < length buf → n < most_taken → taken ≡ record { cause = cause_at_end (rest_of walk) walk.offset; revision = revision; bytes = n } → Takes meaning Stands a0 b w0 after calls0 taken
+  takes_end w0 w after b d' buf taken on went r p some room is =
       let g = t.goes in
       let d = t.drained in
       let same : g.bytes ++ take 0 buf ≡ g.bytes = append-nil g.bytes in
@@ -183,16 +169,18 @@ module _ (R : Type 0) (meaning : Meaning) (state : R → meaning.State) (gives :
           planned = λ none. last_none a0.plan a.plan c d' g.bytes g.plan (g.planned none) p;
           open_faults = r.calm ∙ g.open_faults;
           read_faults = r.cause.fine ∙ g.read_faults;
+          went = reads_last w0 w after (Ok 0) on went;
         };
         come = come_end meaning g.bytes d.messages walk.offset (rest_of walk) (omega (arith, g.count, room)) d.walks;
         noted = d.noted.noted;
         count = exact meaning gives Stands g.bytes d.messages walk.offset revision (verdict_with (rest_of walk)) (omega (arith, g.count, room)) d.walks d.noted;
+        size = sym g.count;
         early = λ e. absurd (not_early (rest_of walk) walk.offset e);
       })
 
   -- a read failed
-  pub takes_fault : (b : Aside) (d' : ℕ) (buf : List ℕ) (e : Failed) (taken : Taken) → Reads a b (Err e) buf → AsPlanned a.plan c d' (Err e) → n < most_taken → taken ≡ record { cause = ReadFault n; revision = revision } → Takes meaning Stands a0 b calls0 taken
-  takes_fault b d' buf e taken r p room is =
+  pub takes_fault : (w0 w after : Option (List LastRead)) (b : Aside) (d' : ℕ) (buf : List ℕ) (e : Failed) (taken : Taken) → GaveOn w0 w → Went w after (Err e) → Reads a b (Err e) buf → AsPlanned a.plan c d' (Err e) → n < most_taken → taken ≡ record { cause = ReadFault n; revision = revision; bytes = n } → Takes meaning Stands a0 b w0 after calls0 taken
+  takes_fault w0 w after b d' buf e taken on went r p room is =
       let g = t.goes in
       let d = t.drained in
       let same : g.bytes ++ [] ≡ g.bytes = append-nil g.bytes in
@@ -214,16 +202,18 @@ module _ (R : Type 0) (meaning : Meaning) (state : R → meaning.State) (gives :
           planned = λ none. last_failed a0.plan a.plan c d' g.bytes e g.plan (g.planned none) p;
           open_faults = r.calm ∙ g.open_faults;
           read_faults = subst (λ (k : ℕ). Rose k b.read_faults) g.read_faults r.cause.failed;
+          went = reads_last w0 w after (Err e) on went;
         };
         come = come_fault meaning g.bytes d.messages walk.offset (rest_of walk) (omega (arith, g.count, room)) d.walks;
         noted = d.noted.noted;
         count = exact meaning gives Stands g.bytes d.messages walk.offset revision (verdict_with (rest_of walk)) (omega (arith, g.count, room)) d.walks d.noted;
+        size = refl;
         early = λ e. absurd e;
       })
 
   -- the limit of one connection was reached
-  pub takes_full : (taken : Taken) → n ≡ most_taken → taken ≡ record { cause = Full; revision = revision } → Takes meaning Stands a0 a calls0 taken
-  takes_full taken full is =
+  pub takes_full : (w0 w : Option (List LastRead)) (taken : Taken) → GaveOn w0 w → n ≡ most_taken → taken ≡ record { cause = Full; revision = revision; bytes = n } → Takes meaning Stands a0 a w0 w calls0 taken
+  takes_full w0 w taken on full is =
       let g = t.goes in
       let d = t.drained in
       rw is (record {
@@ -244,10 +234,12 @@ module _ (R : Type 0) (meaning : Meaning) (state : R → meaning.State) (gives :
           planned = λ none. last_gave a0.plan c g.bytes (g.planned none);
           open_faults = g.open_faults;
           read_faults = g.read_faults;
+          went = reads_on w0 w on;
         };
         come = come_full meaning g.bytes d.messages walk.offset (rest_of walk) (g.count ∙ full) d.walks;
         noted = d.noted.noted;
         count = exact meaning gives Stands g.bytes d.messages walk.offset revision (verdict_with (rest_of walk)) (omega (arith, g.count, full)) d.walks d.noted;
+        size = sym g.count;
         early = λ e. absurd e;
       })
 
@@ -262,10 +254,10 @@ module _ (R : Type 0) (meaning : Meaning) (state : R → meaning.State) (gives :
   taking_more Next b d' m buf new now r p some within room size drained = record { goes = goes_more a0 a b calls0 c d' n m buf t.goes r p some within room size; drained = drained }
 
   -- the walk ended in the bytes of a read
-  pub takes_early : (Next : List EntryValue → Type 0) (b : Aside) (d' m : ℕ) (buf : List ℕ) (cause : Cause) (now : ℕ) (taken : Taken) → Reads a b (Ok m) buf → AsPlanned a.plan c d' (Ok m) → m ≢ 0 → m ≤ length buf → n + m ≤ most_taken → m ≤ most_read
-      → IsEnded meaning Next (t.goes.bytes ++ take m buf) now cause → taken ≡ record { cause = cause; revision = now } → Takes meaning Next a0 b calls0 taken
+  pub takes_early : (w0 w after : Option (List LastRead)) (Next : List EntryValue → Type 0) (b : Aside) (d' m : ℕ) (buf : List ℕ) (cause : Cause) (now : ℕ) (taken : Taken) → GaveOn w0 w → Went w after (Ok m) → Reads a b (Ok m) buf → AsPlanned a.plan c d' (Ok m) → m ≢ 0 → m ≤ length buf → n + m ≤ most_taken → m ≤ most_read
+      → IsEnded meaning Next (t.goes.bytes ++ take m buf) now cause → taken ≡ record { cause = cause; revision = now; bytes = n + m } → Takes meaning Next a0 b w0 after calls0 taken
   unfolding goes_more
-  takes_early Next b d' m buf cause now taken r p some within room size ended is =
+  takes_early w0 w after Next b d' m buf cause now taken on went r p some within room size ended is =
       let g = goes_more a0 a b calls0 c d' n m buf t.goes r p some within room size in
       let long : length g.bytes ≤ most_taken = omega (arith, g.count, room) in
       let come = come_early_here meaning g.bytes ended.messages cause gave ended.ends long in
@@ -287,17 +279,19 @@ module _ (R : Type 0) (meaning : Meaning) (state : R → meaning.State) (gives :
           planned = λ none. last_gave a0.plan d' g.bytes (g.planned none);
           open_faults = g.open_faults;
           read_faults = g.read_faults;
+          went = reads_on w0 after (gave_on_more w0 w after m on went some);
         };
         come = come;
         noted = ended.noted.noted;
         count = exact meaning gives Next g.bytes ended.messages come.offset now come.verdict long come.walk ended.noted;
+        size = sym g.count;
         early = λ _. come_early meaning g.bytes ended.messages cause ended.ends;
       })
 
   -- want of memory came behind a read that gave bytes
-  pub breaks : (b : Aside) (d' m : ℕ) (buf : List ℕ) → Reads a b (Ok m) buf → AsPlanned a.plan c d' (Ok m) → m ≢ 0 → m ≤ length buf → n + m ≤ most_taken → m ≤ most_read → (bytes : List ℕ) × TakesBytes meaning a0 b calls0 bytes gave
+  pub breaks : (w0 w after : Option (List LastRead)) (b : Aside) (d' m : ℕ) (buf : List ℕ) → GaveOn w0 w → Went w after (Ok m) → Reads a b (Ok m) buf → AsPlanned a.plan c d' (Ok m) → m ≢ 0 → m ≤ length buf → n + m ≤ most_taken → m ≤ most_read → (bytes : List ℕ) × TakesBytes meaning a0 b w0 after calls0 bytes gave
   unfolding goes_more
-  breaks b d' m buf r p some within room size =
+  breaks w0 w after b d' m buf on went r p some within room size =
       let g = goes_more a0 a b calls0 c d' n m buf t.goes r p some within room size in (
         g.bytes,
         record {
@@ -314,5 +308,6 @@ module _ (R : Type 0) (meaning : Meaning) (state : R → meaning.State) (gives :
           planned = λ none. last_gave a0.plan d' g.bytes (g.planned none);
           open_faults = g.open_faults;
           read_faults = g.read_faults;
+          went = reads_on w0 after (gave_on_more w0 w after m on went some);
         },
       )

@@ -5,7 +5,7 @@ ghost use Rattle.wire_io.specs.Aside.{Plan};
 ghost use Rattle.station_doors.specs.Doors.{untouched};
 ghost use Rattle.bmp_message.specs.StreamWalk.{rest_of, fed_of};
 ghost use Rattle.station_top.specs.Account.{HasDrawn, Draws};
-ghost use Rattle.station_top.specs.Take.{IsNew, Takes, TakesBytes, TakesInput, BreaksOff, cause_at_end};
+ghost use Rattle.station_top.specs.Take.{IsNew, Takes, TakesBytes, TakesInput, BreaksOff, LeavesInput, WentOn, cause_at_end};
 
 use crate::account::Account;
 use bmp_message::{BodyReading, Progress, StreamWalk};
@@ -20,15 +20,16 @@ pub const MOST_TAKEN: u64 = 0x4000_0000_0000;
 /// The most bytes that one read gives.
 pub const MOST_READ: u64 = 65536;
 
-// How the input was taken: why it ended, and how many entries were noted, its opening among them.
+// How the input was taken: why it ended, how many entries were noted, its opening among them, and how many bytes were taken.
 #[derive(Clone, Copy, Debug, PartialEq, Eq)]
 pub struct Taken {
     pub cause: Cause,
     pub revision: u64,
+    pub bytes: u64,
 }
 
 // Takes the one input connection of a port into an account, read by `R`, and closes it. Where there is none it is an empty
-// one. The account takes its opening and its messages. After want of memory the port shows what it gave until then: a front of
+// one. The account takes its opening and its messages. Out of memory the port shows what it gave until then: a front of
 // its first connection, or nothing.
 pub fn take_input<P: Port, A: Account + Drop, R: BodyReading + Drop>(
     alloc: Global,
@@ -36,6 +37,10 @@ pub fn take_input<P: Port, A: Account + Drop, R: BodyReading + Drop>(
 ) -> Result<(A, Taken), NoMemory>
     ensures takes { IfOk result (λ r. TakesInput R.meaning (A.stands r.0) (P.aside port.old) (P.aside port.new) (P.calls port.old) r.1) }
     ensures breaks { OnErr result ((plan : Plan) → P.aside port.old ≡ untouched plan → P.calls port.old ≡ 0 → BreaksOff R.meaning plan (P.aside port.new)) }
+    ensures leaves { OnErr result (LeavesInput R.meaning (P.aside port.old) (P.aside port.new)) }
+    ensures went { WentOn (P.aside port.old) (P.aside port.new) (P.went port.old) (P.went port.new) }
+    ensures plan { (P.aside port.new).plan ≡ (P.aside port.old).plan }
+    ensures stays { P.stays port.new ≡ P.stays port.old }
 {
     let mut account = A::begin(alloc)?;
     match port.next_connection() {
@@ -54,13 +59,17 @@ pub fn take_input<P: Port, A: Account + Drop, R: BodyReading + Drop>(
 
 // Of a connection of which nothing was taken.
 fn untaken(cause: Cause) -> Taken
-    ensures { result ≡ record { cause = cause; revision = 1 } }
+    ensures { result ≡ record { cause = cause; revision = 1; bytes = 0 } }
 {
-    Taken { cause, revision: 1 }
+    Taken {
+        cause,
+        revision: 1,
+        bytes: 0,
+    }
 }
 
-// Takes the present connection to its end, to the end of its walk, or to the limit of one connection. After want of
-// memory no read had failed or told the end.
+// Takes the present connection to its end, to the end of its walk, or to the limit of one connection. Out of memory no
+// read had failed or told the end.
 fn take_bytes<P: Port, A: Account, R: BodyReading + Drop>(
     alloc: Global,
     port: &mut P,
@@ -68,8 +77,9 @@ fn take_bytes<P: Port, A: Account, R: BodyReading + Drop>(
 ) -> Result<Taken, NoMemory>
     requires new { IsNew (P.aside port.old) }
     requires opened { A.stands account.old (opened ∷ []) }
-    ensures takes { IfOk result (Takes R.meaning (A.stands account.new) (P.aside port.old) (P.aside port.new) (P.calls port.old)) }
-    ensures breaks { OnErr result ((bytes : List ℕ) × TakesBytes R.meaning (P.aside port.old) (P.aside port.new) (P.calls port.old) bytes gave) }
+    ensures takes { IfOk result (Takes R.meaning (A.stands account.new) (P.aside port.old) (P.aside port.new) (P.went port.old) (P.went port.new) (P.calls port.old)) }
+    ensures breaks { OnErr result ((bytes : List ℕ) × TakesBytes R.meaning (P.aside port.old) (P.aside port.new) (P.went port.old) (P.went port.new) (P.calls port.old) bytes gave) }
+    ensures stays { P.stays port.new ≡ P.stays port.old }
     ensures is_open { IsTrue (P.aside port.new).is_open }
 {
     let mut walk: StreamWalk<R> = StreamWalk::new(alloc);
@@ -82,23 +92,30 @@ fn take_bytes<P: Port, A: Account, R: BodyReading + Drop>(
             Ok(0) => return Ok(Taken {
                 cause: at_end(&walk),
                 revision,
+                bytes: taken,
             }),
             Ok(count) => {
                 walk.feed(&buf[..count])?;
                 taken += count as u64;
                 if let Some(cause) = drain(&mut walk, account, &mut revision)? {
-                    return Ok(Taken { cause, revision });
+                    return Ok(Taken {
+                        cause,
+                        revision,
+                        bytes: taken,
+                    });
                 }
             }
             Err(_) => return Ok(Taken {
                 cause: Cause::ReadFault { offset: taken },
                 revision,
+                bytes: taken,
             }),
         }
     }
     Ok(Taken {
         cause: Cause::Full,
         revision,
+        bytes: taken,
     })
 }
 
