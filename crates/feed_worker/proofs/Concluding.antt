@@ -1,9 +1,9 @@
 -- A connection that was taken is closed.
-use Rattle.std.proofs.Common.{◌≡◌, inr, ℕ, ◌+◌, ◌*◌, ◌<◌, ◌≤◌, ◌^◌, List, [], ◌∷◌, ◌++◌, length, Result, Ok, Err, Some, None, Option, refl, sym, ap, subst, append-nil, append_assoc, arith, length-append}
+use Rattle.std.proofs.Common.{◌≡◌, inr, ◌+◌, ◌<◌, ◌≤◌, ◌^◌, List, [], ◌∷◌, ◌++◌, length, Result, Ok, Err, Some, None, Option, refl, sym, subst, append-nil, arith}
 use Rattle.std.specs.Prelude.{MatchResult}
 use Rattle.bmp_specs.specs.declared.causes.Cause.{Cause}
 use Rattle.bmp_specs.specs.Meaning.{Meaning}
-use Rattle.bmp_specs.specs.Values.{EntryValue, opened, closed}
+use Rattle.bmp_specs.specs.Values.{opened, closed}
 use Rattle.cut_publisher.specs.History.{Fed}
 use Rattle.rib_model.specs.declared.entry.Entry.{Entry}
 use Rattle.station_doors.specs.Doors.{Closes, GivesNext, Opens}

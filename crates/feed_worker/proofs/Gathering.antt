@@ -1,5 +1,5 @@
 -- The messages of a walk, gathered one after another, and published.
-use Rattle.std.proofs.Common.{◌≡◌, ℕ, ◌+◌, ◌*◌, ◌^◌, ◌≤◌, List, [], ◌∷◌, ◌++◌, length, Option, Some, None, refl, sym, ap, ◌∙◌, subst, append-nil, append_assoc, arith, length-append}
+use Rattle.std.proofs.Common.{◌≡◌, ℕ, ◌+◌, ◌*◌, ◌^◌, ◌≤◌, List, [], ◌∷◌, ◌++◌, length, Option, Some, None, sym, ap, ◌∙◌, subst, append_assoc, arith, length-append}
 use Rattle.std.proofs.lemmas.List.{map-append, length-map}
 use Rattle.bmp_specs.specs.declared.causes.Why.{Why}
 use Rattle.bmp_specs.specs.declared.causes.Cause.{Cause}
@@ -14,7 +14,7 @@ use Rattle.cut_publisher.specs.History.{Fed}
 use Rattle.rib_model.specs.declared.entry.Entry.{Entry}
 use Rattle.rib_model.specs.Entries.{entry_value, entry_values}
 use Rattle.feed_worker.specs.Publishing.{Grows}
-use Rattle.feed_worker.specs.Walking.{EndsBy, Gives, HasGiven, HasPublished, HasRoom, Publishes}
+use Rattle.feed_worker.specs.Walking.{EndsBy, Gives, HasPublished, Publishes}
 use Rattle.feed_worker.proofs.Lengths.{few_messages}
 use Rattle.feed_worker.proofs.Growing.{grows_then, grows_count}
 

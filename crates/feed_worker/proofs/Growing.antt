@@ -1,8 +1,8 @@
 -- What a pass publishes, one publication after another.
-use Rattle.std.proofs.Common.{◌≡◌, ◌+◌, List, [], ◌∷◌, ◌++◌, length, refl, sym, ap, ◌∙◌, subst, append-nil, append_assoc, arith, length-append}
+use Rattle.std.proofs.Common.{◌≡◌, ◌+◌, List, [], ◌++◌, length, refl, sym, ap, ◌∙◌, subst, append-nil, append_assoc, arith, length-append}
 use Rattle.std.proofs.lemmas.List.{map-append, length-map}
 use Rattle.bmp_specs.specs.Values.{EntryValue}
-use Rattle.cut_publisher.specs.History.{Begins, Fed, Saw}
+use Rattle.cut_publisher.specs.History.{Fed, Saw}
 use Rattle.cut_publisher.specs.Publication.{Published}
 use Rattle.cut_publisher.proofs.Prefixes.{begins_self, begins_trans}
 use Rattle.rib_model.specs.declared.entry.Entry.{Entry}

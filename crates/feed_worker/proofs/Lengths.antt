@@ -1,5 +1,5 @@
 -- How many messages a walk has: each has a common header of six bytes at least (RFC 7854, section 4.1).
-use Rattle.std.proofs.Common.{◌≡◌, ℕ, ◌+◌, ◌*◌, ◌≤◌, Bool, true, false, List, [], ◌∷◌, ◌++◌, length, eqb, ap, ◌∙◌, subst, append-nil, arith, length-append}
+use Rattle.std.proofs.Common.{◌≡◌, ℕ, ◌+◌, ◌*◌, ◌≤◌, Bool, true, false, List, [], ◌∷◌, length, eqb, ap, ◌∙◌, arith, length-append}
 use Rattle.std.specs.Prelude.{MatchBool}
 use Rattle.bmp_specs.specs.Meaning.{Meaning, WalksBy}
 use Rattle.bmp_specs.specs.Values.{EntryValue}

@@ -8,13 +8,12 @@ use Rattle.std.proofs.lemmas.Bool.Decides.{nat_tests}
 use Rattle.bmp_specs.specs.Life.{IsLife}
 use Rattle.bmp_specs.specs.Meaning.{Meaning}
 use Rattle.bmp_specs.specs.Values.{EntryValue}
-use Rattle.cut_publisher.specs.History.{Fed}
 use Rattle.rib_model.specs.declared.entry.Entry.{Entry}
 use Rattle.rib_model.specs.Entries.{entry_values}
 use Rattle.station_doors.specs.Doors.{OpensNext, untouched}
 use Rattle.wire_io.specs.Aside.{Aside, Plan}
 use Rattle.wire_io.specs.declared.sink.Failed.{Failed}
-use Rattle.feed_worker.specs.Feed.{Connection, IsRefusal, Refuses, Serves, ServesAll, Visits, lives_of, opened_one}
+use Rattle.feed_worker.specs.Feed.{Connection, IsRefusal, Refuses, Serves, Visits, lives_of, opened_one}
 use Rattle.feed_worker.specs.Planned.{AreWholeLives, IsWholeLife, PublishesPlan}
 use Rattle.feed_worker.proofs.Growing.{grows_values}
 use Rattle.feed_worker.proofs.Serving.{few_rounds_fit}

@@ -12,7 +12,7 @@ use Rattle.wire_io.specs.Faults.{Rose}
 use Rattle.station_doors.specs.Doors.{Reads, AsPlanned, GivesBytes, given_more, read_of}
 use Rattle.station_doors.proofs.Sessions.{given_more_last}
 use Rattle.feed_worker.specs.Connection.{EndsFresh, IsNew, GivesMore, TakesBytes}
-use Rattle.feed_worker.specs.LanePort.{IsPublished, IsPublishedWhereTold, present_of}
+use Rattle.feed_worker.specs.FeedPort.{IsPublished, IsPublishedWhereTold, present_of}
 
 consumes_then : (a b c : Option (List ℕ)) (s t : List ℕ) → Consumes a b s → Consumes b c t → Consumes a c (s ++ t)
 consumes_then None b c s t p q = tt

@@ -1,10 +1,10 @@
 -- A connection that is taken to its end and published, read by read.
-use Rattle.std.proofs.Common.{◌≡◌, ◌≢◌, inl, inr, ℕ, ◌+◌, ◌<◌, ◌≤◌, ◌^◌, length, take, List, [], ◌∷◌, ◌++◌, Option, Some, None, Ok, Err, refl, ap, sym, ◌∙◌, subst, append-nil, length-append, length-take, arith}
+use Rattle.std.proofs.Common.{◌≡◌, ◌≢◌, inl, inr, ℕ, ◌+◌, ◌<◌, ◌≤◌, ◌^◌, length, take, List, [], ◌∷◌, ◌++◌, Some, None, Ok, Err, refl, sym, ◌∙◌, subst, append-nil, length-take, arith}
 use Rattle.bmp_specs.specs.declared.causes.Cause.{Cause}
 use Rattle.bmp_specs.specs.declared.causes.Cause.TheVariants.{ReadFault, Full}
 use Rattle.bmp_specs.specs.Life.{gave, gave_none, failed, most_taken, most_read, IsReadNoFurther}
 use Rattle.bmp_specs.specs.Meaning.{Meaning}
-use Rattle.bmp_specs.specs.Values.{EntryValue, opened}
+use Rattle.bmp_specs.specs.Values.{opened}
 use Rattle.bmp_specs.specs.Walk.{whole}
 use Rattle.bmp_message.specs.StreamWalk.{WalkValue, HasReached, rest_of, verdict_with}
 use Rattle.cut_publisher.specs.History.{Fed}
@@ -15,7 +15,7 @@ use Rattle.station_doors.specs.Doors.{Reads, AsPlanned}
 use Rattle.wire_io.specs.declared.sink.Failed.{Failed}
 use Rattle.wire_io.specs.Aside.{Aside}
 use Rattle.feed_worker.specs.Connection.{IsNew, TakesConnection, BreaksConnection, cause_at_end}
-use Rattle.feed_worker.specs.LanePort.{IsPublished, IsPublishedWhereTold}
+use Rattle.feed_worker.specs.FeedPort.{IsPublishedWhereTold}
 use Rattle.feed_worker.specs.Publishing.{Grows}
 use Rattle.feed_worker.specs.Walking.{HasPublished, HasRoom, Publishes}
 use Rattle.feed_worker.proofs.Causes.{come_end, come_fault, come_full, come_early, undecided}

@@ -1,5 +1,5 @@
 -- The connections of a lane, one after another.
-use Rattle.std.specs.Prelude.{◌≡◌, ◌⊎◌, ℕ, ◌+◌, ◌<◌, ◌≤◌, ◌^◌, Bool, List, [], ◌∷◌, ◌++◌, length, map, MatchBool, nat_lt, Option, Some, IfSome, OnErr, Result, Ok, Err, true, false}
+use Rattle.std.specs.Prelude.{◌≡◌, ◌⊎◌, ℕ, ◌+◌, ◌<◌, ◌≤◌, ◌^◌, Bool, List, [], ◌∷◌, ◌++◌, length, map, MatchBool, nat_lt, Some, IfSome, OnErr, Result, Ok, Err, true, false}
 use Rattle.bmp_specs.specs.Life.{IsLife}
 use Rattle.bmp_specs.specs.Meaning.{Meaning}
 use Rattle.bmp_specs.specs.Values.{EntryValue}

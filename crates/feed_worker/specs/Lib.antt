@@ -1,5 +1,5 @@
 pub mod Publishing
-pub mod LanePort
+pub mod FeedPort
 pub mod Connection
 pub mod Walking
 pub mod Feed

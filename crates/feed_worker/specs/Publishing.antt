@@ -1,7 +1,7 @@
 -- What a lane publishes.
 use Rattle.std.specs.Prelude.{◌≡◌, List, ◌++◌}
 use Rattle.bmp_specs.specs.Values.{EntryValue}
-use Rattle.cut_publisher.specs.History.{Begins, Fed, IsUnmarked, part}
+use Rattle.cut_publisher.specs.History.{Begins, Fed, IsUnmarked}
 use Rattle.rib_model.specs.declared.entry.Entry.{Entry}
 use Rattle.rib_model.specs.Entries.{entry_values}
 

@@ -6,14 +6,13 @@ ghost use Rattle.station_doors.specs.Doors.{Closes};
 ghost use Rattle.feed_worker.specs.Connection.{IsNew, TakesConnection, BreaksConnection, cause_at_end};
 ghost use Rattle.feed_worker.specs.Publishing.{Grows};
 
-use crate::lane_port::LanePort;
+use crate::feed_port::FeedPort;
 use crate::publishing::{publish_entries, publish_piece};
 use bmp_message::{BodyReading, StreamWalk};
 use bmp_specs::Cause;
 use cut_publisher::{FeedPass, Naming, Publisher};
 use rib_model::Entry;
 use router_tables::RouterTables;
-use station_doors::Port;
 use std::alloc::Global;
 use std::sync::Wait;
 use wire_io::NoMemory;
@@ -26,7 +25,7 @@ const MOST_READ: u64 = 65536;
 
 /// Takes the present connection of the port, of which no byte was given, to its end, and tells why it ended. The pass
 /// publishes its opening, and then its messages as `B` reads them, those of one read in one step. The closing is left
-/// to `close_connection`.
+/// to `close_connection`. The port gives no bytes while a message of the earlier ones is unpublished.
 ///
 /// | Cause | Exactly where |
 /// |---|---|
@@ -40,12 +39,12 @@ const MOST_READ: u64 = 65536;
 /// Where several fit, it is the first. A connection that ends for one of the first two reasons is read no further than
 /// the read that brought it. After want of memory the connection is still open, and the pass published the opening and
 /// the messages of all reads but the last, or of all; or nothing, and then nothing was read.
-pub fn take_connection<B: BodyReading + Drop, P: Port + Drop, J: Naming, R: Wait>(
+pub fn take_connection<B: BodyReading + Drop, J: Naming, P: FeedPort<B, J>, R: Wait>(
     rt: &R,
     alloc: Global,
     publisher: &Publisher<RouterTables, J>,
     pass: &mut FeedPass<RouterTables>,
-    port: &mut LanePort<P>,
+    port: &mut P,
 ) -> Result<Cause, NoMemory>
     requires station { pass.old.station ≡ J.site }
     requires room { length pass.old.entries + 2 ^ 44 ≤ 2 ^ 57 }
@@ -58,7 +57,7 @@ pub fn take_connection<B: BodyReading + Drop, P: Port + Drop, J: Naming, R: Wait
     let mut taken = 0;
     while taken < MOST_TAKEN {
         let size = MOST_READ.min(MOST_TAKEN - taken) as usize;
-        match port.read::<B>(pass, &mut buf[..size]) {
+        match port.read(pass, &mut buf[..size]) {
             Ok(0) => return Ok(cause_of_end(&walk)),
             Ok(count) => {
                 taken += count as u64;
@@ -88,12 +87,12 @@ fn cause_of_end<B: BodyReading>(walk: &StreamWalk<B>) -> Cause
 
 /// Closes the present connection, and publishes that it closed and why. After want of memory it is closed, and the pass
 /// is as before.
-pub fn close_connection<P: Port + Drop, J: Naming, R: Wait>(
+pub fn close_connection<B: BodyReading, J: Naming, P: FeedPort<B, J>, R: Wait>(
     rt: &R,
     alloc: Global,
     publisher: &Publisher<RouterTables, J>,
     pass: &mut FeedPass<RouterTables>,
-    port: &mut LanePort<P>,
+    port: &mut P,
     cause: Cause,
 ) -> Result<(), NoMemory>
     requires station { pass.old.station ≡ J.site }

@@ -5,11 +5,10 @@ ghost use Rattle.feed_worker.specs.Connection.{IsNew};
 ghost use Rattle.feed_worker.specs.Feed.{Concludes, IsBegunOf, IsLifeOf, Refuses, ServesFeed, opened_one};
 
 use crate::connection::{close_connection, take_connection};
-use crate::lane_port::LanePort;
+use crate::feed_port::FeedPort;
 use bmp_message::BodyReading;
 use cut_publisher::{FeedPass, Naming, Publisher};
 use router_tables::RouterTables;
-use station_doors::Port;
 use std::alloc::Global;
 use std::sync::Wait;
 use wire_io::NoMemory;
@@ -28,7 +27,7 @@ pub enum LaneEnd {
 }
 
 /// Whether the next connection was opened. There may be none, or opening it may fail.
-fn opens<P: Port + Drop>(port: &mut LanePort<P>) -> bool
+fn opens<B: BodyReading, J: Naming, P: FeedPort<B, J>>(port: &mut P) -> bool
     ensures opens { IsTrue result → Opens (P.aside port.old) (P.aside port.new) opened_one }
     ensures refuses { result ≡ false → Refuses (P.aside port.old) (P.aside port.new) }
 {
@@ -39,20 +38,20 @@ fn opens<P: Port + Drop>(port: &mut LanePort<P>) -> bool
 }
 
 /// Takes the present connection, of which nothing was read yet, and closes it.
-fn serve_connection<B: BodyReading + Drop, P: Port + Drop, J: Naming, R: Wait>(
+fn serve_connection<B: BodyReading + Drop, J: Naming, P: FeedPort<B, J>, R: Wait>(
     rt: &R,
     alloc: Global,
     publisher: &Publisher<RouterTables, J>,
     pass: &mut FeedPass<RouterTables>,
-    port: &mut LanePort<P>,
+    port: &mut P,
 ) -> Result<(), NoMemory>
     requires station { pass.old.station ≡ J.site }
     requires room { length pass.old.entries + 2 ^ 44 ≤ 2 ^ 57 }
     requires new { IsNew (P.aside port.old) }
     ensures { MatchResult result (λ _. Concludes B.meaning (IsLifeOf B.meaning) (P.aside port.old) (P.aside port.new) pass.old pass.new) (λ _. Concludes B.meaning (IsBegunOf B.meaning) (P.aside port.old) (P.aside port.new) pass.old pass.new) }
 {
-    match take_connection::<B, P, J, R>(rt, alloc, publisher, pass, port) {
-        Ok(cause) => close_connection(rt, alloc, publisher, pass, port, cause),
+    match take_connection::<B, J, P, R>(rt, alloc, publisher, pass, port) {
+        Ok(cause) => close_connection::<B, J, P, R>(rt, alloc, publisher, pass, port, cause),
         Err(fault) => {
             port.close();
             Err(fault)
@@ -66,12 +65,12 @@ fn serve_connection<B: BodyReading + Drop, P: Port + Drop, J: Naming, R: Wait>(
 /// don't come to. After want of memory the pass published the opening of the last connection and the messages of all its
 /// reads but the last, or of all; or nothing of it, and then nothing was read. It is closed too, and no further one is
 /// opened.
-pub fn serve_feed<B: BodyReading + Drop, P: Port + Drop, J: Naming, R: Wait>(
+pub fn serve_feed<B: BodyReading + Drop, J: Naming, P: FeedPort<B, J>, R: Wait>(
     rt: &R,
     alloc: Global,
     publisher: &Publisher<RouterTables, J>,
     pass: &mut FeedPass<RouterTables>,
-    port: &mut LanePort<P>,
+    port: &mut P,
     rounds: u32,
 ) -> LaneEnd
     requires { pass.old.station ≡ J.site }
@@ -82,10 +81,10 @@ pub fn serve_feed<B: BodyReading + Drop, P: Port + Drop, J: Naming, R: Wait>(
         if pass.count() > MOST_ENTRIES {
             return LaneEnd::Over;
         }
-        if !opens(port) {
+        if !opens::<B, J, P>(port) {
             return LaneEnd::Over;
         }
-        match serve_connection::<B, P, J, R>(rt, alloc, publisher, pass, port) {
+        match serve_connection::<B, J, P, R>(rt, alloc, publisher, pass, port) {
             Ok(()) => {}
             Err(_) => return LaneEnd::NoMemory,
         }

@@ -7,18 +7,21 @@
 //!
 //! Proved: `take_connection` publishes the opening and exactly the messages of the bytes that it took, in order, and
 //! answers the cause of the connection's end; `close_connection` publishes that cause; `serve_feed` publishes the
-//! lives of all connections that it opened. A `LanePort` gives bytes only where the messages of all earlier ones are
-//! published. After want of memory the last connection's life was published up to its last read at least.
-//! Begin with `specs/Connection.antt`, `specs/Feed.antt` and `specs/LanePort.antt`, then `src/connection.rt`.
+//! lives of all connections that it opened. All three are written over any `FeedPort`, which gives bytes only where the
+//! messages of all earlier ones are published; `LanePort` makes one of any port. After want of memory the last
+//! connection's life was published up to its last read at least.
+//! Begin with `specs/Connection.antt`, `specs/Feed.antt` and `specs/FeedPort.antt`, then `src/connection.rt`.
 #![tactic(auto)]
 
 mod connection;
 mod feed;
+mod feed_port;
 mod lane_port;
 mod laws;
 mod publishing;
 
 pub use connection::{close_connection, take_connection};
 pub use feed::{LaneEnd, serve_feed};
+pub use feed_port::FeedPort;
 pub use lane_port::LanePort;
 pub use laws::{few_rounds_fit, lanes_publish_plans, ports_tell_connections};

@@ -5,13 +5,14 @@ ghost use Rattle.wire_io.specs.Faults.{HasCause};
 ghost use Rattle.station_run.specs.Handed.{AllComeBack, FailsAt, Lends, LendsButRefuses, LinksComeBack, PortsComeBack, Refuses, call_after, link_shows, numbered, numbered_links};
 
 use crate::room::place;
+use feed_worker::LanePort;
 use station_doors::{Link, Listening, Port, Yard};
 use wire_io::Failed;
 
-/// Ports and links that a yard handed out, in order of number.
+/// Ports and links that a yard handed out, in order of number. The ports are those of lanes.
 #[derive(Drop)]
 pub struct Doors<P: Port + Drop, K: Link + Drop> {
-    pub ports: Vec<P>,
+    pub ports: Vec<LanePort<P>>,
     pub links: Vec<K>,
 }
 
@@ -19,7 +20,7 @@ pub struct Doors<P: Port + Drop, K: Link + Drop> {
 fn ask_all<Y: Yard>(
     at: &Listening,
     yard: &mut Y,
-    ports: &mut Vec<Y::Port>,
+    ports: &mut Vec<LanePort<Y::Port>>,
     links: &mut Vec<Y::Link>,
 ) -> Result<(), Failed>
     requires ports { (ports.old.items ≡ []) × (at.now.feeds ≤ vec_capacity ports.old) }
@@ -43,7 +44,7 @@ fn ask_all<Y: Yard>(
         let Ok(port) = yard.port(lane) else {
             return Err(Failed);
         };
-        place(ports, port);
+        place(ports, LanePort::new(port));
     }
     for number in 0..at.askers {
         let Ok(link) = yard.link(number) else {
@@ -55,7 +56,7 @@ fn ask_all<Y: Yard>(
 }
 
 // Gives the ports back.
-fn give_ports<Y: Yard>(yard: &mut Y, mut ports: Vec<Y::Port>)
+fn give_ports<Y: Yard>(yard: &mut Y, mut ports: Vec<LanePort<Y::Port>>)
     requires few { length ports.items ≤ 64 }
     ensures told { PortsComeBack (Y.told yard.old) (Y.told yard.new) (numbered Y.Port.aside 0 ports.items) 0 }
     ensures calls { Y.calls yard.new ≡ Y.calls yard.old }
@@ -67,7 +68,7 @@ fn give_ports<Y: Yard>(yard: &mut Y, mut ports: Vec<Y::Port>)
     ports.reverse();
     let mut lane = 0;
     while let Some(port) = ports.pop() {
-        yard.take_port(lane, port);
+        yard.take_port(lane, port.into_port());
         lane += 1;
     }
 }

@@ -36,7 +36,7 @@ pub enum DrillTask {
     Ask(AskWork<SureLink>),
 }
 
-impl Work<RouterTables> for DrillTask {
+impl<J: Naming + Send + Sync> Work<RouterTables, J> for DrillTask {
     ghost use Rattle.station_run.specs.Drill.{drill_station, MayDrill, HasDrilled};
 
     ghost station = { drill_station };
@@ -45,7 +45,7 @@ impl Work<RouterTables> for DrillTask {
 
     ghost done = { HasDrilled };
 
-    fn work<J: Naming + Send + Sync, R: Threads + Wait + Sync>(
+    fn work<R: Threads + Wait + Sync>(
         &mut self,
         rt: &R,
         alloc: Global,
@@ -67,9 +67,9 @@ fn open_port(alloc: Global, stream: ByteList) -> Result<LanePort<SurePort>, NoMe
     ensures rest { IfOk result (λ port. port.shows.rest ≡ Some stream) }
     ensures plan { IfOk result (λ port. port.shows.plan ≡ Some (record { connections = stream ∷ []; fails = [] })) }
 {
-    let mut port = LanePort::new(SurePort::new(alloc, &[stream], PIECE)?);
+    let mut port = SurePort::new(alloc, &[stream], PIECE)?;
     match port.next_connection() {
-        Ok(true) => Ok(port),
+        Ok(true) => Ok(LanePort::new(port)),
         Ok(false) | Err(_) => unreachable!(),
     }
 }
@@ -90,7 +90,7 @@ fn take_stream<J: Naming, R: Wait>(
     ensures whole { OnOk result (IsTakenWhole stream (entry_values pass.new.entries)) }
 {
     let mut port = open_port(alloc, stream)?;
-    take_connection::<Reading, SurePort, J, R>(rt, alloc, publisher, pass, &mut port)?;
+    take_connection::<Reading, J, LanePort<SurePort>, R>(rt, alloc, publisher, pass, &mut port)?;
     Ok(())
 }
 

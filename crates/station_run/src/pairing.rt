@@ -8,13 +8,13 @@ use crate::room::place;
 use crate::tasks::{AskWork, LaneWork, Task};
 use bmp_message::BodyReading;
 use cut_publisher::{AskList, AskPass, FeedList, FeedPass};
-use feed_worker::{LaneEnd, LanePort};
+use feed_worker::LaneEnd;
 use router_tables::RouterTables;
-use station_doors::{Link, Port};
+use station_doors::Link;
 use std::marker::PhantomData;
 
 // The works of the askers, the last one first.
-fn pair_asks<B: BodyReading + Drop, P: Port + Drop, K: Link + Drop>(
+fn pair_asks<B: BodyReading + Drop, P: Drop, K: Link + Drop>(
     asks: &mut AskList<RouterTables>,
     doors: &mut Vec<K>,
     rounds: u32,
@@ -45,7 +45,7 @@ fn pair_asks<B: BodyReading + Drop, P: Port + Drop, K: Link + Drop>(
 }
 
 // The works of the lanes, the last one first, behind those of the askers.
-fn pair_lanes<B: BodyReading + Drop, P: Port + Drop, K: Link + Drop>(
+fn pair_lanes<B: BodyReading + Drop, P: Drop, K: Link + Drop>(
     feeds: &mut FeedList<RouterTables>,
     doors: &mut Vec<P>,
     rounds: u32,
@@ -65,7 +65,7 @@ fn pair_lanes<B: BodyReading + Drop, P: Port + Drop, K: Link + Drop>(
         };
         let work = LaneWork {
             pass,
-            port: LanePort::new(port),
+            port,
             rounds,
             end: LaneEnd::Over,
             reads: PhantomData,
@@ -76,7 +76,7 @@ fn pair_lanes<B: BodyReading + Drop, P: Port + Drop, K: Link + Drop>(
 
 /// The works of the lanes and of the askers, in order: each has the pass and the port or link of its number. The lists that
 /// they come from are empty then. There is room for them.
-pub fn pair<B: BodyReading + Drop, P: Port + Drop, K: Link + Drop>(
+pub fn pair<B: BodyReading + Drop, P: Drop, K: Link + Drop>(
     feeds: &mut FeedList<RouterTables>,
     asks: &mut AskList<RouterTables>,
     doors: &mut Vec<P>,
@@ -126,7 +126,7 @@ pub(crate) fn keep_ask(
 
 /// Takes the works apart: all ports and links come back into the lists, which have room for them. False where there is no
 /// memory for the lists of the passes.
-pub fn part<B: BodyReading + Drop, P: Port + Drop, K: Link + Drop>(
+pub fn part<B: BodyReading + Drop, P: Drop, K: Link + Drop>(
     mut tasks: Vec<Task<B, P, K>>,
     doors: &mut Vec<P>,
     ask_doors: &mut Vec<K>,
@@ -152,7 +152,7 @@ pub fn part<B: BodyReading + Drop, P: Port + Drop, K: Link + Drop>(
                     end: _,
                     reads: _,
                 } = work;
-                place(doors, port.into_port());
+                place(doors, port);
                 kept = keep_feed(feeds, pass, kept);
             }
             Task::Ask(work) => {
@@ -171,7 +171,7 @@ pub fn part<B: BodyReading + Drop, P: Port + Drop, K: Link + Drop>(
 }
 
 /// What a station answers that did these works: whether one of its lanes ended for want of memory.
-pub fn outcome_after<B: BodyReading + Drop, P: Port + Drop, K: Link + Drop>(
+pub fn outcome_after<B: BodyReading + Drop, P: Drop, K: Link + Drop>(
     tasks: &[Task<B, P, K>],
 ) -> Outcome
     ensures { result ≡ outcome_of (ends (lanes_of tasks.now)) }
@@ -184,7 +184,7 @@ pub fn outcome_after<B: BodyReading + Drop, P: Port + Drop, K: Link + Drop>(
 }
 
 // The outcome after one more work.
-fn after<B: BodyReading + Drop, P: Port + Drop, K: Link + Drop>(
+fn after<B: BodyReading + Drop, P: Drop, K: Link + Drop>(
     task: &Task<B, P, K>,
     outcome: Outcome,
 ) -> Outcome

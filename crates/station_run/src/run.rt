@@ -15,6 +15,7 @@ use crate::serving::serve_doors;
 use crate::tasks::Task;
 use bmp_message::BodyReading;
 use cut_publisher::{Naming, Station, Unfinished, finish, name, open_station};
+use feed_worker::LanePort;
 use itoa::Buffer;
 use router_tables::RouterTables;
 use station_doors::{Link, Listening, Port, Yard};
@@ -28,7 +29,7 @@ use wire_io::{Failed, Sink, write_all, write_pieces};
 #[derive(Drop)]
 struct Room<B: BodyReading + Drop, P: Port + Drop, K: Link + Drop> {
     doors: Doors<P, K>,
-    tasks: Vec<Task<B, P, K>>,
+    tasks: Vec<Task<B, LanePort<P>, K>>,
 }
 
 // Room for the ports, the links and the works.

@@ -15,8 +15,9 @@ use crate::tasks::Task;
 use crate::works::run_all;
 use bmp_message::BodyReading;
 use cut_publisher::{AskList, FeedList, Naming, Publisher};
+use feed_worker::FeedPort;
 use router_tables::RouterTables;
-use station_doors::{Link, Port};
+use station_doors::Link;
 use std::alloc::Global;
 use std::sync::Wait;
 use std::thread::Threads;
@@ -24,9 +25,9 @@ use std::thread::Threads;
 // Does all works.
 fn do_all<
     B: BodyReading + Drop + Send,
-    P: Port + Drop + Send,
-    K: Link + Drop + Send,
     J: Naming + Send + Sync,
+    P: FeedPort<B, J> + Drop + Send,
+    K: Link + Drop + Send,
     R: Threads + Wait + Sync,
 >(rt: &R, alloc: Global, publisher: &Publisher<RouterTables, J>, tasks: &mut Vec<Task<B, P, K>>)
     requires { AreReady station_of (λ _. Unit {0}) J.site tasks.old.items }
@@ -39,9 +40,9 @@ fn do_all<
 /// links and the passes come back; false where there is no memory for the lists of the passes.
 pub fn serve_doors<
     B: BodyReading + Drop + Send,
-    P: Port + Drop + Send,
-    K: Link + Drop + Send,
     J: Naming + Send + Sync,
+    P: FeedPort<B, J> + Drop + Send,
+    K: Link + Drop + Send,
     R: Threads + Wait + Sync,
 >(
     rt: &R,

@@ -1,13 +1,14 @@
 //! The works of lanes and askers.
 ghost use Rattle.std.specs.Prelude.{◌≡◌};
+ghost use Rattle.station_run.specs.Tasks.{LaneIsDone};
 
 use crate::works::Work;
 use ask_session::serve_session;
 use bmp_message::BodyReading;
 use cut_publisher::{AskPass, FeedPass, Naming, NoMemory, Publisher};
-use feed_worker::{LaneEnd, LanePort, serve_feed};
+use feed_worker::{FeedPort, LaneEnd, serve_feed};
 use router_tables::RouterTables;
-use station_doors::{Link, Port};
+use station_doors::Link;
 use std::alloc::Global;
 use std::marker::PhantomData;
 use std::sync::Wait;
@@ -16,9 +17,9 @@ use std::thread::Threads;
 /// The work of a lane: its pass, its port, how many connections it serves at most, and how its work ended. `B` reads the
 /// bodies of the messages.
 #[derive(Drop)]
-pub struct LaneWork<B: BodyReading + Drop, P: Port + Drop> {
+pub struct LaneWork<B: BodyReading + Drop, P: Drop> {
     pub pass: FeedPass<RouterTables>,
-    pub port: LanePort<P>,
+    pub port: P,
     pub rounds: u32,
     pub end: LaneEnd,
     pub reads: PhantomData<B>,
@@ -35,12 +36,15 @@ pub struct AskWork<K: Link + Drop> {
 
 /// The work of a lane or of an asker, so that both are done side by side.
 #[derive(Drop)]
-pub enum Task<B: BodyReading + Drop, P: Port + Drop, K: Link + Drop> {
+pub enum Task<B: BodyReading + Drop, P: Drop, K: Link + Drop> {
     Lane(LaneWork<B, P>),
     Ask(AskWork<K>),
 }
 
-impl<B: BodyReading + Drop, P: Port + Drop, K: Link + Drop> Work<RouterTables> for Task<B, P, K> {
+impl<B: BodyReading + Drop, J: Naming + Send + Sync, P: FeedPort<B, J> + Drop, K: Link + Drop> Work<
+    RouterTables,
+    J,
+> for Task<B, P, K> {
     ghost use Rattle.station_run.specs.Tasks.{station_of, IsDone};
 
     ghost station = { station_of };
@@ -49,14 +53,14 @@ impl<B: BodyReading + Drop, P: Port + Drop, K: Link + Drop> Work<RouterTables> f
 
     ghost done = { IsDone B.meaning P.aside K.aside K.told K.faults };
 
-    fn work<J: Naming + Send + Sync, R: Threads + Wait + Sync>(
+    fn work<R: Threads + Wait + Sync>(
         &mut self,
         rt: &R,
         alloc: Global,
         publisher: &Publisher<RouterTables, J>,
     ) -> Result<(), NoMemory> {
         match self {
-            Task::Lane(work) => work.serve(rt, alloc, publisher),
+            Task::Lane(work) => serve_lane::<B, J, P, R>(rt, alloc, publisher, work),
             Task::Ask(work) => {
                 work.serve();
                 Ok(())
@@ -65,31 +69,27 @@ impl<B: BodyReading + Drop, P: Port + Drop, K: Link + Drop> Work<RouterTables> f
     }
 }
 
-impl<B: BodyReading + Drop, P: Port + Drop> LaneWork<B, P> {
-    ghost use Rattle.station_run.specs.Tasks.{LaneIsDone};
-
-    // Serves the connections of the lane.
-    fn serve<J: Naming, R: Wait>(
-        &mut self,
-        rt: &R,
-        alloc: Global,
-        publisher: &Publisher<RouterTables, J>,
-    ) -> Result<(), NoMemory>
-        requires { self.old.pass.station ≡ J.site }
-        ensures { LaneIsDone B.meaning P.aside self.old self.new }
-    {
-        self.end = serve_feed::<B, P, J, R>(
-            rt,
-            alloc,
-            publisher,
-            &mut self.pass,
-            &mut self.port,
-            self.rounds,
-        );
-        match self.end {
-            LaneEnd::Over => Ok(()),
-            LaneEnd::NoMemory => Err(NoMemory),
-        }
+// Serves the connections of a lane.
+fn serve_lane<B: BodyReading + Drop, J: Naming, P: FeedPort<B, J> + Drop, R: Wait>(
+    rt: &R,
+    alloc: Global,
+    publisher: &Publisher<RouterTables, J>,
+    work: &mut LaneWork<B, P>,
+) -> Result<(), NoMemory>
+    requires { work.old.pass.station ≡ J.site }
+    ensures { LaneIsDone B.meaning P.aside work.old work.new }
+{
+    work.end = serve_feed::<B, J, P, R>(
+        rt,
+        alloc,
+        publisher,
+        &mut work.pass,
+        &mut work.port,
+        work.rounds,
+    );
+    match work.end {
+        LaneEnd::Over => Ok(()),
+        LaneEnd::NoMemory => Err(NoMemory),
     }
 }
 

@@ -8,8 +8,8 @@ use std::alloc::Global;
 use std::sync::Wait;
 use std::thread::{Threads, join_mut};
 
-/// The whole work of one lane or of one asker.
-pub trait Work<S: Subject + Drop> {
+/// The whole work of one lane or of one asker, by the publisher that `J` names.
+pub trait Work<S: Subject + Drop, J: Naming + Send + Sync> {
     ghost use Rattle.cut_publisher.specs.History.{Site};
 
     /// The station that it is of.
@@ -22,7 +22,7 @@ pub trait Work<S: Subject + Drop> {
     ghost done: { Self → Self → Type 0 };
 
     /// Does it. What it is afterwards, `done` says after either answer.
-    fn work<J: Naming + Send + Sync, R: Threads + Wait + Sync>(
+    fn work<R: Threads + Wait + Sync>(
         &mut self,
         rt: &R,
         alloc: Global,
@@ -39,7 +39,7 @@ pub trait Work<S: Subject + Drop> {
 pub fn run_all<
     S: Subject + Drop + Send + Sync,
     J: Naming + Send + Sync,
-    W: Work<S> + Send,
+    W: Work<S, J> + Send,
     R: Threads + Wait + Sync,
 >(rt: &R, alloc: Global, publisher: &Publisher<S, J>, works: &mut [W]) -> Result<(), NoMemory>
 where
@@ -63,7 +63,7 @@ where
 fn run_both<
     S: Subject + Drop + Send + Sync,
     J: Naming + Send + Sync,
-    W: Work<S> + Send,
+    W: Work<S, J> + Send,
     R: Threads + Wait + Sync,
 >(
     rt: &R,

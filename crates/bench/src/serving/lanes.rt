@@ -108,7 +108,7 @@ fn take<'a, J: Naming, R: Wait + Clock>(
         drop(port);
         return None;
     }
-    let end = serve_feed::<Reading, Watch<'a, R>, J, R>(
+    let end = serve_feed::<Reading, J, LanePort<Watch<'a, R>>, R>(
         rt, alloc, publisher, &mut pass, &mut port, 1,
     );
     if end == LaneEnd::NoMemory {

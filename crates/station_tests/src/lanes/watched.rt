@@ -172,7 +172,7 @@ fn served<J: Naming, R: Wait>(
         return None;
     };
     let mut port = LanePort::new(watch);
-    let end = serve_feed::<Reading, Watch, J, R>(
+    let end = serve_feed::<Reading, J, LanePort<Watch>, R>(
         rt, alloc, publisher, &mut pass, &mut port, rounds,
     );
     port.into_port().seen(end, &pass)

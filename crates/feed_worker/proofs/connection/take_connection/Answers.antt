@@ -6,13 +6,13 @@ use Rattle.feed_worker.proofs.connection.take_connection.Goals as goal
 
 pub returns-in_err-publish_entries : goal.returns-in_err-publish_entries
 returns-in_err-publish_entries g c =
-    let none : BreaksConnection g.B.BodyReading.meaning (g.P.Port.aside c.args.port.now) (g.P.Port.aside c.args.port.now) c.args.pass.now c.publish_entries.new.pass =
-    breaks_none g.B.BodyReading.meaning (g.P.Port.aside c.args.port.now) c.args.pass.now c.publish_entries.new.pass c.requires.new c.in_err-publish_entries.ensures in
+    let none : BreaksConnection g.B.BodyReading.meaning (g.P.FeedPort.aside c.args.port.now) (g.P.FeedPort.aside c.args.port.now) c.args.pass.now c.publish_entries.new.pass =
+    breaks_none g.B.BodyReading.meaning (g.P.FeedPort.aside c.args.port.now) c.args.pass.now c.publish_entries.new.pass c.requires.new c.in_err-publish_entries.ensures in
     search rules
 
 pub loop-taken-init : goal.loop-taken-init
 loop-taken-init g c = record {
-  taking = taking_none g.B.BodyReading.meaning g.B.BodyReading.state (g.P.Port.aside c.args.port.now) c.args.pass.now c.publish_entries.new.pass c.new-walk.result c.requires.new c.in_ok-publish_entries.ensures c.new-walk.ensures.run c.new-walk.ensures.start;
+  taking = taking_none g.B.BodyReading.meaning g.B.BodyReading.state (g.P.FeedPort.aside c.args.port.now) c.args.pass.now c.publish_entries.new.pass c.new-walk.result c.requires.new c.in_ok-publish_entries.ensures c.new-walk.ensures.run c.new-walk.ensures.start;
   within = omega arith;
   room = refl;
 }
@@ -44,7 +44,7 @@ returns-in_err-cause-in-Ok g c =
     let within : m ≤ length buf = omega (arith, c.in-Ok.ensures.bound.0) in
     let size : m ≤ 65536 = omega (arith, within, length-take c.min-size.result l.buf) in
     let room : l.taken + m ≤ 70368744177664 = omega (arith, within, length-take c.min-size.result l.buf) in
-    let begun : BreaksConnection g.B.BodyReading.meaning (g.P.Port.aside c.args.port.now) (g.P.Port.aside c.read.new.self) c.args.pass.now c.publish_piece.new.pass =
+    let begun : BreaksConnection g.B.BodyReading.meaning (g.P.FeedPort.aside c.args.port.now) (g.P.FeedPort.aside c.read.new.self) c.args.pass.now c.publish_piece.new.pass =
     breaks g.B.BodyReading.meaning g.B.BodyReading.state _ _ _ _ l.taken l.walk l.invariant.taking _ m buf c.in-Ok.ensures.reads c.in-Ok.count-test.1 within size room c.publish_piece.new.pass c.in_err-cause-in-Ok.ensures in
     search rules
 

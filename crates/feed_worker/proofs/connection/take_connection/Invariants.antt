@@ -4,7 +4,7 @@ use Rattle.feed_worker.proofs.connection.take_connection.Given as goal
 
 abbrev pub invariant-loop-taken : goal.invariant-loop-taken
 invariant-loop-taken g l = record {
-  taking : Taking g.B.BodyReading.meaning g.B.BodyReading.state (g.P.Port.aside l.initial.port) (g.P.Port.aside l.port) l.fn.pass l.pass l.taken l.walk;
+  taking : Taking g.B.BodyReading.meaning g.B.BodyReading.state (g.P.FeedPort.aside l.initial.port) (g.P.FeedPort.aside l.port) l.fn.pass l.pass l.taken l.walk;
   within : l.taken ≤ 70368744177664;
   room : length l.buf ≡ 65536;
 }

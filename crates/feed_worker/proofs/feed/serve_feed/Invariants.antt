@@ -4,7 +4,7 @@ use Rattle.feed_worker.proofs.feed.serve_feed.Given as goal
 
 abbrev pub invariant-loop-served : goal.invariant-loop-served
 invariant-loop-served g l = record {
-  serves : ServesSoMany g.B.BodyReading.meaning (g.P.Port.aside l.fn.port) (g.P.Port.aside l.port) l.fn.pass l.pass l.served;
+  serves : ServesSoMany g.B.BodyReading.meaning (g.P.FeedPort.aside l.fn.port) (g.P.FeedPort.aside l.port) l.fn.pass l.pass l.served;
   most : l.served ≤ l.rounds;
 }
 

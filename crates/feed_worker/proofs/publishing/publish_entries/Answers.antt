@@ -1,5 +1,4 @@
-use Rattle.std.proofs.Common.{◌≡◌, ◌++◌, List, sym, subst}
-use Rattle.std.specs.Arc.{arc_value}
+use Rattle.std.proofs.Common.{◌++◌, List, sym, subst}
 use Rattle.std.proofs.lemmas.List.{map-append}
 use Rattle.bmp_specs.specs.Values.{EntryValue}
 use Rattle.rib_model.specs.Entries.{entry_value, entry_values}

@@ -51,11 +51,12 @@ loop-lane-preserved g c =
     let calls = g.Y.Yard.calls c.args.yard.now in
     let more : (1 + l.lane) + 1 ≡ 1 + (l.lane + 1) = omega arith in
     let asked = subst (λ (n : ℕ). HandsOut g.Y.Port.Port.aside g.Y.Port.Port.calls l.lane n (g.Y.Yard.told l.yard) (g.Y.Yard.told c.port.new.self) (Ok c.in-Ok-port.port)) inv.calls c.in-Ok-port.ensures.told in
+    let placed = c.place.ensures.items ∙ ap (λ (p : g.row.Y-Port.Denot). l.ports.items ++ p ∷ []) c.new.ensures in
     let lends = lends_port g.Y.Port.Port.aside g.Y.Port.Port.calls (g.Y.Yard.told c.args.yard.now) (g.Y.Yard.told l.yard) (g.Y.Yard.told c.port.new.self) calls (1 + l.lane) l.lane l.ports.items c.in-Ok-port.port [] inv.lends (sym inv.ports) asked in
     record {
-      ports = omega (arith, inv.ports, ap (λ (l : List g.row.Y-Port.Denot). length l) c.place.ensures.items, length-append l.ports.items (c.in-Ok-port.port ∷ []));
+      ports = omega (arith, inv.ports, ap (λ (l : List g.row.Y-Port.Denot). length l) placed, length-append l.ports.items (c.in-Ok-port.port ∷ []));
       links = inv.links;
-      lends = subst (λ (k : List g.row.Y-Port.Denot). Lends (g.Y.Yard.told c.args.yard.now) (g.Y.Yard.told c.port.new.self) calls (1 + (l.lane + 1)) (numbered g.Y.Port.Port.aside 0 k) []) (sym c.place.ensures.items)
+      lends = subst (λ (k : List g.row.Y-Port.Denot). Lends (g.Y.Yard.told c.args.yard.now) (g.Y.Yard.told c.port.new.self) calls (1 + (l.lane + 1)) (numbered g.Y.Port.Port.aside 0 k) []) (sym placed)
           (subst (λ (n : ℕ). Lends (g.Y.Yard.told c.args.yard.now) (g.Y.Yard.told c.port.new.self) calls n (numbered g.Y.Port.Port.aside 0 (l.ports.items ++ c.in-Ok-port.port ∷ [])) []) more lends);
       calls = c.in-Ok-port.ensures.calls ∙ ap (λ (n : ℕ). one_more n) inv.calls ∙ call_next calls (1 + l.lane) ∙ ap (λ (n : ℕ). call_after calls n) more;
       faults = c.in-Ok-port.ensures.cause.fine ∙ inv.faults;

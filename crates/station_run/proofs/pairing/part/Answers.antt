@@ -20,9 +20,8 @@ place-requires g c =
 pub loop-task-preserved-in-Lane : goal.loop-task-preserved-in-Lane
 loop-task-preserved-in-Lane g c =
     let last = c.in-Some.ensures.items ∙ ap (λ (t : Task g.row.B.Denot g.row.P.Denot g.row.K.Denot). c.pop.new.self.items ++ t ∷ []) c.in-Lane.is in
-    let placed = c.place.ensures.items ∙ ap (λ (p : g.row.P.Denot). c.loop-task.doors.items ++ p ∷ []) c.into_port.ensures in
     record {
-      parting = part_lane _ _ _ _ _ _ _ _ _ _ _ c.in-Lane.work c.loop-task.invariant.parting last placed c.keep_feed-kept.ensures;
+      parting = part_lane _ _ _ _ _ _ _ _ _ _ _ c.in-Lane.work c.loop-task.invariant.parting last c.place.ensures.items c.keep_feed-kept.ensures;
       room = omega (arith, c.loop-task.invariant.room, c.place.ensures.capacity);
       links_room = c.loop-task.invariant.links_room;
     }

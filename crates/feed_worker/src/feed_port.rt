@@ -1,0 +1,48 @@
+//! What a lane may do with its port.
+ghost use Rattle.std.specs.Prelude.{◌≡◌, ◌<◌, ℕ, [], length, IfSome, OnErr, IsTrue};
+ghost use Rattle.std.specs.Io.{ReadsAtMost};
+ghost use Rattle.rib_model.specs.Entries.{entry_values};
+ghost use Rattle.wire_io.specs.Aside.{Aside};
+ghost use Rattle.station_doors.specs.Doors.{Opens, Reads, Closes, AsPlanned, read_size};
+ghost use Rattle.feed_worker.specs.FeedPort.{IsPublishedWhereTold};
+
+use bmp_message::BodyReading;
+use cut_publisher::{FeedPass, Naming};
+use router_tables::RouterTables;
+use wire_io::Failed;
+
+/// The port of a lane of the station that `J` names. It gives bytes only to a lane that has published, on that station,
+/// all messages of the earlier ones as `B` reads them: nothing whole is unpublished when more is asked for. A lane that
+/// is written over any such port has no other way to the bytes of its connections.
+pub trait FeedPort<B: BodyReading, J: Naming> {
+    /// What it tells: its plan, the connections that it gave, and its counts.
+    ghost aside: { Self → Aside };
+
+    /// How many of its calls were made that its plan numbers.
+    ghost calls: { Self → ℕ };
+
+    /// Opens the next connection, as a `Port` does.
+    fn next_connection(&mut self) -> Result<bool, Failed>
+        ensures opens { Opens (aside self.old) (aside self.new) result }
+        ensures planned { IfSome (aside self.old).plan (λ plan. OnErr result (plan.fails ≡ [] → ⊥)) }
+        ensures calls { calls self.new ≡ calls self.old };
+
+    /// Gives the next bytes of the present connection, as a `Port` does, to the pass of a lane of this station. Where
+    /// its bytes are told, the entries of the pass since its last opening are exactly the messages of the bytes given
+    /// so far.
+    fn read(&mut self, pass: &FeedPass<RouterTables>, buf: &mut [u8]) -> Result<usize, Failed>
+        requires some { 0 < length buf.old }
+        requires size { length buf.old ≡ read_size (aside self.old).taken }
+        requires is_open { IsTrue (aside self.old).is_open }
+        requires station { pass.now.station ≡ J.site }
+        requires published { IsPublishedWhereTold B.meaning (entry_values pass.now.entries) (aside self.old).given }
+        ensures bound { ReadsAtMost result buf.new }
+        ensures reads { Reads (aside self.old) (aside self.new) result buf.new }
+        ensures planned { AsPlanned (aside self.old).plan (calls self.old) (calls self.new) result };
+
+    /// Closes the present connection, as a `Port` does.
+    fn close(&mut self)
+        requires { IsTrue (aside self.old).is_open }
+        ensures closes { Closes (aside self.old) (aside self.new) }
+        ensures calls { calls self.new ≡ calls self.old };
+}
