@@ -1,11 +1,10 @@
 -- The revision that a run ends with, by the plans of its ports.
-use Rattle.std.proofs.Common.{◌≡◌, ℕ, ◌+◌, ◌<◌, ◌≤◌, List, [], ◌∷◌, ◌++◌, length, map, take, get_or, Option, Some, refl, sym, ap, ◌∙◌, subst, suc, zero, arith}
+use Rattle.std.proofs.Common.{◌≡◌, ℕ, ◌+◌, ◌<◌, ◌≤◌, List, [], ◌∷◌, ◌++◌, length, map, take, get_or, Option, refl, sym, ap, ◌∙◌, subst, suc, arith}
 use Rattle.std.specs.List.{AllByRecursion}
 use Rattle.std.proofs.Math.Seq.{take-append_seam}
 use Rattle.std.proofs.lemmas.List.{length-map}
 use Rattle.std.proofs.lemmas.List.Sums.{sum_by-cons}
 use Rattle.bmp_specs.specs.Meaning.{Meaning}
-use Rattle.bmp_specs.specs.Values.{EntryValue}
 use Rattle.cut_publisher.specs.Cuts.{IsLane, total}
 use Rattle.cut_publisher.specs.History.{Asker, Fed, Site, part}
 use Rattle.cut_publisher.specs.Opening.{fresh_feed}
@@ -14,7 +13,6 @@ use Rattle.rib_model.specs.Entries.{entry_value, entry_values}
 use Rattle.router_tables.specs.Tables.{TablesValue}
 use Rattle.wire_io.specs.Aside.{Aside, Plan}
 use Rattle.station_doors.specs.Doors.{Returned, ReturnedLink, YardValue, untouched}
-use Rattle.station_doors.specs.declared.listening.Listening.{Listening}
 use Rattle.feed_worker.specs.Feed.{ServesFeed}
 use Rattle.feed_worker.specs.Planned.{AreWholeLives}
 use Rattle.feed_worker.specs.declared.feed.LaneEnd.{LaneEnd}
@@ -24,13 +22,12 @@ use Rattle.ask_session.specs.Replies.{History}
 use Rattle.station_run.specs.Counting.{CountLives, DoneCountsLives, FailNone}
 use Rattle.station_run.specs.Handed.{ComeBack, HandsOutTold, numbered, numbered_links}
 use Rattle.station_run.specs.Pairing.{outcome_of}
-use Rattle.station_run.specs.Serve.{Ends, YardSeen}
 use Rattle.station_run.specs.Served.{AreLaneRuns, IsLaneRun, LaneRun, StandFor, end_of, first_link_of, first_of, last_link_of, last_of}
 use Rattle.station_run.specs.declared.outcome.Outcome.{Outcome}
 use Rattle.station_run.specs.declared.outcome.Outcome.TheVariants.{Done}
 use Rattle.station_run.proofs.Handing.{length-numbered}
 
-abbrev AllOver : List LaneRun → Type 0
+abbrev pub AllOver : List LaneRun → Type 0
 AllOver runs = AllByRecursion (λ (r : LaneRun). r.end ≡ end.Over) runs
 
 over_more : (r : LaneRun) (rs : List LaneRun) (e : LaneEnd) → r.end ≡ e → (outcome_of (map end_of rs) ≡ Done → AllOver rs) → outcome_of (e ∷ map end_of rs) ≡ Done → AllOver (r ∷ rs)
@@ -38,7 +35,7 @@ over_more r rs end.Over is again done = (is, again done)
 over_more r rs end.NoMemory is again done = absurd (cc done)
 
 -- no lane ran out of memory
-all_over : (rs : List LaneRun) → outcome_of (map end_of rs) ≡ Done → AllOver rs
+pub all_over : (rs : List LaneRun) → outcome_of (map end_of rs) ≡ Done → AllOver rs
 all_over [] done = tt
 all_over (r ∷ rs) done = over_more r rs r.end refl (all_over rs) done
 

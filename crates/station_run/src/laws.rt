@@ -1,5 +1,5 @@
-//! What follows of a whole run, for those who know the plans of its ports.
-ghost use Rattle.station_run.specs.Counting.{DoneCountsLives};
+//! What follows of a whole run: of its ports' counts, and for those who know their plans.
+ghost use Rattle.station_run.specs.Counting.{DoneCountsLives, EndCountsConnections};
 
 use crate::ending::FromEnding;
 use bmp_message::BodyReading;
@@ -11,4 +11,12 @@ pub fn revisions_count_lives<B: BodyReading, Y: Yard>()
 where
     Y::Ending: FromEnding,
     ensures { DoneCountsLives Y.Ending.shows B.meaning }
+{}
+
+/// The revision that a run ends with is the number of entries that its lanes published, whatever the yard tells. Where no
+/// memory was wanting, those of a lane are the lives of some connections, as many as its port counts.
+pub fn revisions_count_connections<B: BodyReading, Y: Yard>()
+where
+    Y::Ending: FromEnding,
+    ensures { EndCountsConnections Y.Ending.shows B.meaning }
 {}

@@ -33,7 +33,7 @@ mod works;
 
 pub use drilling::drill;
 pub use ending::FromEnding;
-pub use laws::revisions_count_lives;
+pub use laws::{revisions_count_connections, revisions_count_lives};
 pub use outcome::Outcome;
 pub use run::serve;
 pub use tasks::{AskWork, LaneWork, Task};
