@@ -7,7 +7,7 @@ use Rattle.std.proofs.lemmas.Bool.Decides.{Decides-like, Decides-and, Decides-eq
 use Rattle.bmp_specs.specs.Containment.{HoldsAddress, ContainsPrefix}
 use Rattle.bmp_specs.specs.Orders.{family_cmp, key_cmp, prefix_cmp}
 use Rattle.bmp_specs.specs.Query.{QueryValue, table, count, exact, longest, within, origin}
-use Rattle.bmp_specs.specs.QueryReply.{AreRowLines}
+use Rattle.bmp_specs.specs.QueryReply.{AreLaneLines, AreRowLines}
 use Rattle.bmp_specs.specs.QueryRows.{AsksRow, HasOrigin, IsLongestMatch}
 use Rattle.bmp_specs.specs.Reply.{told_count}
 use Rattle.bmp_specs.specs.RouteLine.{route_line}
@@ -25,7 +25,7 @@ use Rattle.wire_io.specs.Aside.{Aside}
 use Rattle.query_eval.specs.declared.run.Part.{Part}
 use Rattle.query_eval.specs.declared.run.Part.TheVariants.{Whole, Exact, Within}
 use Rattle.query_eval.specs.Puts.{WritesLines, PutsLines, AreAskedRows, CountsRows}
-use Rattle.query_eval.specs.Rows.{Asking, row_of, lane_rows, lines_of, asks_run, asks_origin, asks_longest, none_longer}
+use Rattle.query_eval.specs.Rows.{Asking, row_of, lane_rows, lines_of, asks_run, asks_origin, asks_longest, none_longer, part_query, part_rows}
 use Rattle.query_eval.specs.RowRuns.{holds, in_part}
 use Rattle.query_eval.specs.RowTables.{PeerTableValue}
 use Rattle.query_eval.proofs.Keeping.{named_decides}
@@ -120,3 +120,10 @@ module _ (query : QueryValue) (lane : ℕ) (value : TablesValue) (rows : List Ro
   counts_rows n is = record {
     counts = λ entries others stands of. is ∙ ap (λ (l : List RowValue). told_count (length l)) (rows_one (AsksRow query lane (session_effects entries)) (session_effects entries) rows others (are entries stands) of);
   }
+
+-- the lines of a part that were written are those that its query asks for
+pub puts_part : {O : Type 0} {faults : O → ℕ} {told : O → Option (List ℕ)} {aside : O → Aside} (part : Part) (select : SelectValue) (lane : ℕ) (value : TablesValue) → IsStrictlySortedBy key_cmp (keys_of value.session.books.peers)
+    → (a b : O) (r : Result ℕ Failed) → WritesLines faults told aside a (lines_of lane (part_rows part select lane value)) r b → PutsLines faults told aside (StandsFor value) (AreLaneLines (part_query part select) lane) a r b
+puts_part Whole select lane value ordered a b r w = puts_rows (table select) lane value (part_rows Whole select lane value) (λ entries stands. are_table select lane value entries stands ordered) a b r w
+puts_part (Exact p) select lane value ordered a b r w = puts_rows (exact p select) lane value (part_rows (Exact p) select lane value) (λ entries stands. are_exact select lane value entries stands ordered p) a b r w
+puts_part (Within p) select lane value ordered a b r w = puts_rows (within p select) lane value (part_rows (Within p) select lane value) (λ entries stands. are_within select lane value entries stands ordered p) a b r w

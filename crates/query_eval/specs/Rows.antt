@@ -5,6 +5,7 @@ use Rattle.bmp_specs.specs.declared.peers.View.{View}
 use Rattle.bmp_specs.specs.declared.wire.Family.{Family}
 use Rattle.std.specs.Prelude.{Option}
 use Rattle.bmp_specs.specs.Orders.{family_cmp}
+use Rattle.bmp_specs.specs.Query.{QueryValue, table, exact, within}
 use Rattle.bmp_specs.specs.RouteLine.{route_line}
 use Rattle.bmp_specs.specs.Rows.{RowValue}
 use Rattle.bmp_specs.specs.Selection.{SelectValue}
@@ -12,6 +13,8 @@ use Rattle.bmp_specs.specs.Values.{AddressValue, AttrsValue, KeyValue, NlriValue
 use Rattle.route_runs.specs.Origins.{attrs_origin, is_number}
 use Rattle.router_tables.specs.Tables.{TablesValue}
 use Rattle.router_tables.specs.Views.{Table}
+use Rattle.query_eval.specs.declared.run.Part.{Part}
+use Rattle.query_eval.specs.declared.run.Part.TheVariants.{Whole, Exact, Within}
 use Rattle.query_eval.specs.declared.run.Run.{Run}
 use Rattle.query_eval.specs.RowRuns.{holds, in_run}
 use Rattle.query_eval.specs.RowTables.{PeerTableValue, lane_tables}
@@ -58,3 +61,12 @@ lines_by line pairs = map (λ e. line e.0 e.1) pairs
 -- the rows of a lane that a query asks for
 abbrev pub lane_rows : Asking → SelectValue → ℕ → TablesValue → List RowValue
 lane_rows asking select lane tables = asked_rows asking (lane_tables select lane tables)
+
+-- the query that asks for a part of the rows that the selectors keep, and these rows
+abbrev pub part_query : Part → SelectValue → QueryValue
+part_query Whole select = table select
+part_query (Exact p) select = exact p select
+part_query (Within p) select = within p select
+
+abbrev pub part_rows : Part → SelectValue → ℕ → TablesValue → List RowValue
+part_rows part select lane tables = lane_rows (asks_run (record { family = select.family; part = part })) select lane tables

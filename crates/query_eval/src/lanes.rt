@@ -9,15 +9,14 @@ ghost use Rattle.query_eval.specs.Replies.{StandsForLane, StandForLanes, TellsBy
 
 use crate::changes::put_changes;
 use crate::count::count_rows;
-use crate::exact::put_exact;
 use crate::longest::put_longest;
 use crate::marks::put_marks;
 use crate::origin::put_origin;
+use crate::parts::put_part;
 use crate::peers::put_peers;
 use crate::routers::put_routers;
+use crate::run::Part;
 use crate::stats::put_stats;
-use crate::table::put_table;
-use crate::within::put_within;
 use cut_publisher::Cut;
 use ip_prefix::Prefix;
 use query_lang::{Query, Select};
@@ -66,10 +65,14 @@ fn put_lane_lines<O: Sink>(
         Query::Cut => put_entries(out, lane, entries),
         Query::Peers { router, peer } => put_peers(out, lane, tables, *router, peer),
         Query::Marks(select) => put_marks(out, lane, tables, select),
-        Query::Table(select) => put_table(out, lane, tables, select),
-        Query::Exact(prefix, select) => put_exact(out, lane, tables, prefix, select),
+        Query::Table(select) => put_part(out, lane, tables, Part::Whole, select),
+        Query::Exact(prefix, select) => {
+            put_part(out, lane, tables, Part::Exact(*prefix), select)
+        }
         Query::Longest(address, select) => put_longest(out, lane, tables, address, select),
-        Query::Within(prefix, select) => put_within(out, lane, tables, prefix, select),
+        Query::Within(prefix, select) => {
+            put_part(out, lane, tables, Part::Within(*prefix), select)
+        }
         Query::Origin(asn, select) => put_origin(out, lane, tables, *asn, select),
         Query::Stats(key) => put_stats(out, lane, tables, key),
         Query::Changes {

@@ -7,11 +7,11 @@ use crate::asks::Asks;
 use crate::front::put_front;
 use crate::run::Run;
 use crate::tables::PeerTable;
-use crate::tells::{AsRoutes, TellsRow};
+use crate::tells::TellsRow;
 use wire_io::{Failed, Sink};
 
 /// Writes the lines of a table's rows that are in a run, and answers how many. It looks at no row but these and the
-/// first behind them.
+/// first after them.
 pub(crate) fn put_run<O: Sink, T: TellsRow>(
     out: &mut O,
     lane: u32,
@@ -26,20 +26,7 @@ pub(crate) fn put_run<O: Sink, T: TellsRow>(
     put_front(out, lane, table, routes.walk(run.begin()), run, tells)
 }
 
-impl Asks for Run {
-    ghost asking = { asks_run };
-
-    fn put_asked<O: Sink>(
-        &self,
-        out: &mut O,
-        lane: u32,
-        table: &PeerTable<'_>,
-    ) -> Result<u64, Failed> {
-        put_run(out, lane, table, self, &AsRoutes)
-    }
-}
-
-/// A run whose rows are told in a way of its own.
+/// The rows of a run, each told in this way.
 #[derive(Drop)]
 pub(crate) struct ToldRun<'a, T> {
     pub(crate) run: Run,

@@ -14,16 +14,16 @@ pub returns-in-Marks : goal.returns-in-Marks
 returns-in-Marks g c = rw c.in-Marks.is (puts_of_tables _ _ _ _ _ c.put_marks.ensures)
 
 pub returns-in-Table : goal.returns-in-Table
-returns-in-Table g c = rw c.in-Table.is (puts_of_tables _ _ _ _ _ c.put_table.ensures)
+returns-in-Table g c = rw c.in-Table.is (puts_of_tables _ _ _ _ _ c.put_part.ensures)
 
 pub returns-in-Exact : goal.returns-in-Exact
-returns-in-Exact g c = rw c.in-Exact.is (puts_of_tables _ _ _ _ _ c.put_exact.ensures)
+returns-in-Exact g c = rw c.in-Exact.is (puts_of_tables _ _ _ _ _ c.put_part-in-Exact.ensures)
 
 pub returns-in-Longest : goal.returns-in-Longest
 returns-in-Longest g c = rw c.in-Longest.is (puts_of_tables _ _ _ _ _ c.put_longest.ensures)
 
 pub returns-in-Within : goal.returns-in-Within
-returns-in-Within g c = rw c.in-Within.is (puts_of_tables _ _ _ _ _ c.put_within.ensures)
+returns-in-Within g c = rw c.in-Within.is (puts_of_tables _ _ _ _ _ c.put_part-in-Within.ensures)
 
 pub returns-in-Origin : goal.returns-in-Origin
 returns-in-Origin g c = rw c.in-Origin.is (puts_of_tables _ _ _ _ _ c.put_origin.ensures)

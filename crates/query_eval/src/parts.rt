@@ -1,4 +1,7 @@
 ghost use Rattle.std.specs.Prelude.{List, map};
+ghost use Rattle.std.specs.List.Sorted.{IsStrictlySortedBy};
+ghost use Rattle.std.specs.Map.{keys_of};
+ghost use Rattle.bmp_specs.specs.Orders.{key_cmp};
 ghost use Rattle.bmp_specs.specs.Query.{within};
 ghost use Rattle.bmp_specs.specs.QueryReply.{AreLaneLines};
 ghost use Rattle.bmp_specs.specs.Rows.{RowValue};
@@ -6,31 +9,48 @@ ghost use Rattle.bmp_specs.specs.Selection.{select_all};
 ghost use Rattle.bmp_specs.specs.Values.{EntryValue};
 ghost use Rattle.router_tables.specs.Tables.{StandsFor};
 ghost use Rattle.query_eval.specs.Puts.{AreAskedRows, PutsLines, WritesLines};
+ghost use Rattle.query_eval.specs.Rows.{part_query, part_rows};
 
 use crate::asks::put_rows;
 use crate::run::{Part, Run};
 use crate::run_rows::ToldRun;
-use crate::tells::TellsRow;
+use crate::tells::{AsRoutes, TellsRow};
 use ip_prefix::Prefix;
 use query_lang::Select;
 use router_tables::RouterTables;
 use wire_io::{Failed, Sink};
 
-/// Writes the lines of `within P` of one lane, and answers how many.
-pub(crate) fn put_within<O: Sink>(
+// Writes the lines of a part of the rows that the selectors keep on one lane, each told in this way, and answers how many.
+fn put_told<O: Sink, T: TellsRow>(
     out: &mut O,
     lane: u32,
     tables: &RouterTables,
-    prefix: &Prefix,
+    part: Part,
     select: &Select,
+    tells: &T,
 ) -> Result<u64, Failed>
-    ensures { PutsLines O.faults O.told O.aside (StandsFor tables.now) (AreLaneLines (within prefix.now select.now) lane) out.old result out.new }
+    ensures writes { WritesLines O.faults O.told O.aside out.old (map (T.line tells.now lane) (part_rows part select.now lane tables.now)) result out.new }
+    ensures ordered { IsStrictlySortedBy key_cmp (keys_of tables.now.session.books.peers) }
 {
     let run = Run {
         family: select.family,
-        part: Part::Within(*prefix),
+        part,
     };
-    put_rows(out, lane, tables, select, &run)
+    put_rows(out, lane, tables, select, &ToldRun { run, tells })
+}
+
+/// Writes the lines of a part of the rows that the selectors keep on one lane, and answers how many: those of `table`, of
+/// `prefix P`, or of `within P`.
+pub(crate) fn put_part<O: Sink>(
+    out: &mut O,
+    lane: u32,
+    tables: &RouterTables,
+    part: Part,
+    select: &Select,
+) -> Result<u64, Failed>
+    ensures { PutsLines O.faults O.told O.aside (StandsFor tables.now) (AreLaneLines (part_query part select.now) lane) out.old result out.new }
+{
+    put_told(out, lane, tables, part, select, &AsRoutes)
 }
 
 /// Writes the lines of the rows that `within P` asks of one lane, each told in this way, and answers how many. Where a write
@@ -44,10 +64,6 @@ pub fn put_told_within<O: Sink, T: TellsRow>(
 ) -> Result<u64, Failed>
     ensures { (entries : List EntryValue) → StandsFor tables.now entries → (rows : List RowValue) × AreAskedRows (within prefix.now select_all) lane entries rows × WritesLines O.faults O.told O.aside out.old (map (T.line tells.now lane) rows) result out.new }
 {
-    let run = Run {
-        family: None,
-        part: Part::Within(*prefix),
-    };
     let select = Select::all();
-    put_rows(out, lane, tables, &select, &ToldRun { run, tells })
+    put_told(out, lane, tables, Part::Within(*prefix), &select, tells)
 }
