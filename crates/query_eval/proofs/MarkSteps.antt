@@ -10,8 +10,8 @@ use Rattle.bmp_specs.specs.PeerUp.{StateValue}
 use Rattle.bmp_specs.specs.QueryReply.{MarkValue}
 use Rattle.bmp_specs.specs.Selection.{SelectValue}
 use Rattle.bmp_specs.specs.Values.{KeyValue}
-use Rattle.peer_book.specs.Peers.{Peers, is_complete_at}
-use Rattle.query_eval.specs.Told.{view_marks, peer_marks, state_marks, marks_in, keeps_mark, mark_lines}
+use Rattle.peer_book.specs.Peers.{Peers}
+use Rattle.query_eval.specs.Told.{mark_of, view_marks, peer_marks, state_marks, marks_in, keeps_mark, mark_lines}
 
 module _ (select : SelectValue) (lane : ℕ) where
   pub mark_lines_append : (xs ys : List MarkValue) → mark_lines select lane (xs ++ ys) ≡ mark_lines select lane xs ++ mark_lines select lane ys
@@ -22,8 +22,8 @@ module _ (select : SelectValue) (lane : ℕ) where
   -- the lines of the two families
   pub families_split : (peers : Peers) (key : KeyValue) (view : View)
       → mark_lines select lane (view_marks peers key view)
-      ≡ mark_lines select lane (record { key = key; view = view; family = V4; complete = is_complete_at peers key view V4 } ∷ []) ++ mark_lines select lane (record { key = key; view = view; family = V6; complete = is_complete_at peers key view V6 } ∷ [])
-  families_split peers key view = mark_lines_append (record { key = key; view = view; family = V4; complete = is_complete_at peers key view V4 } ∷ []) (record { key = key; view = view; family = V6; complete = is_complete_at peers key view V6 } ∷ [])
+      ≡ mark_lines select lane (mark_of peers key view V4 ∷ []) ++ mark_lines select lane (mark_of peers key view V6 ∷ [])
+  families_split peers key view = mark_lines_append (mark_of peers key view V4 ∷ []) (mark_of peers key view V6 ∷ [])
 
   -- the lines of the first view and of the others
   pub view_first : (peers : Peers) (key : KeyValue) (views : List View) (i : ℕ) (d : View) → i < length views

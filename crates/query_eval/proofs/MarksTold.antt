@@ -26,7 +26,7 @@ use Rattle.bmp_specs.proofs.OrderLaws.{key_total, view_total}
 use Rattle.bmp_specs.proofs.QueryReplies.{mark_total}
 use Rattle.peer_book.specs.Peers.{Peers, is_complete_at}
 use Rattle.peer_book.specs.Standing.{StandsForPeers}
-use Rattle.query_eval.specs.Told.{states_in, view_marks, peer_marks, state_marks, marks_in, keeps_mark, mark_lines}
+use Rattle.query_eval.specs.Told.{states_in, mark_of, view_marks, peer_marks, state_marks, marks_in, keeps_mark, mark_lines}
 use Rattle.query_eval.proofs.Keeping.{keeps_decides, from_filter, to_filter, sorted_kept, from_map, to_map, from_flat, to_flat, all_join, sorted_join}
 use Rattle.query_eval.proofs.PeersTold.{peer_told}
 
@@ -47,21 +47,18 @@ before_family m n same alike less =
     ap (λ (o : Ordering). ordering_then o (ordering_then (view_cmp m.view n.view) (family_cmp m.family n.family))) tied ∙ ap (λ (o : Ordering). ordering_then o (family_cmp m.family n.family)) tied_view ∙ less
 
 module _ (book : Peers) where
-  abbrev mark_at : KeyValue → View → Family → MarkValue
-  mark_at key view family = record { key = key; view = view; family = family; complete = is_complete_at book key view family }
-
   view_sorted : (key : KeyValue) (view : View) → IsStrictlySortedBy mark_cmp (view_marks book key view)
   unfolding IsStrictlySortedBy
-  view_sorted key view = ((before_family (mark_at key view V4) (mark_at key view V6) refl refl refl, tt), (tt, tt))
+  view_sorted key view = ((before_family (mark_of book key view V4) (mark_of book key view V6) refl refl refl, tt), (tt, tt))
 
   behind_view : (m : MarkValue) (views : List View) → AllByRecursion (λ v. view_cmp m.view v ≡ Less) views → AllByRecursion (λ n. mark_cmp m n ≡ Less) (peer_marks book m.key views)
   behind_view m [] a = tt
-  behind_view m (v ∷ vs) a = (before_view m (mark_at m.key v V4) refl a.0, (before_view m (mark_at m.key v V6) refl a.0, behind_view m vs a.1))
+  behind_view m (v ∷ vs) a = (before_view m (mark_of book m.key v V4) refl a.0, (before_view m (mark_of book m.key v V6) refl a.0, behind_view m vs a.1))
 
   views_sorted : (key : KeyValue) (views : List View) → IsStrictlySortedBy view_cmp views → IsStrictlySortedBy mark_cmp (peer_marks book key views)
   unfolding IsStrictlySortedBy
   views_sorted key [] s = tt
-  views_sorted key (v ∷ vs) s = sorted_join mark_cmp (view_marks book key v) (peer_marks book key vs) (view_sorted key v) (views_sorted key vs s.1) (behind_view (mark_at key v V4) vs s.0, (behind_view (mark_at key v V6) vs s.0, tt))
+  views_sorted key (v ∷ vs) s = sorted_join mark_cmp (view_marks book key v) (peer_marks book key vs) (view_sorted key v) (views_sorted key vs s.1) (behind_view (mark_of book key v V4) vs s.0, (behind_view (mark_of book key v V6) vs s.0, tt))
 
   -- marks of a peer are all of it
   of_key_view : (P : KeyValue → Type 0) (key : KeyValue) (views : List View) → P key → AllByRecursion (λ m. P m.key) (peer_marks book key views)
@@ -117,7 +114,7 @@ module _ (book : Peers) where
     from_peer : (e : KeyValue × StateValue) (m : MarkValue) → IsPeerAs (session_effects entries) e.0 e.1 → Contains (state_marks book e) m → IsMark entries m
     from_peer (key, up_state info) m is c =
         let v = from_flat (view_marks book key) (views_of_key key) m c in
-        let f = from_map (mark_at key v.0) (V4 ∷ V6 ∷ []) m v.2 in
+        let f = from_map (mark_of book key v.0) (V4 ∷ V6 ∷ []) m v.2 in
         subst (IsMark entries) f.2 (record { up = (info, is); view_is = v.1; complete_is = stands.complete key v.0 f.0 })
     from_peer (key, down_state info) m is c = absurd (omega (arith, c.1))
 
@@ -126,12 +123,12 @@ module _ (book : Peers) where
       λ c. let h = from_flat (state_marks book) (states_in book) m c in from_peer h.0 m ((peer_told book ordered (session_effects entries) stands h.0).0 h.1) h.2,
       λ is.
           let there = (peer_told book ordered (session_effects entries) stands (m.key, up_state is.up.0)).1 is.up.1 in
-          let of_family : Contains (view_marks book m.key m.view) (mark_at m.key m.view m.family) = to_map (mark_at m.key m.view) (V4 ∷ V6 ∷ []) m.family (family_there m.family) in
-          let of_view : Contains (peer_marks book m.key (views_of_key m.key)) (mark_at m.key m.view m.family) = to_flat (view_marks book m.key) (views_of_key m.key) m.view (mark_at m.key m.view m.family) is.view_is of_family in
+          let of_family : Contains (view_marks book m.key m.view) (mark_of book m.key m.view m.family) = to_map (mark_of book m.key m.view) (V4 ∷ V6 ∷ []) m.family (family_there m.family) in
+          let of_view : Contains (peer_marks book m.key (views_of_key m.key)) (mark_of book m.key m.view m.family) = to_flat (view_marks book m.key) (views_of_key m.key) m.view (mark_of book m.key m.view m.family) is.view_is of_family in
           let complete = stands.complete m.key m.view m.family in
           let same : is_complete_at book m.key m.view m.family ≡ m.complete = same_truth _ _ (λ t. is.complete_is.1 (complete.0 t)) (λ t. complete.1 (is.complete_is.0 t)) in
           subst (Contains (marks_in book (states_in book))) (λ i. record { key = m.key; view = m.view; family = m.family; complete = same i })
-          (to_flat (state_marks book) (states_in book) (m.key, up_state is.up.0) (mark_at m.key m.view m.family) there of_view),
+          (to_flat (state_marks book) (states_in book) (m.key, up_state is.up.0) (mark_of book m.key m.view m.family) there of_view),
     )
 
 same_marks : (ms : List MarkValue) → map (λ m. m) ms ≡ ms

@@ -1,6 +1,6 @@
 -- The lines of rows, table by table and row by row.
 use Rattle.std.specs.Prelude.{if◌then◌else◌}
-use Rattle.std.proofs.Common.{◌≡◌, ℕ, ◌+◌, Bool, true, List, [], ◌∷◌, ◌++◌, length, map, refl, ap, ◌∙◌, length-append}
+use Rattle.std.proofs.Common.{◌≡◌, ℕ, ◌+◌, Bool, true, false, List, [], ◌∷◌, ◌++◌, length, map, refl, ap, ◌∙◌, length-append}
 use Rattle.std.proofs.lemmas.List.{map-append}
 use Rattle.bmp_specs.specs.declared.peers.View.{View}
 use Rattle.bmp_specs.specs.Rows.{RowValue}
@@ -22,6 +22,10 @@ module _ (run : Run) where
 
   pub front_more : (es rest : Table) (e : NlriValue × AttrsValue) → es ≡ e ∷ rest → in_run run e.0 ≡ true → front_of run es ≡ e ∷ front_of run rest
   front_more es rest e first is = ap (front_of run) first ∙ front_cases true e rest is
+
+  -- or isn't, and there is none
+  pub front_none : (es rest : Table) (e : NlriValue × AttrsValue) → es ≡ e ∷ rest → in_run run e.0 ≡ false → front_of run es ≡ []
+  front_none es rest e first is = ap (front_of run) first ∙ front_cases false e rest is
 
 -- the lines of a table's pairs are those of its rows, where the line of each pair is that of its row
 pub pairs_told : (line : NlriValue → AttrsValue → List ℕ) (told : RowValue → List ℕ) (key : KeyValue) (view : View) → ((n : NlriValue) (a : AttrsValue) → line n a ≡ told (record { row_key = record { key = key; view = view; nlri = n }; route = a }))

@@ -1,5 +1,5 @@
 -- What a call leaves that writes the lines of one lane, and what a call answers that counts its rows.
-use Rattle.std.specs.Prelude.{◌≡◌, ℕ, List, length, Option, Result, Ok, Err, IfOk}
+use Rattle.std.specs.Prelude.{◌≡◌, ℕ, List, length, map, Option, Result, Ok, Err, IfOk}
 use Rattle.std.specs.List.{concat}
 use Rattle.bmp_specs.specs.Query.{QueryValue}
 use Rattle.bmp_specs.specs.QueryRows.{AsksRow}
@@ -34,6 +34,11 @@ pub record PutsLines {O E : Type 0} (faults : O → ℕ) (told : O → Option (L
 -- the rows of a lane with these entries that the query asks for
 abbrev pub AreAskedRows : QueryValue → ℕ → List EntryValue → List RowValue → Type 0
 AreAskedRows query lane entries rows = AreRows (AsksRow query lane (session_effects entries)) (session_effects entries) rows
+
+-- For whichever of these lists of entries, there are the rows of them that the query asks for, and the line of each was
+-- written, or a front of these lines where a write failed.
+abbrev pub PutsRows : {O : Type 0} → (O → ℕ) → (O → Option (List ℕ)) → (O → Aside) → (List EntryValue → Type 0) → QueryValue → ℕ → (RowValue → List ℕ) → O → Result ℕ Failed → O → Type 0
+PutsRows faults told aside Of query lane line old result new = (entries : List EntryValue) → Of entries → (rows : List RowValue) × AreAskedRows query lane entries rows × WritesLines faults told aside old (map line rows) result new
 
 -- For whichever of these lists of entries, it is the number of the rows that are asked for, at most the greatest of 64
 -- bits.

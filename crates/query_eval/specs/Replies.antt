@@ -1,5 +1,6 @@
 -- What a call leaves that writes a reply, and the replies on the histories that a cut stands for.
 use Rattle.std.specs.Prelude.{◌≡◌, ℕ, zero, suc, List, [], ◌∷◌, length, Option, Result}
+use Rattle.std.specs.Io.KnownBytes.{append_known}
 use Rattle.cut_publisher.specs.declared.history.Event.{Event}
 use Rattle.cut_publisher.specs.Cuts.{Stands}
 use Rattle.cut_publisher.specs.History.{part}
@@ -13,7 +14,8 @@ use Rattle.bmp_specs.specs.Rows.{RowValue}
 use Rattle.bmp_specs.specs.Values.{EntryValue}
 use Rattle.router_tables.specs.Tables.{TablesValue, StandsFor}
 use Rattle.wire_io.specs.declared.sink.Failed.{Failed}
-use Rattle.wire_io.specs.Aside.{Aside}
+use Rattle.wire_io.specs.Aside.{Aside, laid_over}
+use Rattle.wire_io.specs.Buffer.{BufferValue}
 use Rattle.wire_io.specs.Faults.{HasCause}
 use Rattle.wire_io.specs.Writes.{Writes}
 
@@ -22,6 +24,10 @@ pub record PutsText {O E : Type 0} (faults : O → ℕ) (told : O → Option (Li
   pub puts : (entries : E) (text : List ℕ) → Of entries → IsText entries text → Writes faults told aside old text result new
   pub kept : aside new ≡ aside old
   pub cause : HasCause (faults old) (faults new) result
+
+-- The same of a buffer over a sink: what it holds counts as written.
+abbrev pub PutsBuffered : {O E : Type 0} → (O → ℕ) → (O → Option (List ℕ)) → (O → Aside) → (E → Type 0) → (E → List ℕ → Type 0) → BufferValue O → Result (Unit {0}) Failed → BufferValue O → Type 0
+PutsBuffered {O = O} faults told aside Of IsText old result new = PutsText (λ (p : BufferValue O). faults p.below) (λ (p : BufferValue O). append_known (told p.below) p.held) (λ (p : BufferValue O). laid_over (told p.first) (aside p.below)) Of IsText old result new
 
 -- The reply was written and no write failed, or a write failed in this call and a front of the reply was written.
 pub record PutsReply {O : Type 0} (faults : O → ℕ) (told : O → Option (List ℕ)) (aside : O → Aside) (IsReply : List ℕ → Type 0) (old : O) (result : Result (Unit {0}) Failed) (new : O) : Type 0 where

@@ -70,3 +70,9 @@ abbrev pub shown_all : List NlriValue → List (Bor (Arc AttrsValue Global)) →
 shown_all [] routes = []
 shown_all (n ∷ nlris) [] = []
 shown_all (n ∷ nlris) (route ∷ routes) = (n, shared route) ∷ shown_all nlris routes
+
+-- what was found of the routes in places stands in these places, by the references to their sets
+abbrev pub AreFound : {F : Type 0} → (AttrsValue → F → Type 0) → List (Bor (Arc AttrsValue Global)) → List F → Type 0
+AreFound Finds [] found = Unit {0}
+AreFound Finds (route ∷ routes) [] = ⊥
+AreFound Finds (route ∷ routes) (f ∷ found) = Finds (shared route) f × AreFound Finds routes found

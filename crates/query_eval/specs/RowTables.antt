@@ -1,5 +1,5 @@
 -- The tables of a lane that a query asks, in the order of its reply, and the walk over them.
-use Rattle.std.specs.Prelude.{ℕ, if◌then◌else◌, List, [], ◌∷◌, ◌++◌, Option, None, Some}
+use Rattle.std.specs.Prelude.{◌≡◌, ℕ, if◌then◌else◌, List, [], ◌∷◌, ◌++◌, Option, None, Some, MatchOption}
 use Rattle.std.specs.List.{filter, flat_map}
 use Rattle.std.specs.Map.{keys_of}
 use Rattle.std.specs.Ordering.{is_lt, nat_cmp}
@@ -64,6 +64,10 @@ abbrev pub lane_tables : SelectValue → ℕ → TablesValue → List PeerTableV
 lane_tables select lane tables = if is_named nat_cmp select.router lane then flat_map (peer_tables tables.tables select.view) (asked_keys select.peer tables.session.books.peers) else []
 
 -- ---- inside
+-- the peers whose tables of a lane are asked
+abbrev pub lane_keys : SelectValue → ℕ → Peers → List KeyValue
+lane_keys select lane peers = if is_named nat_cmp select.router lane then asked_keys select.peer peers else []
+
 -- the peers that come after one
 abbrev pub keys_after : Option KeyValue → KeyValue → Peers → List KeyValue
 keys_after None key peers = keys_of (filter (λ e. is_lt (key_cmp key e.0)) peers)
@@ -86,3 +90,7 @@ left_of walk = left_from walk.tables.now walk.peer walk.view walk.key walk.from
 -- a table that a walk gives
 abbrev pub table_value : PeerTable → PeerTableValue
 table_value t = record { key = t.key; view = t.view; pairs = in_order nlri_cmp t.table.now }
+
+-- it is the first of these tables, and those that are left stand after it; none where there is no table
+abbrev pub IsFirstTable : Option PeerTable → List PeerTableValue → (View → List PeerTableValue) → Type 0
+IsFirstTable found all left = MatchOption found (all ≡ []) (λ t. all ≡ table_value t ∷ left t.view)

@@ -1,6 +1,7 @@
 -- The lines that the books of a lane's tables tell.
 use Rattle.std.specs.Prelude.{ℕ, Bool, true, false, List, [], ◌∷◌, map, flat_map, Option}
 use Rattle.std.specs.List.{filter}
+use Rattle.bmp_specs.specs.declared.wire.Family.{Family}
 use Rattle.bmp_specs.specs.declared.wire.Family.TheVariants.{V4, V6}
 use Rattle.bmp_specs.specs.declared.peers.View.{View}
 use Rattle.bmp_specs.specs.PeerHeader.{views_of_key}
@@ -29,10 +30,12 @@ is_up_state (key, down_state info) = false
 abbrev pub up_keys : List (KeyValue × StateValue) → List KeyValue
 up_keys states = map (λ p. p.0) (filter is_up_state states)
 
--- whether the routes of a peer in a view are complete, of each family
+-- whether the routes of a peer in a view are complete, of one family and of each
+abbrev pub mark_of : Peers → KeyValue → View → Family → MarkValue
+mark_of peers key view family = record { key = key; view = view; family = family; complete = is_complete_at peers key view family }
+
 abbrev pub view_marks : Peers → KeyValue → View → List MarkValue
-view_marks peers key view =
-    map (λ family. record { key = key; view = view; family = family; complete = is_complete_at peers key view family }) (V4 ∷ V6 ∷ [])
+view_marks peers key view = map (mark_of peers key view) (V4 ∷ V6 ∷ [])
 
 abbrev pub peer_marks : Peers → KeyValue → List View → List MarkValue
 peer_marks peers key views = flat_map (view_marks peers key) views

@@ -1,11 +1,11 @@
 ghost use Rattle.std.specs.Prelude.{◌≡◌, ◌<◌, ◌≤◌, ◌++◌, length, take};
 ghost use Rattle.query_eval.specs.Puts.{WritesLines};
-ghost use Rattle.query_eval.specs.RowRuns.{front_of, shown_all};
+ghost use Rattle.query_eval.specs.RowRuns.{AreFound, front_of, shown_all};
 ghost use Rattle.query_eval.specs.Rows.{lines_by};
 
 use crate::pairs::Pairs;
 use crate::run::Run;
-use crate::tells::TellsTable;
+use crate::tells::{Found, TellsTable};
 use ip_prefix::Nlri;
 use rib_model::Route;
 use wire_io::{Failed, Sink};
@@ -41,33 +41,39 @@ pub(crate) fn gather<'a, W: Pairs<'a>>(
     count
 }
 
-// Whether the line of each route may be put together in one array.
-fn are_short<L: TellsTable>(lines: &L, routes: &[&Route]) -> bool {
-    for route in routes {
-        if !lines.has_short_line(route) {
-            return false;
-        }
+// Looks at the routes, and puts what is found of each into its place.
+fn look_ahead<L: TellsTable>(lines: &L, routes: &[&Route], found: &mut [Found; AHEAD])
+    requires { length routes.now ≤ 16 }
+    ensures { AreFound (L.finds lines.now) routes.now found.new }
+{
+    for at in 0..routes.len() {
+        let route = routes[at];
+        found[at] = lines.look(route);
     }
-    true
 }
 
-/// Writes the lines of the pairs, and answers how many.
+/// Writes the lines of the pairs, and answers how many. All routes are looked at before the first line is written.
 pub(crate) fn put_batch<O: Sink, L: TellsTable>(
     out: &mut O,
     lines: &mut L,
     nlris: &[Nlri],
     routes: &[&Route],
 ) -> Result<u64, Failed>
-    requires { length nlris.now ≡ length routes.now }
+    requires pairs { length nlris.now ≡ length routes.now }
+    requires few { length routes.now ≤ 16 }
     ensures same { lines.new ≡ lines.old }
     ensures writes { WritesLines O.faults O.told O.aside out.old (lines_by (L.line lines.old) (shown_all nlris.now routes.now)) result out.new }
 {
-    let short = are_short(lines, routes);
+    let mut found = [Found {
+        short: false,
+        origin: None,
+    }; AHEAD];
+    look_ahead(lines, routes, &mut found);
     let mut count: u64 = 0;
     for at in 0..nlris.len() {
         let nlri = nlris[at];
         let route = routes[at];
-        lines.put_row(out, &nlri, route, short)?;
+        lines.put_row(out, &nlri, route, found[at])?;
         count = count.saturating_add(1);
     }
     Ok(count)

@@ -38,6 +38,7 @@ fn put_kept<O: Sink>(
     requires { recent.now.total < most_told }
     ensures { WritesLines O.faults O.told O.aside out.old (map (change_line lane) (kept_changes (steps_told recent.now) from prefix.now)) result out.new }
 {
+    // for the proof: the last 1,024 steps are kept
     let _total = recent.total();
     let mut next = from;
     let mut count: u64 = 0;

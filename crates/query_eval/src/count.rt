@@ -18,6 +18,7 @@ fn count_run(table: &PeerTable<'_>, run: &Run) -> u64
     ensures { result ≡ told_count (length (asked_of (asks_run run.now) (table_value table.now))) }
 {
     let routes = table.table;
+    // for the proof: the pairs stand in the order of NLRI
     routes.see_order();
     count_front(routes.walk(run.begin()), run)
 }
@@ -26,6 +27,7 @@ fn count_run(table: &PeerTable<'_>, run: &Run) -> u64
 fn count_all(table: &PeerTable<'_>) -> u64
     ensures { result ≡ told_count (length (table_value table.now).pairs) }
 {
+    // for the proof: the pairs stand in the order of NLRI
     table.table.see_order();
     table.table.count()
 }

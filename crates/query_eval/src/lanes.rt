@@ -80,7 +80,9 @@ fn put_lane_lines<O: Sink>(
             from,
             prefix,
         } => put_lane_changes(out, lane, tables, *number, *from, prefix),
+        // excluded by the premise: rows are counted over all lanes together
         Query::Count(_) => unreachable!(),
+        // excluded by the premise: `quit` has no reply
         Query::Quit => unreachable!(),
     }
 }

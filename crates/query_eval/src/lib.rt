@@ -33,4 +33,4 @@ mod tells;
 
 pub use parts::put_told_within;
 pub use reply::answer;
-pub use tells::{TellsRow, TellsTable};
+pub use tells::{Found, TellsRow, TellsTable};

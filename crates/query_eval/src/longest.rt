@@ -58,6 +58,7 @@ fn put_found<O: Sink>(
     requires { IsLongest asks.now.address table.now.table.now found }
     ensures { WritesLines O.faults O.told O.aside out.old (lines_of lane (asked_of (asks_longest asks.now.address asks.now.family) (table_value table.now))) result out.new }
 {
+    // for the proof: the pairs stand in the order of NLRI
     table.table.see_order();
     match found {
         Some(prefix) => {

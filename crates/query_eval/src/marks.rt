@@ -6,11 +6,10 @@ ghost use Rattle.bmp_specs.specs.PeerHeader.{views_of_key};
 ghost use Rattle.bmp_specs.specs.Query.{marks};
 ghost use Rattle.bmp_specs.specs.QueryReply.{AreLaneLines};
 ghost use Rattle.peer_book.specs.Line.{line_value};
-ghost use Rattle.peer_book.specs.Peers.{is_complete_at};
 ghost use Rattle.router_tables.specs.Tables.{StandsFor};
 ghost use Rattle.query_eval.specs.Puts.{WritesLines, PutsLines};
 ghost use Rattle.query_eval.specs.Selecting.{keeps_peer};
-ghost use Rattle.query_eval.specs.Told.{states_in, view_marks, peer_marks, state_marks, marks_in, mark_lines};
+ghost use Rattle.query_eval.specs.Told.{states_in, mark_of, view_marks, peer_marks, state_marks, marks_in, mark_lines};
 
 use crate::peers::{is_up, next_peer};
 use crate::selection::{is_peer_selected, is_table_selected};
@@ -45,7 +44,7 @@ fn put_selected<O: Sink>(
     select: &Select,
 ) -> Result<u64, Failed>
     requires { keeps_peer select.now.router select.now.peer lane key.now ≡ true }
-    ensures { WritesLines O.faults O.told O.aside out.old (mark_lines select.now lane (record { key = key.now; view = view; family = family; complete = is_complete_at book.now key.now view family } ∷ [])) result out.new }
+    ensures { WritesLines O.faults O.told O.aside out.old (mark_lines select.now lane (mark_of book.now key.now view family ∷ [])) result out.new }
 {
     if !is_table_selected(select, view, family) {
         return Ok(0);

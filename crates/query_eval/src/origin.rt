@@ -35,6 +35,7 @@ impl Asks for OriginRows {
             part: Part::Whole,
         };
         let routes = table.table;
+        // for the proof: the pairs stand in the order of NLRI
         routes.see_order();
         put_front(
             out,

@@ -1,14 +1,12 @@
-ghost use Rattle.std.specs.Prelude.{List, map};
+ghost use Rattle.std.specs.Prelude.{map};
 ghost use Rattle.std.specs.List.Sorted.{IsStrictlySortedBy};
 ghost use Rattle.std.specs.Map.{keys_of};
 ghost use Rattle.bmp_specs.specs.Orders.{key_cmp};
 ghost use Rattle.bmp_specs.specs.Query.{within};
 ghost use Rattle.bmp_specs.specs.QueryReply.{AreLaneLines};
-ghost use Rattle.bmp_specs.specs.Rows.{RowValue};
 ghost use Rattle.bmp_specs.specs.Selection.{select_all};
-ghost use Rattle.bmp_specs.specs.Values.{EntryValue};
 ghost use Rattle.router_tables.specs.Tables.{StandsFor};
-ghost use Rattle.query_eval.specs.Puts.{AreAskedRows, PutsLines, WritesLines};
+ghost use Rattle.query_eval.specs.Puts.{PutsLines, PutsRows, WritesLines};
 ghost use Rattle.query_eval.specs.Rows.{part_query, part_rows};
 
 use crate::asks::put_rows;
@@ -62,7 +60,7 @@ pub fn put_told_within<O: Sink, T: TellsRow>(
     prefix: &Prefix,
     tells: &T,
 ) -> Result<u64, Failed>
-    ensures { (entries : List EntryValue) → StandsFor tables.now entries → (rows : List RowValue) × AreAskedRows (within prefix.now select_all) lane entries rows × WritesLines O.faults O.told O.aside out.old (map (T.line tells.now lane) rows) result out.new }
+    ensures { PutsRows O.faults O.told O.aside (StandsFor tables.now) (within prefix.now select_all) lane (T.line tells.now lane) out.old result out.new }
 {
     let select = Select::all();
     put_told(out, lane, tables, Part::Within(*prefix), &select, tells)

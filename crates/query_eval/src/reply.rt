@@ -1,15 +1,13 @@
 //! The reply of a query.
 ghost use Rattle.std.specs.Prelude.{◌≡◌, ◌≢◌, [], List, length, OnOk, IfSome, IsNone};
-ghost use Rattle.std.specs.Io.KnownBytes.{append_known};
 ghost use Rattle.bmp_specs.specs.Query.{count, quit};
 ghost use Rattle.bmp_specs.specs.QueryReply.{AreReplyLines, IsReply};
 ghost use Rattle.cut_publisher.specs.declared.history.Event.{Event};
 ghost use Rattle.query_lang.specs.Queries.{query_value};
 ghost use Rattle.rib_model.specs.declared.entry.Entry.{Entry};
-ghost use Rattle.wire_io.specs.Aside.{laid_over};
 ghost use Rattle.wire_io.specs.Faults.{HasCause};
 ghost use Rattle.query_eval.specs.Puts.{PutsLines};
-ghost use Rattle.query_eval.specs.Replies.{PutsText, PutsReply, StandForLanes, StandsForHistory, IsReplyOn, TellsByLane};
+ghost use Rattle.query_eval.specs.Replies.{PutsBuffered, PutsText, PutsReply, StandForLanes, StandsForHistory, IsReplyOn, TellsByLane};
 
 use crate::lanes::{count_all, put_lanes};
 use core::mem::replace_with;
@@ -72,7 +70,7 @@ fn put_all<O: Sink>(
 ) -> Result<(), Failed>
     requires { query_value query.now ≢ quit }
     ensures empty { OnOk result (buffer.new.held ≡ []) }
-    ensures puts { PutsText (λ p. O.faults p.below) (λ p. append_known (O.told p.below) p.held) (λ p. laid_over (O.told p.first) (O.aside p.below)) (StandForLanes cut.now) (IsReply (query_value query.now)) buffer.old result buffer.new }
+    ensures puts { PutsBuffered O.faults O.told O.aside (StandForLanes cut.now) (IsReply (query_value query.now)) buffer.old result buffer.new }
 {
     put_reply(buffer, cut, query)?;
     buffer.flush()

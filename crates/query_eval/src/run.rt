@@ -65,6 +65,7 @@ fn begin_prefix(prefix: &Prefix) -> Place
     ensures place { result ≡ FromNlri (record { prefix = prefix.now; id = NoId }) }
     ensures valid { IsAddressPrefix prefix.now }
 {
+    // for the proof: no bit past its length is set
     let _bits = prefix.bits();
     Place::From(Nlri {
         prefix: *prefix,

@@ -22,6 +22,7 @@ pub(crate) fn put_run<O: Sink, T: TellsRow>(
     ensures { WritesLines O.faults O.told O.aside out.old (map (T.line tells.now lane) (asked_of (asks_run run.now) (table_value table.now))) result out.new }
 {
     let routes = table.table;
+    // for the proof: the pairs stand in the order of NLRI
     routes.see_order();
     put_front(out, lane, table, routes.walk(run.begin()), run, tells)
 }

@@ -1,12 +1,10 @@
-ghost use Rattle.std.specs.Prelude.{◌≡◌, [], ◌∷◌, MatchOption, if◌then◌else◌};
+ghost use Rattle.std.specs.Prelude.{◌≡◌, [], ◌∷◌, MatchOption};
 ghost use Rattle.std.specs.List.Sorted.{IsStrictlySortedBy};
 ghost use Rattle.std.specs.Map.{keys_of};
 ghost use Rattle.std.specs.Option.{option_copied};
-ghost use Rattle.std.specs.Ordering.{nat_cmp};
 ghost use Rattle.bmp_specs.specs.Orders.{key_cmp};
 ghost use Rattle.peer_book.specs.Peers.{after_place};
-ghost use Rattle.query_eval.specs.Selecting.{is_named};
-ghost use Rattle.query_eval.specs.RowTables.{asked_keys, asked_table, keys_after, keys_from, lane_tables, left_of, table_value, tables_from, view_after, view_table};
+ghost use Rattle.query_eval.specs.RowTables.{IsFirstTable, asked_table, keys_after, keys_from, lane_keys, lane_tables, left_of, table_value, tables_from, view_after, view_table};
 
 use crate::selection::{is_lane_named, is_view_named};
 use bmp_frames::PeerKey;
@@ -62,7 +60,7 @@ fn peer_after(tables: &RouterTables, place: Option<&PeerKey>) -> Option<PeerKey>
 
 // The first peer whose tables are asked.
 fn first_key(lane: u32, tables: &RouterTables, select: &Select) -> Option<PeerKey>
-    ensures all { keys_from select.now.peer result tables.now.session.books.peers ≡ (if is_named nat_cmp select.now.router lane then asked_keys select.now.peer tables.now.session.books.peers else []) }
+    ensures all { keys_from select.now.peer result tables.now.session.books.peers ≡ lane_keys select.now lane tables.now.session.books.peers }
     ensures ordered { IsStrictlySortedBy key_cmp (keys_of tables.now.session.books.peers) }
 {
     let first = peer_after(tables, None);
@@ -107,7 +105,7 @@ fn first_table<'a>(
     key: &PeerKey,
     from: Option<View>,
 ) -> Option<PeerTable<'a>>
-    ensures { MatchOption result (tables_from tables.now.tables named key.now from ≡ []) (λ found. tables_from tables.now.tables named key.now from ≡ table_value found ∷ tables_from tables.now.tables named key.now (view_after found.view)) }
+    ensures { IsFirstTable result (tables_from tables.now.tables named key.now from) (λ view. tables_from tables.now.tables named key.now (view_after view)) }
 {
     let mut at = from;
     while let Some(view) = at {

@@ -1,8 +1,10 @@
-ghost use Rattle.std.specs.Prelude.{◌≡◌, ℕ, List};
+ghost use Rattle.std.specs.Prelude.{◌≡◌, ⊤, ℕ, List};
 ghost use Rattle.bmp_specs.specs.RouteLine.{route_line};
 ghost use Rattle.bmp_specs.specs.Rows.{RowValue};
 ghost use Rattle.bmp_specs.specs.Values.{AttrsValue, NlriValue};
 ghost use Rattle.wire_io.specs.Writes.{Writes};
+ghost use Rattle.query_eval.specs.declared.tells.Found.{Found};
+ghost use Rattle.query_eval.specs.Rows.{row_of};
 
 use bmp_frames::PeerKey;
 use bmp_specs::View;
@@ -11,25 +13,40 @@ use path_attrs::Attrs;
 use reply_text::{RouteLines, is_short};
 use wire_io::{Failed, Sink};
 
+/// What is found of a route before its line is written.
+#[derive(Clone, Copy)]
+pub struct Found {
+    /// Whether the line may be put together in one array.
+    pub short: bool,
+
+    /// The origin AS of the route (RFC 6811, section 2), where its line has it.
+    pub origin: Option<u32>,
+}
+
 /// What writes the lines of one table's rows. What they begin with is made once.
+///
+/// The walk looks at several routes before it writes the line of the first, so that their path attributes are fetched from
+/// memory side by side. What it found of a route it hands to the call that writes the line.
 pub trait TellsTable {
     /// The line of a route of the table.
     ghost line: { Self → NlriValue → AttrsValue → List ℕ };
 
-    /// Whether the line of a route may be put together in one array. It looks at the path attributes and writes nothing;
-    /// the walk asks it of several routes before it writes the line of the first, so that they are fetched from memory side
-    /// by side.
-    fn has_short_line(&self, attrs: &Attrs) -> bool;
+    /// Whether this is what is found of a route with these path attributes.
+    ghost finds: { Self → AttrsValue → Found → Type 0 };
 
-    /// Writes the line of a route. The caller says whether it may be put together in one array. Where a write fails, a front
-    /// of the line was written.
+    /// Looks at the path attributes of a route. It writes nothing.
+    fn look(&self, attrs: &Attrs) -> Found
+        ensures { finds self.now attrs.now result };
+
+    /// Writes the line of a route of which this was found. Where a write fails, a front of the line was written.
     fn put_row<O: Sink>(
         &mut self,
         out: &mut O,
         nlri: &Nlri,
         attrs: &Attrs,
-        short: bool,
+        found: Found,
     ) -> Result<(), Failed>
+        requires { finds self.old attrs.now found }
         ensures same { self.new ≡ self.old }
         ensures writes { Writes O.faults O.told O.aside out.old (line self.old nlri.now attrs.now) result out.new };
 }
@@ -44,14 +61,19 @@ pub trait TellsRow {
 
     /// What writes the lines of the rows that a peer of this lane has in a view.
     fn begin_table(&self, lane: u32, key: PeerKey, view: View) -> Self::Lines
-        ensures { (nlri : NlriValue) (attrs : AttrsValue) → Self.Lines.line result nlri attrs ≡ line self.now lane (record { row_key = record { key = key; view = view; nlri = nlri }; route = attrs }) };
+        ensures { (nlri : NlriValue) (attrs : AttrsValue) → Self.Lines.line result nlri attrs ≡ line self.now lane (row_of key view (nlri, attrs)) };
 }
 
 impl TellsTable for RouteLines {
-    ghost line = { λ table nlri attrs. route_line table.lane (record { row_key = record { key = table.key; view = table.view; nlri = nlri }; route = attrs }) };
+    ghost line = { λ table nlri attrs. route_line table.lane (row_of table.key table.view (nlri, attrs)) };
 
-    fn has_short_line(&self, attrs: &Attrs) -> bool {
-        is_short(attrs)
+    ghost finds = { λ _ _ _. ⊤ };
+
+    fn look(&self, attrs: &Attrs) -> Found {
+        Found {
+            short: is_short(attrs),
+            origin: None,
+        }
     }
 
     fn put_row<O: Sink>(
@@ -59,9 +81,9 @@ impl TellsTable for RouteLines {
         out: &mut O,
         nlri: &Nlri,
         attrs: &Attrs,
-        short: bool,
+        found: Found,
     ) -> Result<(), Failed> {
-        self.put(out, nlri, attrs, short)
+        self.put(out, nlri, attrs, found.short)
     }
 }
 

@@ -1,5 +1,5 @@
 -- The reply of `rov`: for each row within a prefix the origin of its route and the verdict on it (RFC 6811, section 2).
-use Rattle.std.specs.Prelude.{◌≡◌, ℕ, List, length, Option, codes}
+use Rattle.std.specs.Prelude.{◌≡◌, ℕ, List, length, Option, Result, codes}
 use Rattle.std.specs.List.{AllZip}
 use Rattle.std.specs.Option.{option_and_then}
 use Rattle.bmp_specs.specs.PeerUp.{IsUpWith}
@@ -10,13 +10,15 @@ use Rattle.bmp_specs.specs.Selection.{select_all}
 use Rattle.bmp_specs.specs.Session.{session_effects}
 use Rattle.bmp_specs.specs.Values.{AttrsValue, EffectValue, EntryValue, PeerInfoValue, PrefixValue}
 use Rattle.peer_book.specs.Peers.{Peers, info_at}
-use Rattle.query_eval.specs.Puts.{AreAskedRows}
+use Rattle.query_eval.specs.Puts.{AreAskedRows, WritesLines}
 use Rattle.reply_text.specs.Rov.{rov_line}
 use Rattle.rov_table.specs.declared.vrp.Vrp.{Vrp}
 use Rattle.rov_table.specs.declared.vrp.Verdict.{Verdict}
 use Rattle.rov_table.specs.declared.vrp.Verdict.TheVariants.{Valid, Invalid, NotFound}
 use Rattle.rov_table.specs.Origins.{route_origin}
 use Rattle.rov_table.specs.Verdicts.{IsVerdict, verdict_of}
+use Rattle.wire_io.specs.declared.sink.Failed.{Failed}
+use Rattle.wire_io.specs.Aside.{Aside}
 
 -- the word of a verdict
 abbrev pub verdict_text : Verdict → List ℕ
@@ -37,6 +39,10 @@ pub record AreRovLines (vrps : List Vrp) (prefix : PrefixValue) (lane : ℕ) (en
   pub rows : List RowValue
   pub are_rows : AreAskedRows (within prefix select_all) lane entries rows
   pub each : AllZip (IsRovLine vrps lane (session_effects entries)) rows lines
+
+-- for whichever of these lists of entries, these lines of them were written, or a front of them where a write failed
+abbrev pub PutsRovLines : {O : Type 0} → (O → ℕ) → (O → Option (List ℕ)) → (O → Aside) → (List EntryValue → Type 0) → List Vrp → PrefixValue → ℕ → O → Result ℕ Failed → O → Type 0
+PutsRovLines faults told aside Of vrps prefix lane old result new = (entries : List EntryValue) → Of entries → (lines : List (List ℕ)) × AreRovLines vrps prefix lane entries lines × WritesLines faults told aside old lines result new
 
 -- the reply of `rov` on the one lane with these entries
 pub record IsRovReply (vrps : List Vrp) (prefix : PrefixValue) (entries : List EntryValue) (text : List ℕ) : Type 0 where

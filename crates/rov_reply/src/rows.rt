@@ -1,9 +1,8 @@
-ghost use Rattle.std.specs.Prelude.{◌≡◌, List, ℕ};
+ghost use Rattle.std.specs.Prelude.{◌≡◌};
 ghost use Rattle.std.specs.Option.{option_map};
-ghost use Rattle.bmp_specs.specs.Values.{EntryValue};
 ghost use Rattle.router_tables.specs.Tables.{StandsFor};
-ghost use Rattle.query_eval.specs.Puts.{WritesLines};
-ghost use Rattle.rov_reply.specs.RovLines.{AreRovLines, info_origin, line_by_info, line_by_peers, verdict_text};
+ghost use Rattle.query_eval.specs.Rows.{row_of};
+ghost use Rattle.rov_reply.specs.RovLines.{PutsRovLines, info_origin, line_by_info, line_by_peers, verdict_text};
 
 use bgp_open::PeerInfo;
 use bmp_frames::PeerKey;
@@ -11,7 +10,7 @@ use bmp_specs::View;
 use ip_prefix::{Nlri, Prefix};
 use path_attrs::Attrs;
 use peer_book::PeerBook;
-use query_eval::{TellsRow, TellsTable, put_told_within};
+use query_eval::{Found, TellsRow, TellsTable, put_told_within};
 use reply_text::RovLines;
 use router_tables::RouterTables;
 use rov_table::{Verdict, VrpTable, origin_of, verdict};
@@ -54,24 +53,28 @@ fn origin_by(info: Option<&PeerInfo>, attrs: &Attrs) -> Option<u32>
 }
 
 impl<'a> TellsTable for RovTable<'a> {
-    ghost line = { λ t nlri attrs. line_by_info t.vrps.now (option_map (λ i. i.now) t.info) t.lines.lane (record { row_key = record { key = t.lines.key; view = t.lines.view; nlri = nlri }; route = attrs }) };
+    ghost line = { λ t nlri attrs. line_by_info t.vrps.now (option_map (λ i. i.now) t.info) t.lines.lane (row_of t.lines.key t.lines.view (nlri, attrs)) };
 
-    // Where a route has no origin the line goes piece by piece; so the path of each is looked at ahead of its line.
-    fn has_short_line(&self, attrs: &Attrs) -> bool {
-        origin_by(self.info, attrs).is_some()
+    ghost finds = { λ t attrs found. found.origin ≡ info_origin (option_map (λ i. i.now) t.info) attrs };
+
+    // Each line has its place in one array: an origin takes at most 10 bytes, and a verdict at most 9.
+    fn look(&self, attrs: &Attrs) -> Found {
+        Found {
+            short: true,
+            origin: origin_by(self.info, attrs),
+        }
     }
 
     fn put_row<O: Sink>(
         &mut self,
         out: &mut O,
         nlri: &Nlri,
-        attrs: &Attrs,
-        short: bool,
+        _attrs: &Attrs,
+        found: Found,
     ) -> Result<(), Failed> {
-        let origin = origin_by(self.info, attrs);
-        let found = verdict(self.vrps, &nlri.prefix, origin);
+        let judged = verdict(self.vrps, &nlri.prefix, found.origin);
         self.lines
-            .put(out, nlri, origin, verdict_word(found), short)
+            .put(out, nlri, found.origin, verdict_word(judged), found.short)
     }
 }
 
@@ -98,7 +101,7 @@ pub(crate) fn put_rov_rows<O: Sink>(
     vrps: &VrpTable,
     prefix: &Prefix,
 ) -> Result<u64, Failed>
-    ensures { (entries : List EntryValue) → StandsFor tables.now entries → (lines : List (List ℕ)) × AreRovLines vrps.now prefix.now lane entries lines × WritesLines O.faults O.told O.aside out.old lines result out.new }
+    ensures { PutsRovLines O.faults O.told O.aside (StandsFor tables.now) vrps.now prefix.now lane out.old result out.new }
 {
     let rows = RovRows {
         vrps,

@@ -1,4 +1,4 @@
-use Rattle.std.proofs.Common.{◌≡◌, ◌∙◌, List, [], ◌∷◌, ◌++◌, ℕ, inl, inr, map, sym, ap, arith, eq-or-lt_of_le, take}
+use Rattle.std.proofs.Common.{◌≡◌, ◌∙◌, List, [], ◌∷◌, ◌++◌, ℕ, inl, inr, map, refl, sym, ap, arith, eq-or-lt_of_le, take}
 use Rattle.std.proofs.lemmas.List.{map-append}
 use Rattle.bmp_specs.specs.declared.peers.View.{View}
 use Rattle.bmp_specs.specs.Rows.{RowValue}
@@ -7,8 +7,8 @@ use Rattle.route_runs.specs.Runs.{shared}
 use Rattle.router_tables.specs.Views.{Table}
 use Rattle.query_eval.specs.RowRuns.{front_of, shown_all}
 use Rattle.query_eval.specs.Rows.{row_of}
-use Rattle.query_eval.proofs.Leading.{leads_begin, leads_failed, leads_first, leads_last, leads_last_failed, leads_on, lines_as}
-use Rattle.query_eval.proofs.RowLines.{front_more, pairs_told}
+use Rattle.query_eval.proofs.Leading.{leads_begin, leads_failed, leads_first, leads_last, leads_last_failed, leads_on, lines_as, no_lines}
+use Rattle.query_eval.proofs.RowLines.{front_more, front_none, pairs_told}
 use Rattle.query_eval.proofs.front.put_front.Goals as goal
 
 -- the lines of the rows of pairs
@@ -23,6 +23,16 @@ same_table : {L : Type 0} (line : L → NlriValue → AttrsValue → List ℕ) (
     → ((n : NlriValue) (a : AttrsValue) → line before n a ≡ told (record { row_key = record { key = key; view = view; nlri = n }; route = a }))
     → (n : NlriValue) (a : AttrsValue) → line now n a ≡ told (record { row_key = record { key = key; view = view; nlri = n }; route = a })
 same_table line told key view now before e same n a = ap (λ v. line v n a) e ∙ same n a
+
+pub returns-in_default : goal.returns-in_default
+returns-in_default g c =
+    let told : RowValue → List ℕ = g.T.TellsRow.line c.args.tells.now c.args.lane in
+    no_lines c.args.out.now _ (ap (λ (l : Table). lines_in told c.args.table.now.key c.args.table.now.view (front_of c.args.run.now l)) (c.in_default.ensures.none.0 refl))
+
+pub returns-then-not-holds : goal.returns-then-not-holds
+returns-then-not-holds g c =
+    let told : RowValue → List ℕ = g.T.TellsRow.line c.args.tells.now c.args.lane in
+    no_lines c.args.out.now _ (ap (lines_in told c.args.table.now.key c.args.table.now.view) (front_none c.args.run.now _ _ (c.in-Some.found.0, shared c.in-Some.found.1) c.in-Some.ensures.next (sym c.holds.ensures ∙ c.if-not-holds.true)))
 
 pub returns-in_err-count : goal.returns-in_err-count
 returns-in_err-count g c =
