@@ -1,5 +1,5 @@
 -- Nothing is read once a connection ended: what was read before the last read goes on.
-use Rattle.std.proofs.Common.{◌≡◌, ℕ, ◌≤◌, true, false, length, List, [], ◌++◌, Option, refl, sym, subst, append-nil}
+use Rattle.std.proofs.Common.{◌≡◌, ℕ, ◌≤◌, false, length, List, [], ◌++◌, Option, refl, sym, subst, append-nil}
 use mathlib.Core.Bool.{false≢true}
 use Rattle.std.specs.Io.KnownBytes.{Appends}
 use Rattle.cut_publisher.specs.History.{Begins, revision}
@@ -8,7 +8,7 @@ use Rattle.ask_session.specs.declared.close.Close.{Close}
 use Rattle.ask_session.specs.declared.close.Close.TheVariants.{Ended, Full, Over, ReadFault, WriteFault}
 use Rattle.ask_session.specs.Lines.{HasNoEnd, IsTooMany}
 use Rattle.ask_session.specs.Replies.{History}
-use Rattle.ask_session.specs.Dialogue.{Dialogue, GoesOn}
+use Rattle.ask_session.specs.Dialogue.{GoesOn}
 use Rattle.ask_session.specs.Connection.{AppendsThenMore, HasWritten, IsReadNoFurther, most_heard}
 use Rattle.ask_session.specs.Hearing.{Goes}
 

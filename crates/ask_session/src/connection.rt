@@ -40,6 +40,7 @@ fn hear<K: Link>(
             if line.is_too_long() {
                 match reply_to(pass, link, line.as_slice()) {
                     Some(close) => return Some(close),
+                    // the reply to a line that is too long always ends the connection
                     None => unreachable!(),
                 }
             }

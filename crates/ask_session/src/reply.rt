@@ -1,4 +1,4 @@
-ghost use Rattle.std.specs.Prelude.{◌≡◌, ◌≢◌, ◌↔◌, true, false, length, IsTrue};
+ghost use Rattle.std.specs.Prelude.{◌≡◌, ◌≢◌, ◌↔◌, true, false, IsTrue};
 ghost use Rattle.bmp_specs.specs.Query.{quit};
 ghost use Rattle.query_lang.specs.Queries.{query_value};
 ghost use Rattle.query_eval.specs.Replies.{IsReplyOn};
