@@ -118,7 +118,7 @@ fn take_kept(lane: &mut Lane, bytes: &[u8], versions: Versions) -> Option<()> {
     }
 }
 
-// The error of want of memory.
+// The value, or the error of running out of memory.
 fn wanted<T: Drop>(value: Option<T>) -> io::Result<T> {
     match value {
         Some(value) => Ok(value),

@@ -152,7 +152,7 @@ module _ {B O : Type 0} (faults : O → ℕ) (told : O → Option (List ℕ)) (a
       written = join old mid new r.replies reply (r.replies ++ reply) tt (Ok tt) r.written wrote refl;
     }
 
-    -- a write failed, or want of memory came
+    -- a write failed, or memory ran out
     pub breaks : (new : O) (lanes' : List (Lane B)) (shown' : List (TablesValue × ℕ)) (seen' : List ℕ) (finished' : Bool) (fault : ScheduleFault) → HasStepped faults told aside meaning state event r.now mid new lanes' shown' seen' finished' (Err fault)
         → Leaves faults told meaning events start old new (Err fault)
     breaks new lanes' shown' seen' finished' Failed (reply, next, steps, failed, wrote) =

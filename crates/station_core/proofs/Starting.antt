@@ -11,7 +11,7 @@ use Rattle.query_lang.specs.declared.query.Query.{Query}
 use Rattle.rib_model.specs.declared.entry.Entry.{Entry}
 use Rattle.router_tables.specs.Tables.{TablesValue, StandsFor}
 use Rattle.wire_io.specs.Aside.{Aside}
-use Rattle.wire_io.specs.declared.bytes.NoMemory.{NoMemory as WantOfMemory}
+use Rattle.wire_io.specs.declared.bytes.NoMemory.{NoMemory as OutOfMemory}
 use Rattle.wire_io.proofs.Joins.{writes_none}
 use Rattle.station_core.specs.declared.event.Event.{Event}
 use Rattle.station_core.specs.declared.event.Event.TheVariants.{Begin, Take, End, Publish, Tell, Ask, Finish}
@@ -87,24 +87,24 @@ module _ {B : Type 0} (meaning : Meaning) (state : B → meaning.State) where
     silent event out lanes' shown' seen' finished' goes = ([], goes, writes_none out)
 
     module _ (s : Stands meaning state lanes shown seen false v) (out : O) where
-      wanted : (event : Event) (lanes' : List (Lane B)) (shown' : List (TablesValue × ℕ)) (r : Result (Unit {0}) WantOfMemory) → OnOk r (Goes meaning state event v [] lanes' shown' seen false) → Stepped event out out lanes' shown' seen false (as_fault r)
+      wanted : (event : Event) (lanes' : List (Lane B)) (shown' : List (TablesValue × ℕ)) (r : Result (Unit {0}) OutOfMemory) → OnOk r (Goes meaning state event v [] lanes' shown' seen false) → Stepped event out out lanes' shown' seen false (as_fault r)
       wanted event lanes' shown' (Ok done) goes = silent event out lanes' shown' seen false goes
       wanted event lanes' shown' (Err want) goes = refl
 
-      on_ok : {P Q : Type 0} (r : Result (Unit {0}) WantOfMemory) → (P → Q) → OnOk r P → OnOk r Q
+      on_ok : {P Q : Type 0} (r : Result (Unit {0}) OutOfMemory) → (P → Q) → OnOk r P → OnOk r Q
       on_ok (Ok done) f p = f p
       on_ok (Err want) f p = tt
 
-      pub begun : (lane : ℕ) (new : List (Lane B)) (r : Result (Unit {0}) WantOfMemory) → OnOk r (MovesLane meaning state (Begins meaning) lane lanes new) → Stepped (Begin lane) out out new shown seen false (as_fault r)
+      pub begun : (lane : ℕ) (new : List (Lane B)) (r : Result (Unit {0}) OutOfMemory) → OnOk r (MovesLane meaning state (Begins meaning) lane lanes new) → Stepped (Begin lane) out out new shown seen false (as_fault r)
       begun lane new r moves = wanted (Begin lane) new shown r (on_ok r (λ m. let c = changes meaning state (Begins meaning) lane lanes shown seen v s new m in record { next = c.0; steps = inl (s.mark, (c.1, refl)); stands = c.2 }) moves)
 
-      pub taken : (lane : ℕ) (piece : List ℕ) (new : List (Lane B)) (r : Result (Unit {0}) WantOfMemory) → OnOk r (MovesLane meaning state (ComesTo meaning (with_piece piece)) lane lanes new) → Stepped (Take lane piece) out out new shown seen false (as_fault r)
+      pub taken : (lane : ℕ) (piece : List ℕ) (new : List (Lane B)) (r : Result (Unit {0}) OutOfMemory) → OnOk r (MovesLane meaning state (ComesTo meaning (with_piece piece)) lane lanes new) → Stepped (Take lane piece) out out new shown seen false (as_fault r)
       taken lane piece new r moves = wanted (Take lane piece) new shown r (on_ok r (λ m. let c = changes meaning state (ComesTo meaning (with_piece piece)) lane lanes shown seen v s new m in record { next = c.0; steps = inl (s.mark, (c.1, refl)); stands = c.2 }) moves)
 
-      pub ended : (lane : ℕ) (fault : Bool) (new : List (Lane B)) (r : Result (Unit {0}) WantOfMemory) → OnOk r (MovesLane meaning state (ComesTo meaning (with_end fault)) lane lanes new) → Stepped (End lane fault) out out new shown seen false (as_fault r)
+      pub ended : (lane : ℕ) (fault : Bool) (new : List (Lane B)) (r : Result (Unit {0}) OutOfMemory) → OnOk r (MovesLane meaning state (ComesTo meaning (with_end fault)) lane lanes new) → Stepped (End lane fault) out out new shown seen false (as_fault r)
       ended lane fault new r moves = wanted (End lane fault) new shown r (on_ok r (λ m. let c = changes meaning state (ComesTo meaning (with_end fault)) lane lanes shown seen v s new m in record { next = c.0; steps = inl (s.mark, (c.1, refl)); stands = c.2 }) moves)
 
-      pub published : (lane : ℕ) (new : List (TablesValue × ℕ)) (r : Result (Unit {0}) WantOfMemory) → OnOk r (ShowsLane lanes lane shown new) → Stepped (Publish lane) out out lanes new seen false (as_fault r)
+      pub published : (lane : ℕ) (new : List (TablesValue × ℕ)) (r : Result (Unit {0}) OutOfMemory) → OnOk r (ShowsLane lanes lane shown new) → Stepped (Publish lane) out out lanes new seen false (as_fault r)
       published lane new r shows = wanted (Publish lane) lanes new r (on_ok r (λ m. let c = publishes meaning state lane lanes shown seen v s new m in record { next = c.0; steps = inl (s.mark, (c.1, refl)); stands = c.2 }) shows)
 
       pub told_of : AreFew v → (asker rev : ℕ) (new : List ℕ) → TellsOn shown asker rev seen new → Stepped (Tell asker rev) out out lanes shown new false (Ok tt)

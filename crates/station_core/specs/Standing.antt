@@ -11,7 +11,7 @@ use Rattle.query_eval.specs.Replies.{IsReplyOn, PutsReply}
 use Rattle.rib_model.specs.declared.entry.Entry.{Entry}
 use Rattle.rib_model.specs.Entries.{entry_value, entry_values}
 use Rattle.router_tables.specs.Tables.{TablesValue, StandsFor}
-use Rattle.wire_io.specs.declared.bytes.NoMemory.{NoMemory as WantOfMemory}
+use Rattle.wire_io.specs.declared.bytes.NoMemory.{NoMemory as OutOfMemory}
 use Rattle.wire_io.specs.Aside.{Aside, Given}
 use Rattle.wire_io.specs.Writes.{Writes}
 use Rattle.wire_io.specs.declared.sink.Failed.{Failed as WriteFailed}
@@ -102,8 +102,8 @@ AsksOn faults told aside shown asker query seen seen' old new (Ok done) =
 AsksOn faults told aside shown asker query seen seen' old new (Err Failed) = (asker < length seen) × (query ≢ quit) × (failed : WriteFailed) × PutsOn faults told aside shown query old (Err failed) new
 AsksOn faults told aside shown asker query seen seen' old new (Err NoMemory) = new ≡ old
 
--- what want of memory is in a schedule
-abbrev pub as_fault : Result (Unit {0}) WantOfMemory → Result (Unit {0}) ScheduleFault
+-- what running out of memory is in a schedule
+abbrev pub as_fault : Result (Unit {0}) OutOfMemory → Result (Unit {0}) ScheduleFault
 as_fault (Ok done) = Ok tt
 as_fault (Err want) = Err NoMemory
 
@@ -114,7 +114,7 @@ pub record Goes {B : Type 0} (meaning : Meaning) (state : B → meaning.State) (
   pub stands : Stands meaning state lanes shown seen finished next
 
 -- What one event does to what is kept and to a sink, from this state on: it is done, and its reply was written; a write of
--- its reply failed; or want of memory came, and nothing was written.
+-- its reply failed; or memory ran out, and nothing was written.
 abbrev pub HasStepped : {B O : Type 0} → (O → ℕ) → (O → Option (List ℕ)) → (O → Aside) → (meaning : Meaning) (state : B → meaning.State) → Event → MachineValue → O → O → List (Lane B) → List (TablesValue × ℕ) → List ℕ → Bool → Result (Unit {0}) ScheduleFault → Type 0
 HasStepped faults told aside meaning state event v old new lanes shown seen finished (Ok done) = (reply : List ℕ) × Goes meaning state event v reply lanes shown seen finished × Writes faults told aside old reply (Ok tt) new
 HasStepped faults told aside meaning state event v old new lanes shown seen finished (Err Failed) = (reply : List ℕ) × (next : MachineValue) × Steps meaning event v next reply × (failed : WriteFailed) × Writes faults told aside old reply (Err failed) new

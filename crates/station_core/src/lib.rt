@@ -1,4 +1,5 @@
-//! The machine of lanes and askers: every order of their events, on one thread.
+//! A model that tests run and no program uses: lanes and askers as one machine, with every order of their events, on one
+//! thread.
 //!
 //! A lane serves one connection of its router after another (RFC 7854, section 3.2), and an asker asks queries. On
 //! running threads their events come in some order; here the order is given, as a schedule. A connection begins, gives

@@ -94,7 +94,7 @@ pub fn lanes_of<'a, J: Naming, R: Clock>(
     Some(lanes)
 }
 
-// Takes the connection of a lane. None for want of memory.
+// Takes the connection of a lane. None where memory runs out.
 fn take<'a, J: Naming, R: Wait + Clock>(
     rt: &R,
     alloc: Global,
@@ -133,7 +133,7 @@ fn take<'a, J: Naming, R: Wait + Clock>(
 }
 
 impl<'a, J: Naming, R: Wait + Clock> Lane<'a, J, R> {
-    // Takes the connection. None for want of memory.
+    // Takes the connection. None where memory runs out.
     fn serve(
         self,
         rt: &R,
@@ -150,7 +150,7 @@ impl<'a, J: Naming, R: Wait + Clock> Lane<'a, J, R> {
 }
 
 /// Takes the connections of all lanes at once, each in a thread beside the one that calls, as a station's lanes are. None
-/// for want of memory.
+/// where memory runs out.
 pub fn serve_all<J: Naming + Send + Sync, R: Threads + Wait + Clock + Sync>(
     rt: &R,
     alloc: Global,
