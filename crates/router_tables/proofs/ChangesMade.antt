@@ -80,6 +80,11 @@ pub rows_made : (pending : PendingTables) (tables : Tables) (effects : List Effe
 rows_made [] tables effects none h row = subst (λ (o : Option (Option AttrsValue)). (changed o (route_at tables row.row_key) ≡ Some row.route) ↔ HasRow effects row) (nothing row.row_key.view row.row_key.nlri) (h row)
 rows_made (p ∷ pending) tables effects none h row = let e : false ≡ true = none (omega arith) in absurd cc
 
+-- nor is one gathered yet
+pub rows_settled : (pending : PendingTables) (tables : Tables) (effects : List EffectValue) → pending ≡ [] → AreRowsOf tables effects → AreRowsAfter pending tables effects
+rows_settled [] tables effects none h row = subst (λ (o : Option (Option AttrsValue)). (changed o (route_at tables row.row_key) ≡ Some row.route) ↔ HasRow effects row) (sym (nothing row.row_key.view row.row_key.nlri)) (h row)
+rows_settled (p ∷ pending) tables effects none h row = absurd cc
+
 -- no tables have no rows
 pub no_rows : (pending : PendingTables) (tables : Tables) → pending ≡ [] → tables ≡ [] → AreRowsAfter pending tables []
 no_rows [] [] p t row = (

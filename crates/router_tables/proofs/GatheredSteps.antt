@@ -103,7 +103,7 @@ module _ (all more : List StepValue) (last : List Step) (passed : ℕ) (is : map
   long : length last ≡ length more - passed
   long = sym (length-map last step_value) ∙ ap (λ (l : List StepValue). length l) is ∙ length-drop passed more
 
-  items_of : (old new : List Step) → map step_value old ≡ last_items all → map step_value new ≡ map step_value (last_items (old ++ last)) → map step_value new ≡ last_items (all ++ more)
+  pub items_of : (old new : List Step) → map step_value old ≡ last_items all → map step_value new ≡ map step_value (last_items (old ++ last)) → map step_value new ≡ last_items (all ++ more)
   items_of old new was same =
       let kind : (length (take passed more) ≡ 0) ⊎ (1024 ≤ length (drop passed more)) = elim fits [
         | inl none ↦ inl (omega (arith, none, length-take passed more))

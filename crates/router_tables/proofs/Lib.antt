@@ -12,3 +12,5 @@ pub mod RowEffects
 pub mod SessionRows
 pub mod EntrySteps
 pub mod GatheredSteps
+pub mod LastToTell
+pub mod Builders

@@ -5,3 +5,4 @@ pub mod Views
 pub mod Tables
 pub mod Pending
 pub mod Taken
+pub mod Building

@@ -1,4 +1,4 @@
-ghost use Rattle.std.specs.Prelude.{◌≡◌, ◌-◌, ◌^◌, [], ◌∷◌, ◌++◌, List, drop, length, map, min, filter_map, IfOk, OnOk};
+ghost use Rattle.std.specs.Prelude.{◌≡◌, ◌-◌, ◌^◌, ◌≤◌, ◌⊎◌, [], ◌∷◌, ◌++◌, List, drop, length, map, min, filter_map, IfOk, OnOk};
 ghost use Rattle.std.specs.Arc.{arc_value};
 ghost use Rattle.bmp_specs.specs.Steps.{step_of, steps_in, steps_of};
 ghost use Rattle.bmp_specs.specs.Values.{EntryValue, announce_step, withdraw_step};
@@ -19,7 +19,7 @@ use std::sync::Arc;
 use wire_io::NoMemory;
 
 // How many steps are kept.
-const KEPT: usize = 1024;
+pub(crate) const KEPT: usize = 1024;
 
 // With fewer steps than this, each is pushed.
 const FEW: usize = 64;
@@ -60,7 +60,7 @@ fn count_entry(entry: &Entry) -> usize
 }
 
 // How many steps entries have, at most 2^64 - 1.
-fn count_entries(entries: &[Entry]) -> usize
+pub(crate) fn count_entries(entries: &[Entry]) -> usize
     ensures { result ≡ min (length (steps_of (entry_values entries.now))) (2 ^ 64 - 1) }
 {
     let mut count: usize = 0;
@@ -226,5 +226,26 @@ pub(crate) fn steps_with(
     let passed = count.saturating_sub(KEPT);
     let last = gathered(alloc, entries, passed, count - passed)?;
     let steps = before.with_last(passed as u64, last)?;
+    Ok(steps)
+}
+
+// The last steps with those of these entries, behind others whose steps are passed over. Where there are such, these entries
+// have 1,024 at least.
+pub(crate) fn steps_past(
+    alloc: Global,
+    before: &Recent<Step>,
+    passed: u64,
+    entries: &[Entry],
+) -> Result<Recent<Step>, NoMemory>
+    ensures { IfOk result (λ steps. (so_far past : List EntryValue) → steps_told before.now ≡ recent (steps_of so_far) → passed ≡ min (length (steps_of past)) (2 ^ 64 - 1)
+        → (passed ≡ 0) ⊎ (1024 ≤ length (steps_of (entry_values entries.now))) → steps_told steps ≡ recent (steps_of ((so_far ++ past) ++ entry_values entries.now))) }
+{
+    if passed == 0 {
+        return steps_with(alloc, before, entries);
+    }
+    let count = count_entries(entries);
+    let first = count.saturating_sub(KEPT);
+    let last = gathered(alloc, entries, first, count - first)?;
+    let steps = before.with_last(passed.saturating_add(first as u64), last)?;
     Ok(steps)
 }

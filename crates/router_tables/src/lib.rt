@@ -6,20 +6,24 @@
 //! for each peer and RIB, and the last steps of the whole list. Equal tables are had for the price of counters.
 //!
 //! While entries are taken, the changes of routes are gathered for each peer and RIB, and a peer that comes up or
-//! goes down drops what is gathered for it. At the end each table takes one run for all of them.
+//! goes down drops what is gathered for it. At the end each table takes one run for all of them. `TablesBuilder` gathers
+//! them over many calls, for tables that are read only once all entries are taken.
 //!
 //! Proved: new tables stand for no entries; tables that stand for some entries stand for them with any others behind
 //! them after `with`, `extend` and `apply`, and after want of memory they are as before; equal tables have the same
 //! parts. That a table takes one run for all its changes is in no contract.
 //! Begin with `specs/Tables.antt` and `specs/Session.antt`, then `src/tables.rt` and `src/taken.rt`; routes are
-//! gathered in `src/rows.rt` and `src/pending.rt`, and changed in `src/changed.rt`.
+//! gathered in `src/rows.rt` and `src/pending.rt`, and changed in `src/changed.rt`. Tables in the making are in
+//! `src/builder.rt`.
 #![tactic(auto)]
 
 mod books;
+mod builder;
 mod changed;
 mod counting;
 mod effects;
 mod last_steps;
+mod late_steps;
 mod owned;
 mod pending;
 mod rows;
@@ -33,5 +37,6 @@ mod tables;
 mod taken;
 mod views;
 
+pub use builder::TablesBuilder;
 pub use state::LaneState;
 pub use tables::RouterTables;

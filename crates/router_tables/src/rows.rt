@@ -48,6 +48,14 @@ impl Rows {
         }
     }
 
+    // Makes all changes that are gathered. After want of memory the rows may only be dropped.
+    pub(crate) fn settle(&mut self) -> Result<(), NoMemory>
+        ensures { OnOk result ((effects : List EffectValue) → StandsForRows self.old effects → StandsForRows self.new effects) }
+    {
+        let pending = std::mem::replace(&mut self.pending, BTreeMap::new(self.alloc));
+        make_changes(self.alloc, pending, &mut self.tables)
+    }
+
     // The tables with all changes made. After want of memory nothing is left.
     pub(crate) fn into_tables(self) -> Result<BTreeMap<PeerKey, Views>, NoMemory>
         ensures { IfOk result (λ tables. (effects : List EffectValue) → StandsForRows self effects → AreRowsOf tables.entries effects) }

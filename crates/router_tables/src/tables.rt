@@ -27,10 +27,10 @@ use wire_io::NoMemory;
 /// The tables of one router, which stand for the entries of its lane (`StandsFor`).
 #[derive(Drop)]
 pub struct RouterTables {
-    alloc: Global,
-    session: Session,
-    tables: BTreeMap<PeerKey, Views>,
-    steps: Recent<Step>,
+    pub(crate) alloc: Global,
+    pub(crate) session: Session,
+    pub(crate) tables: BTreeMap<PeerKey, Views>,
+    pub(crate) steps: Recent<Step>,
 }
 
 impl Model for RouterTables {

@@ -1,4 +1,4 @@
-use Rattle.std.proofs.Common.{◌+◌, ◌-◌, ◌++◌, ◌∙◌, ap, arith, drop, length, map, take}
+use Rattle.std.proofs.Common.{◌-◌, ◌++◌, ◌∙◌, ap, arith, drop, length, map, take}
 use Rattle.std.specs.Prelude.{filter_map}
 use Rattle.bmp_specs.specs.Steps.{step_of}
 use Rattle.rib_model.specs.Effects.{item_values, effect_values}
