@@ -1,6 +1,7 @@
 //! The rows of the tables that the input leaves, each judged by the validated ROA payloads (VRPs) of a file (RFC 6811).
 
-ghost use Rattle.std.specs.Prelude.{◌≡◌};
+ghost use Rattle.std.specs.Prelude.{◌≡◌, IfOk, IfErr};
+ghost use Rattle.rov_table.specs.VrpFile.{AreVrps, IsFaultOf, file_records};
 ghost use Rattle.bmp_specs.specs.LenientBody.{meaning_of};
 ghost use Rattle.wire_io.specs.Writes.{Writes};
 ghost use Rattle.station_top.specs.Rov.{IsRefused};
@@ -19,7 +20,7 @@ use rov_reply::put_rov_reply;
 use rov_table::{VrpFault, VrpTable};
 use station_doors::{FileFault, Yard};
 use std::alloc::Global;
-use wire_io::{Failed, NoMemory, Sink, write_all};
+use wire_io::{ByteList, Failed, NoMemory, Sink, write_all};
 
 /// The VRPs that rows are judged by, and the prefix that the rows are within.
 #[derive(Drop)]
@@ -102,6 +103,14 @@ fn refuse<O: Sink>(out: &mut O, fault: VrpFault) -> Status
     }
 }
 
+// Reads the VRPs of a file, and drops the file's bytes: while the input is taken only the VRPs are held.
+fn read_vrps(alloc: Global, file: ByteList) -> Result<VrpTable, VrpFault>
+    ensures are { IfOk result (AreVrps (file_records file)) }
+    ensures fault { IfErr result (IsFaultOf (file_records file)) }
+{
+    VrpTable::read(alloc, file.as_slice())
+}
+
 /// Asks the yard for the file of this path, and then takes the input and judges its rows within the prefix by the VRPs
 /// of the file.
 pub(crate) fn run_rov<Y: Yard, O: Sink>(
@@ -126,7 +135,7 @@ pub(crate) fn run_rov<Y: Yard, O: Sink>(
             return unless_failed(write_all(out, b"longfile\n"), Status::BadFile);
         }
     };
-    let vrps = match VrpTable::read(alloc, file.as_slice()) {
+    let vrps = match read_vrps(alloc, file) {
         Ok(vrps) => vrps,
         Err(fault) => return refuse(out, fault),
     };

@@ -1,7 +1,6 @@
-use Rattle.std.proofs.Common.{◌∙◌, ℕ, List, Err, refl, ap, subst}
+use Rattle.std.proofs.Common.{◌∙◌, ℕ, Err, refl, ap, subst}
 use Rattle.bmp_specs.specs.LenientBody.{meaning_of}
 use Rattle.rov_reply.specs.RovLines.{IsRovReply}
-use Rattle.rov_table.specs.VrpFile.{file_records, AreVrps, IsFaultOf}
 use Rattle.station_doors.specs.Doors.{one_more}
 use Rattle.station_top.specs.Station.{Concludes, file_starved, judged}
 use Rattle.station_top.proofs.Judging.{concludes_refused}
@@ -13,9 +12,9 @@ returns-in-Err-NoMemory-clause-concludes g c = file_starved (Err c.in-Err-NoMemo
 pub returns-in-Err-clause-concludes : goal.returns-in-Err-clause-concludes
 returns-in-Err-clause-concludes g c =
     concludes_refused (meaning_of c.args.lenient) c.args.path.now c.args.prefix (g.Y.Yard.told c.args.yard.now) (g.Y.Yard.told c.file.new.self) (g.Y.Yard.calls c.args.yard.now) (g.Y.Yard.calls c.file.new.self) (g.O.Sink.told c.args.out.now) (g.O.Sink.told c.refuse.new.out) c.refuse.result
-    c.in-Ok.file c.in-Err.fault c.in-Ok.ensures.told (subst (λ (l : List ℕ). IsFaultOf (file_records l) c.in-Err.fault) c.as_slice.ensures c.in-Err.ensures.fault) c.file.ensures.calls c.refuse.ensures.told
+    c.in-Ok.file c.in-Err.fault c.in-Ok.ensures.told c.in-Err.ensures.fault c.file.ensures.calls c.refuse.ensures.told
 
 pub returns-clause-concludes : goal.returns-clause-concludes
 returns-clause-concludes g c =
-    judged c.in-Ok.file c.in-Ok-read.vrps (g.Y.Yard.told c.file.new.self) c.in-Ok.ensures.told (subst (λ (l : List ℕ). AreVrps (file_records l) c.in-Ok-read.vrps) c.as_slice.ensures c.in-Ok-read.ensures.are) (c.run_by.ensures.calls ∙ ap one_more c.file.ensures.calls)
-    (subst (λ (n : ℕ). Concludes (meaning_of c.args.lenient) (IsRovReply c.in-Ok-read.vrps c.args.prefix) (g.Y.Yard.told c.file.new.self) (g.Y.Yard.told c.run_by.new.yard) n (g.O.Sink.told c.args.out.now) (g.O.Sink.told c.run_by.new.out) c.run_by.result) c.file.ensures.calls c.run_by.ensures.concludes)
+    judged c.in-Ok.file c.in-Ok-read_vrps.vrps (g.Y.Yard.told c.file.new.self) c.in-Ok.ensures.told c.in-Ok-read_vrps.ensures.are (c.run_by.ensures.calls ∙ ap one_more c.file.ensures.calls)
+    (subst (λ (n : ℕ). Concludes (meaning_of c.args.lenient) (IsRovReply c.in-Ok-read_vrps.vrps c.args.prefix) (g.Y.Yard.told c.file.new.self) (g.Y.Yard.told c.run_by.new.yard) n (g.O.Sink.told c.args.out.now) (g.O.Sink.told c.run_by.new.out) c.run_by.result) c.file.ensures.calls c.run_by.ensures.concludes)
