@@ -1,5 +1,6 @@
--- Which words are a query behind `replay` or a file and a prefix behind `rov`, and which are no command.
-use Rattle.std.proofs.Common.{◌≡◌, ◌≢◌, ℕ, ◌-◌, ◌<◌, ◌≤◌, Bool, true, false, List, [], ◌∷◌, length, map, get_or, take, drop, codes, Option, Some, None, IfSome, IfNone, refl, sym, ap, ◌∙◌, subst, arith, inl, inr}
+-- Which words are a query behind `replay`, a file and a prefix behind `rov` or a file and a query behind `recall`, and which
+-- are no command.
+use Rattle.std.proofs.Common.{◌≡◌, ◌≢◌, ℕ, ◌+◌, ◌-◌, ◌<◌, ◌≤◌, Bool, true, false, List, [], ◌∷◌, length, map, get_or, take, drop, codes, Option, Some, None, IfSome, IfNone, Result, Ok, Err, IfOk, refl, sym, ap, ◌∙◌, subst, arith, inl, inr}
 use Rattle.std.specs.Prelude.{◌⊎◌}
 use Rattle.std.specs.List.{join_with_byte}
 use Rattle.std.proofs.lemmas.List.{length-map, take_rest}
@@ -11,11 +12,11 @@ use Rattle.query_lang.specs.declared.query.Query.{Query}
 use Rattle.query_lang.specs.declared.query.Query.TheVariants.{Routers, Cut, Peers, Marks, Table, Count, Exact, Longest, Within, Origin, Stats, Changes, Quit}
 use Rattle.station_top.specs.DrillWords.{IsDrill}
 use Rattle.station_top.specs.ServeWords.{IsServe}
-use Rattle.station_top.specs.Words.{IsAsking, IsCall, IsCommand, IsPlain, IsReplay, IsRov, IsRovCall, IsRovOf, NamesFile, file_in}
+use Rattle.station_top.specs.Words.{AsksOf, IsAsking, IsCall, IsCommand, IsPlain, IsRecall, IsRecallCall, IsRecallOf, IsReplay, IsRov, IsRovCall, IsRovOf, NamesFile, file_in}
 use Rattle.station_top.specs.declared.drill_words.DrillWords.{DrillWords}
 use Rattle.station_top.specs.declared.serve_words.ServeWords.{ServeWords}
 use Rattle.station_top.specs.declared.words.Command.{Command}
-use Rattle.station_top.specs.declared.words.Command.TheVariants.{Replay, Check, Serve, Drill, Relay, Rov, Help, Version}
+use Rattle.station_top.specs.declared.words.Command.TheVariants.{Replay, Check, Serve, Drill, Relay, Rov, Recall, Help, Version}
 
 -- no other query is the end of a session
 pub not_quit : (query : Query) → ¬ (query ≡ Quit) → query_value query ≢ quit
@@ -109,130 +110,183 @@ rov_call prefix lenient words is =
     found true path given asked plain names = ap (λ (l : List (List ℕ)). get_or l 1 []) (plain ∙ ap (λ (l : List (List ℕ)). codes "--lenient" ∷ l) names.spelled)
     found false path given asked plain names = ap (λ (l : List (List ℕ)). get_or l 0 []) (sym plain.0 ∙ names.spelled)
 
--- the first letter of a command's name
-letter : (first name : List ℕ) (n : ℕ) → first ≡ name → get_or name 0 0 ≡ n → get_or first 0 0 ≡ n
-letter first name n is at = ap (λ (l : List ℕ). get_or l 0 0) is ∙ at
+-- the words are a file and those of a query, however they are taken
+pub no_recalled : (b : Bool) (given asked : List (List ℕ)) → IsPlain b given asked → ((file : List ℕ) (query : QueryValue) → AsksOf file query asked → ⊥) → (query : QueryValue) (d : Bool) → IsRecall query d given → ⊥
+no_recalled b given asked is none query d (file, (others, plain, asks)) =
+    let same = (same_plain b d given asked others is plain).0 in
+    none file query (subst (λ (words : List (List ℕ)). AsksOf file query words) (sym same) asks)
 
-help_letter : (first : List ℕ) → (first ≡ codes "--help") ⊎ (first ≡ codes "-h") → get_or first 0 0 ≡ 45
-help_letter first (inl is) = letter first (codes "--help") 45 is refl
-help_letter first (inr is) = letter first (codes "-h") 45 is refl
+-- the words begin with a file, and those behind it are a query, or none
+pub a_file : {X : Type 0} (text : X → List ℕ) (words : List X) → 0 < length words → (file : List ℕ) × (map text words ≡ file ∷ map text (take (length words - 1) (drop 1 words)))
+a_file text [] some = absurd (omega (arith, some))
+a_file text (word ∷ words) some =
+    let rest : take (length (word ∷ words) - 1) (drop 1 (word ∷ words)) ≡ words = take_rest (word ∷ words) 1 in
+    (text word, ap (λ others. text word ∷ map text others) (sym rest))
 
-version_letter : (first : List ℕ) → (first ≡ codes "--version") ⊎ (first ≡ codes "-V") → get_or first 0 0 ≡ 45
-version_letter first (inl is) = letter first (codes "--version") 45 is refl
-version_letter first (inr is) = letter first (codes "-V") 45 is refl
+pub asks_of : {E : Type 0} (words asked : List (List ℕ)) (file : List ℕ) → words ≡ file ∷ asked → (found : Result Query E) → IfOk found (λ query. IsAsking (join_with_byte space asked) (query_value query)) → IfOk found (λ query. (named : List ℕ) × AsksOf named (query_value query) words)
+asks_of words asked file split (Ok query) is = (file, record { asked = asked; spelled = split; is_asking = is })
+asks_of words asked file split (Err fault) is = tt
 
--- the first letter tells the command, but `replay`, `relay` and `rov` have the same
-abbrev pub LetterOf : Command → ℕ
-LetterOf (Replay query) = 114
-LetterOf Check = 99
-LetterOf (Serve serve) = 115
-LetterOf (Drill drill) = 100
-LetterOf Relay = 114
-LetterOf (Rov prefix) = 114
-LetterOf Help = 45
-LetterOf Version = 45
+pub asks_none : (words asked : List (List ℕ)) (file : List ℕ) → words ≡ file ∷ asked → ((query : QueryValue) → IsAsking (join_with_byte space asked) query → ⊥) → (named : List ℕ) (query : QueryValue) → AsksOf named query words → ⊥
+asks_none words asked file split none named query asks =
+    let both : file ∷ asked ≡ named ∷ asks.asked = sym split ∙ asks.spelled in
+    let same : asked ≡ asks.asked = cc both in
+    none query (subst (λ (l : List (List ℕ)). IsAsking (join_with_byte space l) query) (sym same) asks.is_asking)
 
-has_letter : (command : Command) (lenient : Bool) (first : List ℕ) (given : List (List ℕ)) → IsCommand command lenient first given → get_or first 0 0 ≡ LetterOf command
-has_letter (Replay query) lenient first given is = letter first (codes "replay") 114 is.0 refl
-has_letter Check lenient first given is = letter first (codes "check") 99 is.0 refl
-has_letter (Serve serve) lenient first given is = letter first (codes "serve") 115 is.0 refl
-has_letter (Drill drill) lenient first given is = letter first (codes "drill") 100 is.0 refl
-has_letter Relay lenient first given is = letter first (codes "relay") 114 is.0 refl
-has_letter (Rov prefix) lenient first given is = letter first (codes "rov") 114 is.0 refl
-has_letter Help lenient first given is = help_letter first is.0
-has_letter Version lenient first given is = version_letter first is.0
+pub asks_nothing : {X : Type 0} (text : X → List ℕ) (words : List X) → length words < 1 → (file : List ℕ) (query : QueryValue) → AsksOf file query (map text words) → ⊥
+asks_nothing text [] none file query asks = cc asks.spelled
+asks_nothing text (word ∷ words) none file query asks = absurd (omega (arith, none))
 
--- their lengths tell `replay`, `relay` and `rov` apart
-replay_no_relay : (first : List ℕ) → first ≡ codes "replay" → first ≡ codes "relay" → ⊥
-replay_no_relay first one two = let same : codes "replay" ≡ codes "relay" = sym one ∙ two in omega (arith, ap length same)
+-- The file of a call of `recall`, and that it stands at its place among the words.
+pub recall_call : (query : Query) (lenient : Bool) (words : List (List ℕ)) → IsCall (record { command = Recall query; lenient = lenient }) words → (file : List ℕ) × IsRecallCall file (query_value query) lenient words × (file_in lenient words ≡ file)
+recall_call query lenient words is =
+    let file = is.is_command.1.0 in
+    let recall : IsRecallOf file (query_value query) lenient is.given = is.is_command.1.1 in
+    let spelled : words ≡ codes "recall" ∷ is.given = is.spelled ∙ ap (λ (l : List ℕ). l ∷ is.given) is.is_command.0 in
+    (file, record { given = is.given; spelled = spelled; is_recall = recall }, ap (λ (l : List (List ℕ)). file_in lenient l) spelled ∙ found lenient file is.given recall.0 recall.1 recall.2)
+  where
+    found : (b : Bool) (path : List ℕ) (given asked : List (List ℕ)) → IsPlain b given asked → AsksOf path (query_value query) asked → file_in b (codes "recall" ∷ given) ≡ path
+    found true path given asked plain asks = ap (λ (l : List (List ℕ)). get_or l 1 []) (plain ∙ ap (λ (l : List (List ℕ)). codes "--lenient" ∷ l) asks.spelled)
+    found false path given asked plain asks = ap (λ (l : List (List ℕ)). get_or l 0 []) (sym plain.0 ∙ asks.spelled)
 
-replay_no_rov : (first : List ℕ) → first ≡ codes "replay" → first ≡ codes "rov" → ⊥
-replay_no_rov first one two = let same : codes "replay" ≡ codes "rov" = sym one ∙ two in omega (arith, ap length same)
+-- The first and the third letter of a command's name tell the command: a name's mark is their sum.
+abbrev pub mark_of : List ℕ → ℕ
+mark_of first = get_or first 0 0 + get_or first 2 0
 
-relay_no_rov : (first : List ℕ) → first ≡ codes "relay" → first ≡ codes "rov" → ⊥
-relay_no_rov first one two = let same : codes "relay" ≡ codes "rov" = sym one ∙ two in omega (arith, ap length same)
+marked : (first name : List ℕ) (n : ℕ) → first ≡ name → mark_of name ≡ n → mark_of first ≡ n
+marked first name n is at = ap (λ (l : List ℕ). mark_of l) is ∙ at
+
+help_mark : (first : List ℕ) → (first ≡ codes "--help") ⊎ (first ≡ codes "-h") → mark_of first ≤ 163
+help_mark first (inl is) = omega (arith, marked first (codes "--help") 149 is refl)
+help_mark first (inr is) = omega (arith, marked first (codes "-h") 45 is refl)
+
+version_mark : (first : List ℕ) → (first ≡ codes "--version") ⊎ (first ≡ codes "-V") → mark_of first ≤ 163
+version_mark first (inl is) = omega (arith, marked first (codes "--version") 163 is refl)
+version_mark first (inr is) = omega (arith, marked first (codes "-V") 45 is refl)
+
+abbrev pub HasMark : Command → ℕ → Type 0
+HasMark (Replay query) n = n ≡ 226
+HasMark Check n = n ≡ 200
+HasMark (Serve serve) n = n ≡ 229
+HasMark (Drill drill) n = n ≡ 205
+HasMark Relay n = n ≡ 222
+HasMark (Rov prefix) n = n ≡ 232
+HasMark (Recall query) n = n ≡ 213
+HasMark Help n = n ≤ 163
+HasMark Version n = n ≤ 163
+
+has_mark : (command : Command) (lenient : Bool) (first : List ℕ) (given : List (List ℕ)) → IsCommand command lenient first given → HasMark command (mark_of first)
+has_mark (Replay query) lenient first given is = marked first (codes "replay") 226 is.0 refl
+has_mark Check lenient first given is = marked first (codes "check") 200 is.0 refl
+has_mark (Serve serve) lenient first given is = marked first (codes "serve") 229 is.0 refl
+has_mark (Drill drill) lenient first given is = marked first (codes "drill") 205 is.0 refl
+has_mark Relay lenient first given is = marked first (codes "relay") 222 is.0 refl
+has_mark (Rov prefix) lenient first given is = marked first (codes "rov") 232 is.0 refl
+has_mark (Recall query) lenient first given is = marked first (codes "recall") 213 is.0 refl
+has_mark Help lenient first given is = help_mark first is.0
+has_mark Version lenient first given is = version_mark first is.0
 
 module _ (first : List ℕ) (given : List (List ℕ)) where
   pub no_replay : first ≡ codes "replay" → ((query : QueryValue) (lenient : Bool) → IsReplay query lenient given → ⊥) → (command : Command) (lenient : Bool) → IsCommand command lenient first given → ⊥
-  no_replay named none command lenient is = go command is (letter first (codes "replay") 114 named refl) (has_letter command lenient first given is)
+  no_replay named none command lenient is = go command is (marked first (codes "replay") 226 named refl) (has_mark command lenient first given is)
     where
-      go : (command : Command) → IsCommand command lenient first given → get_or first 0 0 ≡ 114 → get_or first 0 0 ≡ LetterOf command → ⊥
+      go : (command : Command) → IsCommand command lenient first given → mark_of first ≡ 226 → HasMark command (mark_of first) → ⊥
       go (Replay query) is one two = none (query_value query) lenient is.1
-      go Relay is one two = replay_no_relay first named is.0
-      go (Rov prefix) is one two = replay_no_rov first named is.0
       go Check is one two = absurd (omega (arith, one, two))
       go (Serve serve) is one two = absurd (omega (arith, one, two))
       go (Drill drill) is one two = absurd (omega (arith, one, two))
+      go Relay is one two = absurd (omega (arith, one, two))
+      go (Rov prefix) is one two = absurd (omega (arith, one, two))
+      go (Recall query) is one two = absurd (omega (arith, one, two))
       go Help is one two = absurd (omega (arith, one, two))
       go Version is one two = absurd (omega (arith, one, two))
 
   pub no_serve : first ≡ codes "serve" → ((serve : ServeWords) (lenient : Bool) → IsServe serve lenient given → ⊥) → (command : Command) (lenient : Bool) → IsCommand command lenient first given → ⊥
-  no_serve named none command lenient is = go command is (letter first (codes "serve") 115 named refl) (has_letter command lenient first given is)
+  no_serve named none command lenient is = go command is (marked first (codes "serve") 229 named refl) (has_mark command lenient first given is)
     where
-      go : (command : Command) → IsCommand command lenient first given → get_or first 0 0 ≡ 115 → get_or first 0 0 ≡ LetterOf command → ⊥
+      go : (command : Command) → IsCommand command lenient first given → mark_of first ≡ 229 → HasMark command (mark_of first) → ⊥
       go (Serve serve) is one two = none serve lenient is.1
-      go Relay is one two = absurd (omega (arith, one, two))
-      go (Rov prefix) is one two = absurd (omega (arith, one, two))
       go (Replay query) is one two = absurd (omega (arith, one, two))
       go Check is one two = absurd (omega (arith, one, two))
       go (Drill drill) is one two = absurd (omega (arith, one, two))
+      go Relay is one two = absurd (omega (arith, one, two))
+      go (Rov prefix) is one two = absurd (omega (arith, one, two))
+      go (Recall query) is one two = absurd (omega (arith, one, two))
       go Help is one two = absurd (omega (arith, one, two))
       go Version is one two = absurd (omega (arith, one, two))
 
   pub no_check : first ≡ codes "check" → ((lenient : Bool) → IsPlain lenient given [] → ⊥) → (command : Command) (lenient : Bool) → IsCommand command lenient first given → ⊥
-  no_check named none command lenient is = go command is (letter first (codes "check") 99 named refl) (has_letter command lenient first given is)
+  no_check named none command lenient is = go command is (marked first (codes "check") 200 named refl) (has_mark command lenient first given is)
     where
-      go : (command : Command) → IsCommand command lenient first given → get_or first 0 0 ≡ 99 → get_or first 0 0 ≡ LetterOf command → ⊥
+      go : (command : Command) → IsCommand command lenient first given → mark_of first ≡ 200 → HasMark command (mark_of first) → ⊥
       go Check is one two = none lenient is.1
-      go Relay is one two = absurd (omega (arith, one, two))
-      go (Rov prefix) is one two = absurd (omega (arith, one, two))
       go (Replay query) is one two = absurd (omega (arith, one, two))
       go (Serve serve) is one two = absurd (omega (arith, one, two))
       go (Drill drill) is one two = absurd (omega (arith, one, two))
+      go Relay is one two = absurd (omega (arith, one, two))
+      go (Rov prefix) is one two = absurd (omega (arith, one, two))
+      go (Recall query) is one two = absurd (omega (arith, one, two))
       go Help is one two = absurd (omega (arith, one, two))
       go Version is one two = absurd (omega (arith, one, two))
 
   pub no_relay : first ≡ codes "relay" → ((lenient : Bool) → IsPlain lenient given [] → ⊥) → (command : Command) (lenient : Bool) → IsCommand command lenient first given → ⊥
-  no_relay named none command lenient is = go command is (letter first (codes "relay") 114 named refl) (has_letter command lenient first given is)
+  no_relay named none command lenient is = go command is (marked first (codes "relay") 222 named refl) (has_mark command lenient first given is)
     where
-      go : (command : Command) → IsCommand command lenient first given → get_or first 0 0 ≡ 114 → get_or first 0 0 ≡ LetterOf command → ⊥
+      go : (command : Command) → IsCommand command lenient first given → mark_of first ≡ 222 → HasMark command (mark_of first) → ⊥
       go Relay is one two = none lenient is.1
-      go (Replay query) is one two = replay_no_relay first is.0 named
-      go (Rov prefix) is one two = relay_no_rov first named is.0
+      go (Replay query) is one two = absurd (omega (arith, one, two))
       go Check is one two = absurd (omega (arith, one, two))
       go (Serve serve) is one two = absurd (omega (arith, one, two))
       go (Drill drill) is one two = absurd (omega (arith, one, two))
+      go (Rov prefix) is one two = absurd (omega (arith, one, two))
+      go (Recall query) is one two = absurd (omega (arith, one, two))
       go Help is one two = absurd (omega (arith, one, two))
       go Version is one two = absurd (omega (arith, one, two))
 
   pub no_rov : first ≡ codes "rov" → ((prefix : PrefixValue) (lenient : Bool) → IsRov prefix lenient given → ⊥) → (command : Command) (lenient : Bool) → IsCommand command lenient first given → ⊥
-  no_rov named none command lenient is = go command is (letter first (codes "rov") 114 named refl) (has_letter command lenient first given is)
+  no_rov named none command lenient is = go command is (marked first (codes "rov") 232 named refl) (has_mark command lenient first given is)
     where
-      go : (command : Command) → IsCommand command lenient first given → get_or first 0 0 ≡ 114 → get_or first 0 0 ≡ LetterOf command → ⊥
+      go : (command : Command) → IsCommand command lenient first given → mark_of first ≡ 232 → HasMark command (mark_of first) → ⊥
       go (Rov prefix) is one two = none prefix lenient is.1
-      go Relay is one two = relay_no_rov first is.0 named
-      go (Replay query) is one two = replay_no_rov first is.0 named
+      go (Replay query) is one two = absurd (omega (arith, one, two))
       go Check is one two = absurd (omega (arith, one, two))
       go (Serve serve) is one two = absurd (omega (arith, one, two))
       go (Drill drill) is one two = absurd (omega (arith, one, two))
+      go Relay is one two = absurd (omega (arith, one, two))
+      go (Recall query) is one two = absurd (omega (arith, one, two))
+      go Help is one two = absurd (omega (arith, one, two))
+      go Version is one two = absurd (omega (arith, one, two))
+
+  pub no_recall : first ≡ codes "recall" → ((query : QueryValue) (lenient : Bool) → IsRecall query lenient given → ⊥) → (command : Command) (lenient : Bool) → IsCommand command lenient first given → ⊥
+  no_recall named none command lenient is = go command is (marked first (codes "recall") 213 named refl) (has_mark command lenient first given is)
+    where
+      go : (command : Command) → IsCommand command lenient first given → mark_of first ≡ 213 → HasMark command (mark_of first) → ⊥
+      go (Recall query) is one two = none (query_value query) lenient is.1
+      go (Replay query) is one two = absurd (omega (arith, one, two))
+      go Check is one two = absurd (omega (arith, one, two))
+      go (Serve serve) is one two = absurd (omega (arith, one, two))
+      go (Drill drill) is one two = absurd (omega (arith, one, two))
+      go Relay is one two = absurd (omega (arith, one, two))
+      go (Rov prefix) is one two = absurd (omega (arith, one, two))
       go Help is one two = absurd (omega (arith, one, two))
       go Version is one two = absurd (omega (arith, one, two))
 
   pub no_drill : first ≡ codes "drill" → ((drill : DrillWords) → IsDrill drill given → ⊥) → (command : Command) (lenient : Bool) → IsCommand command lenient first given → ⊥
-  no_drill named none command lenient is = go command is (letter first (codes "drill") 100 named refl) (has_letter command lenient first given is)
+  no_drill named none command lenient is = go command is (marked first (codes "drill") 205 named refl) (has_mark command lenient first given is)
     where
-      go : (command : Command) → IsCommand command lenient first given → get_or first 0 0 ≡ 100 → get_or first 0 0 ≡ LetterOf command → ⊥
+      go : (command : Command) → IsCommand command lenient first given → mark_of first ≡ 205 → HasMark command (mark_of first) → ⊥
       go (Drill drill) is one two = none drill is.1
-      go Relay is one two = absurd (omega (arith, one, two))
-      go (Rov prefix) is one two = absurd (omega (arith, one, two))
       go (Replay query) is one two = absurd (omega (arith, one, two))
       go Check is one two = absurd (omega (arith, one, two))
       go (Serve serve) is one two = absurd (omega (arith, one, two))
+      go Relay is one two = absurd (omega (arith, one, two))
+      go (Rov prefix) is one two = absurd (omega (arith, one, two))
+      go (Recall query) is one two = absurd (omega (arith, one, two))
       go Help is one two = absurd (omega (arith, one, two))
       go Version is one two = absurd (omega (arith, one, two))
 
   -- no other command is left
-  module _ (replay : first ≢ codes "replay") (serve : first ≢ codes "serve") (check : first ≢ codes "check") (drill : first ≢ codes "drill") (relay : first ≢ codes "relay") (rov : first ≢ codes "rov") where
+  module _ (replay : first ≢ codes "replay") (serve : first ≢ codes "serve") (check : first ≢ codes "check") (drill : first ≢ codes "drill") (relay : first ≢ codes "relay") (rov : first ≢ codes "rov") (recall : first ≢ codes "recall") where
     pub no_more : given ≢ [] → (command : Command) (lenient : Bool) → IsCommand command lenient first given → ⊥
     no_more some (Replay query) lenient is = replay is.0
     no_more some Check lenient is = check is.0
@@ -240,6 +294,7 @@ module _ (first : List ℕ) (given : List (List ℕ)) where
     no_more some (Drill words) lenient is = drill is.0
     no_more some Relay lenient is = relay is.0
     no_more some (Rov prefix) lenient is = rov is.0
+    no_more some (Recall query) lenient is = recall is.0
     no_more some Help lenient is = some is.1
     no_more some Version lenient is = some is.1
 
@@ -250,5 +305,6 @@ module _ (first : List ℕ) (given : List (List ℕ)) where
     no_other help version (Drill words) lenient is = drill is.0
     no_other help version Relay lenient is = relay is.0
     no_other help version (Rov prefix) lenient is = rov is.0
+    no_other help version (Recall query) lenient is = recall is.0
     no_other help version Help lenient is = help is.0
     no_other help version Version lenient is = version is.0

@@ -1,5 +1,5 @@
 -- What a command comes to, from what its steps say.
-use Rattle.std.proofs.Common.{◌≡◌, Bool, ℕ, ◌^◌, ◌<◌, ◌≤◌, List, [], ◌∷◌, ◌++◌, Option, Some, None, Result, Ok, Err, refl, sym, ap, ◌∙◌, subst, inl, inr, arith, append-nil}
+use Rattle.std.proofs.Common.{◌≡◌, Bool, ℕ, ◌^◌, ◌<◌, ◌≤◌, List, [], ◌∷◌, ◌++◌, length, Option, Some, None, Result, Ok, Err, refl, sym, ap, ◌∙◌, subst, inl, inr, arith, append-nil}
 use Rattle.std.specs.Prelude.{OnOk, OnErr, sum_by}
 use Rattle.std.specs.Io.KnownBytes.{Appends, Keeps}
 use Rattle.std.proofs.lemmas.List.Sums.{sum_by-cons}
@@ -12,17 +12,20 @@ use Rattle.bmp_specs.specs.LenientBody.{meaning_of}
 use Rattle.bmp_specs.specs.Meaning.{Meaning}
 use Rattle.bmp_specs.specs.Values.{EntryValue, opened}
 use Rattle.wire_io.specs.declared.sink.Failed.{Failed}
-use Rattle.wire_io.specs.Aside.{Aside, Plan}
+use Rattle.wire_io.specs.Aside.{Aside, Given, Plan}
 use Rattle.wire_io.specs.Faults.{HasCause}
 use Rattle.wire_io.specs.Writes.{Writes}
 use Rattle.wire_io.proofs.Joins.{join, appends_none, keeps_appends}
 use Rattle.bmp_message.specs.Effects.{GivesMessages}
 use Rattle.station_doors.specs.Doors.{YardValue, HandsOut, TakesBack, one_more, untouched}
 use Rattle.query_eval.specs.Replies.{PutsReply}
-use Rattle.station_top.specs.Station.{Explains, explained, judged_by, LendsWhereTold, IsWritten, IsTaken, FromYard, IsReplyTo, IsStopped, TakesOneInput, Runs, refused, replied, starved, unready, called, Concludes, CallConcludes, RovConcludes, Answers, replied_to, served, drilled, relayed_to, drilled_whole, drill_starved, DrillConcludes, AnswersFault, ServesNobody}
+use Rattle.station_top.specs.Station.{Explains, explained, judged_by, LendsWhereTold, IsTaken, FromYard, IsReplyTo, IsStopped, TakesOneInput, Runs, refused, replied, starved, unready, called, Concludes, CallConcludes, RovConcludes, Answers, replied_to, served, drilled, relayed_to, recalled_from, drilled_whole, drill_starved, DrillConcludes, AnswersFault, ServesNobody}
+use Rattle.station_top.specs.Input.{HasCome}
+use Rattle.station_top.specs.RecallRuns.{RecallConcludes}
 use Rattle.station_top.specs.Status.{status_of, status_served}
 use Rattle.station_top.specs.Take.{TakesInput, BreaksOff}
 use Rattle.station_top.specs.Words.{IsCall, file_in}
+use Rattle.station_top.specs.Written.{IsWritten}
 use Rattle.station_top.specs.Explain.{help_text, version_line}
 use Rattle.station_run.specs.Serve.{AnswersFault as EndsFault}
 use Rattle.station_doors.specs.declared.listening.Listening.{Listening}
@@ -33,11 +36,11 @@ use Rattle.station_top.specs.declared.drill_words.DrillWords.{DrillWords}
 use Rattle.station_top.specs.declared.serve_words.ServeWords.{ServeWords}
 use Rattle.station_top.specs.declared.words.Call.{Call}
 use Rattle.station_top.specs.declared.words.Command.{Command}
-use Rattle.station_top.specs.declared.words.Command.TheVariants.{Replay, Check, Serve, Drill, Relay, Rov, Help, Version}
+use Rattle.station_top.specs.declared.words.Command.TheVariants.{Replay, Check, Serve, Drill, Relay, Rov, Recall, Help, Version}
 use Rattle.station_top.specs.declared.status.Status.{Status}
-use Rattle.station_top.specs.declared.status.Status.TheVariants.{Done, Stopped, Usage, ReadFault, WriteFault, NoMemory, YardFault, Unwritable, BadFile}
+use Rattle.station_top.specs.declared.status.Status.TheVariants.{Done, Stopped, Usage, ReadFault, WriteFault, NoMemory, YardFault, Unwritable, BadFile, BadArchive, DiskFault}
 use Rattle.station_top.specs.declared.take.Taken.{Taken}
-use Rattle.station_top.proofs.Commands.{rov_call}
+use Rattle.station_top.proofs.Commands.{recall_call, rov_call}
 use Rattle.station_top.proofs.Lengths.{walk_lengths}
 
 -- the port was handed out, taken from and given back
@@ -64,18 +67,22 @@ pub breaks_off : {P : Type 0} (meaning : Meaning) (shows : P → Aside) (calls :
     → LendsWhereTold (BreaksOff meaning) old new number
 breaks_off meaning shows calls old mid new number port after h breaks back = lends (BreaksOff meaning) shows calls old mid new number port after h breaks back
 
--- The messages of an input have fewer than 2^64 bytes, and are fewer than 2^57.
-pub record IsShort (meaning : Meaning) (Stands : List EntryValue → Type 0) (old new : Option YardValue) (number : ℕ) (taken : Taken) (t : IsTaken meaning Stands old new number taken) : Type 0 where
-  pub bytes : sum_by length_of (opened ∷ t.messages) < 2 ^ 64
-  pub count : taken.revision ≤ 2 ^ 57
+-- The messages have fewer than 2^64 bytes, and with the opening they are at most 2^57.
+pub record AreFew (messages : List EntryValue) (revision : ℕ) : Type 0 where
+  pub bytes : sum_by length_of (opened ∷ messages) < 2 ^ 64
+  pub count : revision ≤ 2 ^ 57
 
-pub short : (meaning : Meaning) (gives : GivesMessages meaning) (Stands : List EntryValue → Type 0) (old new : Option YardValue) (number : ℕ) (taken : Taken) (t : IsTaken meaning Stands old new number taken) → IsShort meaning Stands old new number taken t
-short meaning gives Stands old new number taken t =
-    let long = walk_lengths meaning gives meaning.start t.input.bytes t.messages t.come.offset t.come.verdict t.come.walk in
+-- so it is with those of an input
+pub few : (meaning : Meaning) (gives : GivesMessages meaning) (input : Given) (messages : List EntryValue) (cause : Cause) (revision : ℕ) → HasCome meaning input messages cause → revision ≡ length (opened ∷ messages) → AreFew messages revision
+few meaning gives input messages cause revision come count =
+    let long = walk_lengths meaning gives meaning.start input.bytes messages come.offset come.verdict come.walk in
     record {
-      bytes = omega (arith, sum_by-cons length_of opened t.messages, long.bytes, long.within, t.come.within);
-      count = omega (arith, t.count, long.count, long.within, t.come.within);
+      bytes = omega (arith, sum_by-cons length_of opened messages, long.bytes, long.within, come.within);
+      count = omega (arith, count, long.count, long.within, come.within);
     }
+
+pub short : (meaning : Meaning) (gives : GivesMessages meaning) (Stands : List EntryValue → Type 0) (old new : Option YardValue) (number : ℕ) (taken : Taken) (t : IsTaken meaning Stands old new number taken) → AreFew t.messages taken.revision
+short meaning gives Stands old new number taken t = few meaning gives t.input t.messages taken.cause taken.revision t.come t.count
 
 module _ {O : Type 0} {faults : O → ℕ} {told : O → Option (List ℕ)} {aside : O → Aside} where
   -- the status is the one that is meant, or a write failed
@@ -156,6 +163,8 @@ concludes_unread meaning Stands Replies old new number told ReadFault from = abs
 concludes_unread meaning Stands Replies old new number told WriteFault from = absurd from
 concludes_unread meaning Stands Replies old new number told Unwritable from = absurd from
 concludes_unread meaning Stands Replies old new number told BadFile from = absurd from
+concludes_unread meaning Stands Replies old new number told BadArchive from = absurd from
+concludes_unread meaning Stands Replies old new number told DiskFault from = absurd from
 
 -- the words are a call
 pub answers_called : (Serves : Meaning → ServeWords → Outcome → Type 0) (call : Call) (words : List (List ℕ)) (old new : Option YardValue) (number calls : ℕ) (told0 told1 : Option (List ℕ)) (status : Status) → IsCall call words → CallConcludes (Serves (meaning_of call.lenient)) call.command (file_in call.lenient words) (meaning_of call.lenient) old new number calls told0 told1 status
@@ -172,6 +181,9 @@ answers_called Serves call words old new number calls told0 told1 status is c = 
     go (Rov prefix) same k =
         let named = rov_call prefix call.lenient words (subst (λ (m : Command). IsCall (record { command = m; lenient = call.lenient }) words) same is) in
         judged_by named.0 prefix call.lenient named.1 (subst (λ (path : List ℕ). RovConcludes (meaning_of call.lenient) path prefix old new number calls told0 told1 status) named.2 k)
+    go (Recall query) same (counted, k) =
+        let named = recall_call query call.lenient words (subst (λ (m : Command). IsCall (record { command = m; lenient = call.lenient }) words) same is) in
+        recalled_from named.0 query call.lenient named.1 counted (subst (λ (path : List ℕ). RecallConcludes (meaning_of call.lenient) (IsReplyTo (Recall query)) path old new number told0 told1 status) named.2 k)
     go (Serve serve) same (outcome, comes, ends) = served serve call.lenient outcome (subst (λ (m : Command). IsCall (record { command = m; lenient = call.lenient }) words) same is) comes ends
     go (Drill drill) same (still, uncalled, k) =
         let of_drill : IsCall (record { command = Drill drill; lenient = call.lenient }) words = subst (λ (m : Command). IsCall (record { command = m; lenient = call.lenient }) words) same is in

@@ -20,3 +20,4 @@ pub mod Drilling
 pub mod DrillOne
 pub mod Relaying
 pub mod Judging
+pub mod Recalling

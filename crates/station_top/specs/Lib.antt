@@ -4,6 +4,7 @@ pub mod Take
 pub mod Check
 pub mod Replay
 pub mod Status
+pub mod Written
 pub mod Words
 pub mod Station
 pub mod ServeWords
@@ -11,4 +12,5 @@ pub mod ServeOptions
 pub mod DrillWords
 pub mod Drill
 pub mod Rov
+pub mod RecallRuns
 pub mod Explain

@@ -6,7 +6,8 @@ use Rattle.rov_reply.specs.RovLines.{IsRovReply}
 use Rattle.rov_table.specs.declared.vrp.VrpFault.{VrpFault}
 use Rattle.rov_table.specs.declared.vrp.VrpFault.TheVariants as fault
 use Rattle.station_top.specs.Replay.{Gathers}
-use Rattle.station_top.specs.Station.{IsWritten, badfile_line}
+use Rattle.station_top.specs.Station.{badfile_line}
+use Rattle.station_top.specs.Written.{IsWritten}
 use Rattle.station_top.specs.declared.rov.Judged.{Judged}
 use Rattle.station_top.specs.declared.rov.Judging.{Judging}
 use Rattle.station_top.specs.declared.rov.Rov.{Rov}

@@ -18,7 +18,7 @@ use Rattle.relay_out.specs.Writable.{AreWritable}
 use Rattle.relay_out.specs.Writing.{IsFront}
 use Rattle.wire_io.specs.Aside.{Aside, Given, Plan}
 use Rattle.wire_io.specs.Faults.{Rose}
-use Rattle.wire_io.specs.Writes.{AppendsFront}
+use Rattle.query_lang.specs.declared.query.Query.{Query}
 use Rattle.query_lang.specs.Queries.{query_value}
 use Rattle.rov_reply.specs.RovLines.{IsRovReply}
 use Rattle.rov_table.specs.declared.vrp.Vrp.{Vrp}
@@ -30,21 +30,23 @@ use Rattle.station_doors.specs.declared.files.FileFault.TheVariants as fault
 use Rattle.station_doors.specs.declared.listening.Listening.{Listening}
 use Rattle.station_run.specs.declared.outcome.Outcome.{Outcome}
 use Rattle.station_top.specs.Input.{HasCome}
+use Rattle.station_top.specs.RecallRuns.{RecallConcludes}
 use Rattle.station_top.specs.Drill.{IsDrillText}
 use Rattle.station_top.specs.Explain.{help_text, version_line}
 use Rattle.station_top.specs.DrillWords.{MayDrill}
 use Rattle.station_top.specs.ServeWords.{MayServe}
 use Rattle.station_top.specs.Take.{BreaksOff, Comes}
 use Rattle.station_top.specs.Status.{status_of, status_served}
-use Rattle.station_top.specs.Words.{IsCall, IsRovCall, TakeMemory}
+use Rattle.station_top.specs.Words.{IsCall, IsRecallCall, IsRovCall, TakeMemory}
+use Rattle.station_top.specs.Written.{IsWritten}
 use Rattle.station_top.specs.declared.drill_words.DrillWords.{DrillWords}
 use Rattle.station_top.specs.declared.serve_words.ServeWords.{ServeWords}
 use Rattle.station_top.specs.declared.status.Status.{Status}
-use Rattle.station_top.specs.declared.status.Status.TheVariants.{Done, Stopped, Usage, ReadFault, WriteFault, NoMemory, YardFault, Unwritable, BadFile}
+use Rattle.station_top.specs.declared.status.Status.TheVariants.{Done, Stopped, Usage, ReadFault, WriteFault, NoMemory, YardFault, Unwritable, BadFile, BadArchive, DiskFault}
 use Rattle.station_top.specs.declared.take.Taken.{Taken}
 use Rattle.station_top.specs.declared.words.Call.{Call}
 use Rattle.station_top.specs.declared.words.Command.{Command}
-use Rattle.station_top.specs.declared.words.Command.TheVariants.{Replay, Check, Serve, Drill, Relay, Rov, Help, Version}
+use Rattle.station_top.specs.declared.words.Command.TheVariants.{Replay, Check, Serve, Drill, Relay, Rov, Recall, Help, Version}
 
 -- the bytes are the reply of a command on these entries
 abbrev pub IsReplyTo : Command → List EntryValue → List ℕ → Type 0
@@ -54,6 +56,7 @@ IsReplyTo (Serve serve) entries bytes = ⊥
 IsReplyTo (Drill drill) entries bytes = ⊥
 IsReplyTo Relay entries bytes = ⊥
 IsReplyTo (Rov prefix) entries bytes = ⊥
+IsReplyTo (Recall query) entries bytes = IsReply (query_value query) (entries ∷ []) bytes
 IsReplyTo Help entries bytes = ⊥
 IsReplyTo Version entries bytes = ⊥
 
@@ -65,6 +68,7 @@ Explains (Serve serve) text = ⊥
 Explains (Drill drill) text = ⊥
 Explains Relay text = ⊥
 Explains (Rov prefix) text = ⊥
+Explains (Recall query) text = ⊥
 Explains Help text = text ≡ help_text
 Explains Version text = text ≡ version_line
 
@@ -76,11 +80,12 @@ MayAsk (Serve serve) = MayServe serve
 MayAsk (Drill drill) = MayDrill drill
 MayAsk Relay = Unit {0}
 MayAsk (Rov prefix) = Unit {0}
+MayAsk (Recall query) = query_value query ≢ quit
 MayAsk Help = Unit {0}
 MayAsk Version = Unit {0}
 
 -- the command takes the one input connection and answers with lines that its words alone ask for; `relay` and `rov` take it
--- too, and have relations of their own
+-- too, and have relations of their own, as `recall` has, which takes none
 abbrev pub TakesOneInput : Command → Type 0
 TakesOneInput (Replay query) = Unit {0}
 TakesOneInput Check = Unit {0}
@@ -88,6 +93,7 @@ TakesOneInput (Serve serve) = ⊥
 TakesOneInput (Drill drill) = ⊥
 TakesOneInput Relay = ⊥
 TakesOneInput (Rov prefix) = ⊥
+TakesOneInput (Recall query) = ⊥
 TakesOneInput Help = ⊥
 TakesOneInput Version = ⊥
 
@@ -99,6 +105,7 @@ IsServing (Serve serve) = Unit {0}
 IsServing (Drill drill) = ⊥
 IsServing Relay = ⊥
 IsServing (Rov prefix) = ⊥
+IsServing (Recall query) = ⊥
 IsServing Help = ⊥
 IsServing Version = ⊥
 
@@ -183,10 +190,6 @@ pub data Means (words : List (List ℕ)) (old new : Option YardValue) (number : 
   -- they are this call, which takes the one input connection
   called : (call : Call) (status : Status) (text : List ℕ) → IsCall call words → TakesOneInput call.command → Runs (meaning_of call.lenient) (IsReplyTo call.command) old new number status text → Means words old new number (one_more number) status text
 
--- The text was written and the status is the one that is meant; or a write failed, and a front of the text was written.
-abbrev pub IsWritten : Option (List ℕ) → Option (List ℕ) → List ℕ → Status → Status → Type 0
-IsWritten old new text meant status = ((status ≡ meant) × Appends old new text) ⊎ ((status ≡ WriteFault) × AppendsFront old text new)
-
 -- what a command answers, and what it wrote
 pub record Concludes (meaning : Meaning) (Replies : List EntryValue → List ℕ → Type 0) (old new : Option YardValue) (number : ℕ) (told0 told1 : Option (List ℕ)) (status : Status) : Type 0 where
   pub meant : Status
@@ -232,7 +235,8 @@ pub record DrillConcludes (drill : DrillWords) (told0 told1 : Option (List ℕ))
   pub written : IsWritten told0 told1 text meant status
 
 -- What a command answers, and what it wrote: one that takes the one input connection makes one call of the yard, and `rov`
--- one more before it, for the file; of `serve` the relation says all; `drill` asks the yard for nothing.
+-- one more before it, for the file; `recall` makes one, for the disk; of `serve` the relation says all; `drill` asks the yard
+-- for nothing.
 abbrev pub CallConcludes : (ServeWords → Outcome → Type 0) → Command → List ℕ → Meaning → Option YardValue → Option YardValue → ℕ → ℕ → Option (List ℕ) → Option (List ℕ) → Status → Type 0
 CallConcludes Serves (Replay query) file meaning old new number calls told0 told1 status = (calls ≡ one_more number) × Concludes meaning (IsReplyTo (Replay query)) old new number told0 told1 status
 CallConcludes Serves Check file meaning old new number calls told0 told1 status = (calls ≡ one_more number) × Concludes meaning (IsReplyTo Check) old new number told0 told1 status
@@ -240,6 +244,7 @@ CallConcludes Serves (Serve serve) file meaning old new number calls told0 told1
 CallConcludes Serves (Drill drill) file meaning old new number calls told0 told1 status = (new ≡ old) × (calls ≡ number) × DrillConcludes drill told0 told1 status
 CallConcludes Serves Relay file meaning old new number calls told0 told1 status = (calls ≡ one_more number) × RelayConcludes meaning old new number told0 told1 status
 CallConcludes Serves (Rov prefix) file meaning old new number calls told0 told1 status = RovConcludes meaning file prefix old new number calls told0 told1 status
+CallConcludes Serves (Recall query) file meaning old new number calls told0 told1 status = (calls ≡ one_more number) × RecallConcludes meaning (IsReplyTo (Recall query)) file old new number told0 told1 status
 CallConcludes Serves Help file meaning old new number calls told0 told1 status = (new ≡ old) × (calls ≡ number) × IsWritten told0 told1 help_text Done status
 CallConcludes Serves Version file meaning old new number calls told0 told1 status = (new ≡ old) × (calls ≡ number) × IsWritten told0 told1 version_line Done status
 
@@ -255,6 +260,8 @@ pub data Answers (Serves : Meaning → ServeWords → Outcome → Type 0) (words
   relayed_to : (lenient : Bool) → IsCall (record { command = Relay; lenient = lenient }) words → calls ≡ one_more number → RelayConcludes (meaning_of lenient) old new number told0 told1 status → Answers Serves words old new number calls told0 told1 status
   -- they are a call of `rov`: the file that is asked for is the one that they name
   judged_by : (file : List ℕ) (prefix : PrefixValue) (lenient : Bool) → IsRovCall file prefix lenient words → RovConcludes (meaning_of lenient) file prefix old new number calls told0 told1 status → Answers Serves words old new number calls told0 told1 status
+  -- they are a call of `recall`: the disk that is asked for is the one that they name, and no port is
+  recalled_from : (file : List ℕ) (query : Query) (lenient : Bool) → IsRecallCall file (query_value query) lenient words → calls ≡ one_more number → RecallConcludes (meaning_of lenient) (IsReplyTo (Recall query)) file old new number told0 told1 status → Answers Serves words old new number calls told0 told1 status
   -- they ask for the help text or the version, and the yard is asked for nothing
   explained : (call : Call) (text : List ℕ) → IsCall call words → Explains call.command text → new ≡ old → calls ≡ number → IsWritten told0 told1 text Done status → Answers Serves words old new number calls told0 told1 status
 
@@ -285,3 +292,5 @@ FromYard meaning Stands old new number (Err ReadFault) = ⊥
 FromYard meaning Stands old new number (Err WriteFault) = ⊥
 FromYard meaning Stands old new number (Err Unwritable) = ⊥
 FromYard meaning Stands old new number (Err BadFile) = ⊥
+FromYard meaning Stands old new number (Err BadArchive) = ⊥
+FromYard meaning Stands old new number (Err DiskFault) = ⊥

@@ -9,7 +9,7 @@ use Rattle.station_top.specs.DrillWords.{IsDrill}
 use Rattle.station_top.specs.ServeWords.{IsServe}
 use Rattle.station_top.specs.declared.words.Call.{Call}
 use Rattle.station_top.specs.declared.words.Command.{Command}
-use Rattle.station_top.specs.declared.words.Command.TheVariants.{Replay, Check, Serve, Drill, Relay, Rov, Help, Version}
+use Rattle.station_top.specs.declared.words.Command.TheVariants.{Replay, Check, Serve, Drill, Relay, Rov, Recall, Help, Version}
 
 -- the line is this query, which isn't the end of a session
 pub record IsAsking (line : List ℕ) (query : QueryValue) : Type 0 where
@@ -32,6 +32,12 @@ pub record NamesFile (file : List ℕ) (prefix : PrefixValue) (words : List (Lis
   pub spelled : words ≡ file ∷ text ∷ []
   pub is_prefix : IsPrefixText text prefix
 
+-- the words are a file and those of a query, which are joined by single spaces
+pub record AsksOf (file : List ℕ) (query : QueryValue) (words : List (List ℕ)) : Type 0 where
+  pub asked : List (List ℕ)
+  pub spelled : words ≡ file ∷ asked
+  pub is_asking : IsAsking (join_with_byte space asked) query
+
 -- The words behind `rov` are this file and the prefix. Any word is a file by its place: an empty one too, or `--lenient`
 -- behind `--lenient`.
 abbrev pub IsRovOf : List ℕ → PrefixValue → Bool → List (List ℕ) → Type 0
@@ -41,8 +47,16 @@ IsRovOf file prefix lenient given = (asked : List (List ℕ)) × IsPlain lenient
 abbrev pub IsRov : PrefixValue → Bool → List (List ℕ) → Type 0
 IsRov prefix lenient given = (file : List ℕ) × IsRovOf file prefix lenient given
 
+-- The words behind `recall` are this file, and then the query, as behind `replay`. Any word is a file by its place.
+abbrev pub IsRecallOf : List ℕ → QueryValue → Bool → List (List ℕ) → Type 0
+IsRecallOf file query lenient given = (asked : List (List ℕ)) × IsPlain lenient given asked × AsksOf file query asked
+
+-- the same of some file
+abbrev pub IsRecall : QueryValue → Bool → List (List ℕ) → Type 0
+IsRecall query lenient given = (file : List ℕ) × IsRecallOf file query lenient given
+
 -- The first of the words and those behind it are this command, which is lenient or isn't: `--lenient` stands right behind
--- `replay`, `check`, `relay` or `rov`, or anywhere among the settings of `serve`.
+-- `replay`, `check`, `relay`, `rov` or `recall`, or anywhere among the settings of `serve`.
 abbrev pub IsCommand : Command → Bool → List ℕ → List (List ℕ) → Type 0
 IsCommand (Replay query) lenient first given = (first ≡ codes "replay") × IsReplay (query_value query) lenient given
 IsCommand Check lenient first given = (first ≡ codes "check") × IsPlain lenient given []
@@ -50,6 +64,7 @@ IsCommand (Serve serve) lenient first given = (first ≡ codes "serve") × IsSer
 IsCommand (Drill drill) lenient first given = (first ≡ codes "drill") × IsDrill drill given × (lenient ≡ false)
 IsCommand Relay lenient first given = (first ≡ codes "relay") × IsPlain lenient given []
 IsCommand (Rov prefix) lenient first given = (first ≡ codes "rov") × IsRov prefix lenient given
+IsCommand (Recall query) lenient first given = (first ≡ codes "recall") × IsRecall (query_value query) lenient given
 IsCommand Help lenient first given = ((first ≡ codes "--help") ⊎ (first ≡ codes "-h")) × (given ≡ []) × (lenient ≡ false)
 IsCommand Version lenient first given = ((first ≡ codes "--version") ⊎ (first ≡ codes "-V")) × (given ≡ []) × (lenient ≡ false)
 
@@ -66,6 +81,12 @@ pub record IsRovCall (file : List ℕ) (prefix : PrefixValue) (lenient : Bool) (
   pub spelled : words ≡ codes "rov" ∷ given
   pub is_rov : IsRovOf file prefix lenient given
 
+-- the words are a call of `recall` with this file and this query
+pub record IsRecallCall (file : List ℕ) (query : QueryValue) (lenient : Bool) (words : List (List ℕ)) : Type 0 where
+  pub given : List (List ℕ)
+  pub spelled : words ≡ codes "recall" ∷ given
+  pub is_recall : IsRecallOf file query lenient given
+
 -- the word behind the first, or behind `--lenient`, where the file of a call stands
 abbrev pub file_in : Bool → List (List ℕ) → List ℕ
 file_in true words = get_or words 2 []
@@ -73,8 +94,8 @@ file_in false words = get_or words 1 []
 
 -- to read the words behind this one takes memory
 abbrev pub TakesMemory : List ℕ → Type 0
-TakesMemory first = (first ≡ codes "replay") ⊎ (first ≡ codes "serve")
+TakesMemory first = (first ≡ codes "replay") ⊎ (first ≡ codes "serve") ⊎ (first ≡ codes "recall")
 
--- to read the words takes memory: their first is `replay` or `serve`
+-- to read the words takes memory: their first is `replay`, `serve` or `recall`
 abbrev pub TakeMemory : List (List ℕ) → Type 0
 TakeMemory words = (first : List ℕ) × (asked : List (List ℕ)) × (words ≡ first ∷ asked) × TakesMemory first

@@ -22,6 +22,10 @@ pub enum Status {
     /// The file of validated ROA payloads (VRPs) has a record of another form, or is too long. The line that says so is all that was
     /// written, and no byte of the stream was read.
     BadFile,
+    /// The file is no archive. The line that says so is all that was written.
+    BadArchive,
+    /// The disk failed.
+    DiskFault,
 }
 
 impl Status {
@@ -41,6 +45,8 @@ impl Status {
             Status::YardFault => 6,
             Status::Unwritable => 8,
             Status::BadFile => 9,
+            Status::BadArchive => 10,
+            Status::DiskFault => 11,
         }
     }
 }

@@ -12,7 +12,8 @@ ghost use Rattle.station_top.specs.Status.{status_of, status_relayed, status_ser
 ghost use Rattle.station_top.specs.DrillWords.{MayDrill};
 ghost use Rattle.station_top.specs.ServeWords.{MayServe};
 ghost use Rattle.station_top.specs.Words.{IsCall, file_in};
-ghost use Rattle.station_top.specs.Station.{Answers, CallConcludes, Concludes, RelayConcludes, DrillConcludes, FromYard, AnswersFault, IsStopped, IsServing, IsWritten, MayAsk, ServesNobody};
+ghost use Rattle.station_top.specs.Station.{Answers, CallConcludes, Concludes, RelayConcludes, DrillConcludes, FromYard, AnswersFault, IsStopped, IsServing, MayAsk, ServesNobody};
+ghost use Rattle.station_top.specs.Written.{IsWritten};
 ghost use Rattle.station_top.specs.declared.words.Call.{Call as AnyCall};
 
 use crate::Status;
@@ -21,6 +22,7 @@ use crate::counts::Counts;
 use crate::drill::write_drill;
 use crate::drill_words::DrillWords;
 use crate::explain::{help, version};
+use crate::recall::run_recall_by;
 use crate::replay::Replay;
 use crate::rov::run_rov;
 use crate::serve_words::ServeWords;
@@ -96,7 +98,7 @@ fn write_to<T: Replies, O: Sink>(
     (buffer.into_inner(), result)
 }
 
-fn write_reply<T: Replies, O: Sink>(
+pub(crate) fn write_reply<T: Replies, O: Sink>(
     out: &mut O,
     told: &T,
     ask: &T::Ask,
@@ -111,7 +113,7 @@ fn write_reply<T: Replies, O: Sink>(
 }
 
 // The status of a stream that stopped for this cause.
-fn status_after(cause: Cause) -> Status
+pub(crate) fn status_after(cause: Cause) -> Status
     ensures { result ≡ status_of cause }
 {
     match cause {
@@ -323,6 +325,8 @@ where
     ensures others { (IsServing call.command → ⊥) → ServesNobody (Y.listened yard.old) (Y.listened yard.new) (Y.endings yard.old) (Y.endings yard.new) (Y.last_ending yard.old) (Y.last_ending yard.new) }
 {
     let Call { command, lenient } = call;
+    // The file, where the command has one.
+    let path = file_word(words, lenient);
     match command {
         Command::Replay(query) => run_by::<Replay, Y, O>(alloc, lenient, &query, yard, out),
         Command::Check => run_by::<Counts, Y, O>(alloc, lenient, &(), yard, out),
@@ -331,8 +335,9 @@ where
         }
         Command::Drill(drill_words) => run_drill(rt, alloc, drill_words, out),
         Command::Relay => run_relay_by(alloc, lenient, yard, out),
-        Command::Rov(prefix) => {
-            run_rov(alloc, lenient, file_word(words, lenient), prefix, yard, out)
+        Command::Rov(prefix) => run_rov(alloc, lenient, path, prefix, yard, out),
+        Command::Recall(query) => {
+            run_recall_by::<Replay, Y, O>(alloc, lenient, path, &query, yard, out)
         }
         Command::Help => write_text(out, help()),
         Command::Version => write_text(out, version()),
@@ -365,11 +370,18 @@ where
 /// stop line. Where the file has a record of another form, or is too long, it answers `BadFile`: a line that says so is
 /// all that is written, and no port is asked for.
 ///
+/// `recall` with a file and a query other than `quit` asks the yard for the disk of the file, whose path is the very word that
+/// names it, recovers the archive on it (`feed_archive`), gives the disk back, and writes what `replay` writes for the
+/// archive's content as a connection that ended. It asks for no port, and leaves the file as it was. Where the file is no
+/// archive it answers `BadArchive`: a line that says so is all that is written. Where the disk fails it answers `DiskFault`,
+/// and nothing is written.
+///
 /// `--help`, or `-h`, writes the help text, and `--version`, or `-V`, the line with the version. They ask the yard for
 /// nothing and take no memory.
 ///
 /// Other words are usage. The bodies of the messages are read by the RFCs alone, and with `--lenient`, which stands right
-/// behind `replay`, `check`, `relay` or `rov` or among the settings of `serve`, as routers send them (`lenient` of `bmp_specs`).
+/// behind `replay`, `check`, `relay`, `rov` or `recall` or among the settings of `serve`, as routers send them (`lenient` of
+/// `bmp_specs`).
 pub fn station<Y: Yard, O: Sink, R: Threads + Wait + Sync>(
     rt: &R,
     alloc: Global,

@@ -5,7 +5,7 @@ ghost use Rattle.bmp_specs.specs.PrefixText.{IsPrefixText};
 ghost use Rattle.bmp_specs.specs.Query.{QueryValue, quit, space};
 ghost use Rattle.bmp_specs.specs.Values.{PrefixValue};
 ghost use Rattle.query_lang.specs.Queries.{query_value};
-ghost use Rattle.station_top.specs.Words.{IsAsking, IsCall, IsCommand, IsPlain, IsReplay, IsRov, NamesFile, TakeMemory, TakesMemory, file_in};
+ghost use Rattle.station_top.specs.Words.{AsksOf, IsAsking, IsCall, IsCommand, IsPlain, IsRecall, IsReplay, IsRov, NamesFile, TakeMemory, TakesMemory, file_in};
 ghost use Rattle.station_top.specs.declared.words.Call.{Call as AnyCall};
 ghost use Rattle.station_top.specs.declared.words.Command.{Command as AnyCommand};
 
@@ -37,6 +37,10 @@ pub enum Command {
     /// `rov`, a file of validated ROA payloads (VRPs) and a prefix: what the VRPs say of each route within the prefix. The file
     /// stays a word of the call.
     Rov(Prefix),
+
+    /// `recall`, a file and a query other than `quit`: its reply on what the archive in the file keeps. The file stays a word
+    /// of the call.
+    Recall(Query),
 
     /// `--help`: what the commands are.
     Help,
@@ -100,6 +104,12 @@ fn is_rov(word: &str) -> bool
     ensures { IsTrue result ↔ (word.now ≡ codes "rov") }
 {
     word == "rov"
+}
+
+fn is_recall(word: &str) -> bool
+    ensures { IsTrue result ↔ (word.now ≡ codes "recall") }
+{
+    word == "recall"
 }
 
 fn is_lenient(word: &str) -> bool
@@ -222,6 +232,29 @@ fn read_rov(given: &[String]) -> Option<(Prefix, bool)>
     }
 }
 
+// The query behind the file, where the words are a file and those of a query.
+fn read_kept(alloc: Global, words: &[String]) -> Result<Query, WordsFault>
+    ensures ok { IfOk result (λ query. (file : List ℕ) × AsksOf file (query_value query) (map string_bytes words.now)) }
+    ensures usage { result ≡ Err WordsFault.Usage → (file : List ℕ) (query : QueryValue) → AsksOf file query (map string_bytes words.now) → ⊥ }
+{
+    match words {
+        [_, asked @ ..] => read_asked(alloc, asked),
+        [] => Err(WordsFault::Usage),
+    }
+}
+
+// What the words behind `recall` ask for, but for the file.
+fn read_recall(alloc: Global, given: &[String]) -> Result<(Query, bool), WordsFault>
+    ensures ok { IfOk result (λ read. IsRecall (query_value read.0) read.1 (map string_bytes given.now)) }
+    ensures usage { result ≡ Err WordsFault.Usage → (query : QueryValue) (lenient : Bool) → IsRecall query lenient (map string_bytes given.now) → ⊥ }
+{
+    let (lenient, asked) = split_lenient(given);
+    match read_kept(alloc, asked) {
+        Ok(query) => Ok((query, lenient)),
+        Err(fault) => Err(fault),
+    }
+}
+
 // The call that a word and those after it are.
 fn read_call(alloc: Global, first: &str, given: &[String]) -> Result<Call, WordsFault>
     ensures ok { IfOk result (λ call. IsCommand call.command call.lenient first.now (map string_bytes given.now)) }
@@ -273,6 +306,15 @@ fn read_call(alloc: Global, first: &str, given: &[String]) -> Result<Call, Words
             None => Err(WordsFault::Usage),
         };
     }
+    if is_recall(first) {
+        return match read_recall(alloc, given) {
+            Ok((query, lenient)) => Ok(Call {
+                command: Command::Recall(query),
+                lenient,
+            }),
+            Err(fault) => Err(fault),
+        };
+    }
     if is_drill(first) {
         return match read_drill(given) {
             Some(drill) => Ok(Call {
@@ -301,7 +343,7 @@ fn read_call(alloc: Global, first: &str, given: &[String]) -> Result<Call, Words
 }
 
 /// What the words of a call ask for, which don't hold the program's name. `Usage` exactly where they are no command;
-/// after `NoMemory` they begin with `replay` or `serve`, which may take memory to read.
+/// after `NoMemory` they begin with `replay`, `serve` or `recall`, which may take memory to read.
 pub fn read_words(alloc: Global, words: &[String]) -> Result<Call, WordsFault>
     // The call is the one that the words are.
     ensures ok { IfOk result (λ call. IsCall call (map string_bytes words.now)) }

@@ -1,6 +1,8 @@
 use Rattle.std.proofs.Common.{ℕ, List, refl, subst}
 use Rattle.bmp_specs.specs.LenientBody.{meaning_of}
-use Rattle.station_top.specs.Station.{RovConcludes}
+use Rattle.station_top.specs.RecallRuns.{RecallConcludes}
+use Rattle.station_top.specs.Station.{IsReplyTo, RovConcludes}
+use Rattle.station_top.specs.declared.words.Command.TheVariants.{Recall}
 use Rattle.station_top.proofs.Concluding.{ends_write, ends_yard}
 use Rattle.station_top.proofs.top.run_call.Goals as goal
 
@@ -29,4 +31,8 @@ pub returns-in-Relay-clause-concludes : goal.returns-in-Relay-clause-concludes
 returns-in-Relay-clause-concludes g c = rw c.in-Relay.is (c.run_relay_by.ensures.calls, c.run_relay_by.ensures.concludes)
 
 pub returns-in-Rov-clause-concludes : goal.returns-in-Rov-clause-concludes
-returns-in-Rov-clause-concludes g c = rw c.in-Rov.is (subst (λ (path : List ℕ). RovConcludes (meaning_of c.args.call.lenient) path c.in-Rov.prefix (g.Y.Yard.told c.args.yard.now) (g.Y.Yard.told c.run_rov.new.yard) (g.Y.Yard.calls c.args.yard.now) (g.Y.Yard.calls c.run_rov.new.yard) (g.O.Sink.told c.args.out.now) (g.O.Sink.told c.run_rov.new.out) c.run_rov.result) c.file_word.ensures c.run_rov.ensures.concludes)
+returns-in-Rov-clause-concludes g c = rw c.in-Rov.is (subst (λ (path : List ℕ). RovConcludes (meaning_of c.args.call.lenient) path c.in-Rov.prefix (g.Y.Yard.told c.args.yard.now) (g.Y.Yard.told c.run_rov.new.yard) (g.Y.Yard.calls c.args.yard.now) (g.Y.Yard.calls c.run_rov.new.yard) (g.O.Sink.told c.args.out.now) (g.O.Sink.told c.run_rov.new.out) c.run_rov.result) c.file_word-path.ensures c.run_rov.ensures.concludes)
+
+pub returns-in-Recall-clause-concludes : goal.returns-in-Recall-clause-concludes
+returns-in-Recall-clause-concludes g c =
+    rw c.in-Recall.is (c.run_recall_by.ensures.calls, subst (λ (path : List ℕ). RecallConcludes (meaning_of c.args.call.lenient) (IsReplyTo (Recall c.in-Recall.query)) path (g.Y.Yard.told c.args.yard.now) (g.Y.Yard.told c.run_recall_by.new.yard) (g.Y.Yard.calls c.args.yard.now) (g.O.Sink.told c.args.out.now) (g.O.Sink.told c.run_recall_by.new.out) c.run_recall_by.result) c.file_word-path.ensures c.run_recall_by.ensures.concludes)
