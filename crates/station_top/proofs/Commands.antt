@@ -1,5 +1,5 @@
--- Which words are a query behind `replay`, a file and a prefix behind `rov` or a file and a query behind `recall`, and which
--- are no command.
+-- Which words are a query behind `replay`, a file and a prefix behind `rov`, a file behind `archive` or a file and a query behind
+-- `recall`, and which are no command.
 use Rattle.std.proofs.Common.{◌≡◌, ◌≢◌, ℕ, ◌+◌, ◌-◌, ◌<◌, ◌≤◌, Bool, true, false, List, [], ◌∷◌, length, map, get_or, take, drop, codes, Option, Some, None, IfSome, IfNone, Result, Ok, Err, IfOk, refl, sym, ap, ◌∙◌, subst, arith, inl, inr}
 use Rattle.std.specs.Prelude.{◌⊎◌}
 use Rattle.std.specs.List.{join_with_byte}
@@ -12,11 +12,11 @@ use Rattle.query_lang.specs.declared.query.Query.{Query}
 use Rattle.query_lang.specs.declared.query.Query.TheVariants.{Routers, Cut, Peers, Marks, Table, Count, Exact, Longest, Within, Origin, Stats, Changes, Quit}
 use Rattle.station_top.specs.DrillWords.{IsDrill}
 use Rattle.station_top.specs.ServeWords.{IsServe}
-use Rattle.station_top.specs.Words.{AsksOf, IsAsking, IsCall, IsCommand, IsPlain, IsRecall, IsRecallCall, IsRecallOf, IsReplay, IsRov, IsRovCall, IsRovOf, NamesFile, file_in}
+use Rattle.station_top.specs.Words.{AsksOf, IsArchive, IsArchiveCall, IsArchiveOf, IsAsking, IsCall, IsCommand, IsPlain, IsRecall, IsRecallCall, IsRecallOf, IsReplay, IsRov, IsRovCall, IsRovOf, NamesFile, file_in}
 use Rattle.station_top.specs.declared.drill_words.DrillWords.{DrillWords}
 use Rattle.station_top.specs.declared.serve_words.ServeWords.{ServeWords}
 use Rattle.station_top.specs.declared.words.Command.{Command}
-use Rattle.station_top.specs.declared.words.Command.TheVariants.{Replay, Check, Serve, Drill, Relay, Rov, Recall, Help, Version}
+use Rattle.station_top.specs.declared.words.Command.TheVariants.{Replay, Check, Serve, Drill, Relay, Rov, Archive, Recall, Help, Version}
 
 -- no other query is the end of a session
 pub not_quit : (query : Query) → ¬ (query ≡ Quit) → query_value query ≢ quit
@@ -116,6 +116,29 @@ no_recalled b given asked is none query d (file, (others, plain, asks)) =
     let same = (same_plain b d given asked others is plain).0 in
     none file query (subst (λ (words : List (List ℕ)). AsksOf file query words) (sym same) asks)
 
+-- the words are a file, however they are taken
+pub one_file : {X : Type 0} (text : X → List ℕ) (b : Bool) (given : List (List ℕ)) (words : List X) → IsPlain b given (map text words) → length words ≡ 1 → IsArchive b given
+one_file text b given [] plain one = absurd (omega (arith, one))
+one_file text b given (x ∷ []) plain one = (text x, plain)
+one_file text b given (x ∷ y ∷ more) plain one = absurd (omega (arith, one))
+
+pub no_file : {X : Type 0} (text : X → List ℕ) (b : Bool) (given : List (List ℕ)) (words : List X) → IsPlain b given (map text words) → (length words ≡ 1 → ⊥) → (d : Bool) → IsArchive d given → ⊥
+no_file text b given words plain apart d (file, is) =
+    let same = (same_plain b d given (map text words) (file ∷ []) plain is).0 in
+    apart (sym (length-map words text) ∙ ap length same)
+
+-- The file of a call of `archive`, and that it stands at its place among the words.
+pub archive_call : (lenient : Bool) (words : List (List ℕ)) → IsCall (record { command = Archive; lenient = lenient }) words → (file : List ℕ) × IsArchiveCall file lenient words × (file_in lenient words ≡ file)
+archive_call lenient words is =
+    let file = is.is_command.1.0 in
+    let archive : IsArchiveOf file lenient is.given = is.is_command.1.1 in
+    let spelled : words ≡ codes "archive" ∷ is.given = is.spelled ∙ ap (λ (l : List ℕ). l ∷ is.given) is.is_command.0 in
+    (file, record { given = is.given; spelled = spelled; is_archive = archive }, ap (λ (l : List (List ℕ)). file_in lenient l) spelled ∙ found lenient file is.given archive)
+  where
+    found : (b : Bool) (path : List ℕ) (given : List (List ℕ)) → IsArchiveOf path b given → file_in b (codes "archive" ∷ given) ≡ path
+    found true path given is = ap (λ (l : List (List ℕ)). get_or l 1 []) is
+    found false path given is = ap (λ (l : List (List ℕ)). get_or l 0 []) (sym is.0)
+
 -- the words begin with a file, and those behind it are a query, or none
 pub a_file : {X : Type 0} (text : X → List ℕ) (words : List X) → 0 < length words → (file : List ℕ) × (map text words ≡ file ∷ map text (take (length words - 1) (drop 1 words)))
 a_file text [] some = absurd (omega (arith, some))
@@ -171,6 +194,7 @@ HasMark (Serve serve) n = n ≡ 229
 HasMark (Drill drill) n = n ≡ 205
 HasMark Relay n = n ≡ 222
 HasMark (Rov prefix) n = n ≡ 232
+HasMark Archive n = n ≡ 196
 HasMark (Recall query) n = n ≡ 213
 HasMark Help n = n ≤ 163
 HasMark Version n = n ≤ 163
@@ -182,6 +206,7 @@ has_mark (Serve serve) lenient first given is = marked first (codes "serve") 229
 has_mark (Drill drill) lenient first given is = marked first (codes "drill") 205 is.0 refl
 has_mark Relay lenient first given is = marked first (codes "relay") 222 is.0 refl
 has_mark (Rov prefix) lenient first given is = marked first (codes "rov") 232 is.0 refl
+has_mark Archive lenient first given is = marked first (codes "archive") 196 is.0 refl
 has_mark (Recall query) lenient first given is = marked first (codes "recall") 213 is.0 refl
 has_mark Help lenient first given is = help_mark first is.0
 has_mark Version lenient first given is = version_mark first is.0
@@ -198,6 +223,7 @@ module _ (first : List ℕ) (given : List (List ℕ)) where
       go Relay is one two = absurd (omega (arith, one, two))
       go (Rov prefix) is one two = absurd (omega (arith, one, two))
       go (Recall query) is one two = absurd (omega (arith, one, two))
+      go Archive is one two = absurd (omega (arith, one, two))
       go Help is one two = absurd (omega (arith, one, two))
       go Version is one two = absurd (omega (arith, one, two))
 
@@ -212,6 +238,7 @@ module _ (first : List ℕ) (given : List (List ℕ)) where
       go Relay is one two = absurd (omega (arith, one, two))
       go (Rov prefix) is one two = absurd (omega (arith, one, two))
       go (Recall query) is one two = absurd (omega (arith, one, two))
+      go Archive is one two = absurd (omega (arith, one, two))
       go Help is one two = absurd (omega (arith, one, two))
       go Version is one two = absurd (omega (arith, one, two))
 
@@ -226,6 +253,7 @@ module _ (first : List ℕ) (given : List (List ℕ)) where
       go Relay is one two = absurd (omega (arith, one, two))
       go (Rov prefix) is one two = absurd (omega (arith, one, two))
       go (Recall query) is one two = absurd (omega (arith, one, two))
+      go Archive is one two = absurd (omega (arith, one, two))
       go Help is one two = absurd (omega (arith, one, two))
       go Version is one two = absurd (omega (arith, one, two))
 
@@ -240,6 +268,7 @@ module _ (first : List ℕ) (given : List (List ℕ)) where
       go (Drill drill) is one two = absurd (omega (arith, one, two))
       go (Rov prefix) is one two = absurd (omega (arith, one, two))
       go (Recall query) is one two = absurd (omega (arith, one, two))
+      go Archive is one two = absurd (omega (arith, one, two))
       go Help is one two = absurd (omega (arith, one, two))
       go Version is one two = absurd (omega (arith, one, two))
 
@@ -253,6 +282,22 @@ module _ (first : List ℕ) (given : List (List ℕ)) where
       go (Serve serve) is one two = absurd (omega (arith, one, two))
       go (Drill drill) is one two = absurd (omega (arith, one, two))
       go Relay is one two = absurd (omega (arith, one, two))
+      go (Recall query) is one two = absurd (omega (arith, one, two))
+      go Archive is one two = absurd (omega (arith, one, two))
+      go Help is one two = absurd (omega (arith, one, two))
+      go Version is one two = absurd (omega (arith, one, two))
+
+  pub no_archive : first ≡ codes "archive" → ((lenient : Bool) → IsArchive lenient given → ⊥) → (command : Command) (lenient : Bool) → IsCommand command lenient first given → ⊥
+  no_archive named none command lenient is = go command is (marked first (codes "archive") 196 named refl) (has_mark command lenient first given is)
+    where
+      go : (command : Command) → IsCommand command lenient first given → mark_of first ≡ 196 → HasMark command (mark_of first) → ⊥
+      go Archive is one two = none lenient is.1
+      go (Replay query) is one two = absurd (omega (arith, one, two))
+      go Check is one two = absurd (omega (arith, one, two))
+      go (Serve serve) is one two = absurd (omega (arith, one, two))
+      go (Drill drill) is one two = absurd (omega (arith, one, two))
+      go Relay is one two = absurd (omega (arith, one, two))
+      go (Rov prefix) is one two = absurd (omega (arith, one, two))
       go (Recall query) is one two = absurd (omega (arith, one, two))
       go Help is one two = absurd (omega (arith, one, two))
       go Version is one two = absurd (omega (arith, one, two))
@@ -268,6 +313,7 @@ module _ (first : List ℕ) (given : List (List ℕ)) where
       go (Drill drill) is one two = absurd (omega (arith, one, two))
       go Relay is one two = absurd (omega (arith, one, two))
       go (Rov prefix) is one two = absurd (omega (arith, one, two))
+      go Archive is one two = absurd (omega (arith, one, two))
       go Help is one two = absurd (omega (arith, one, two))
       go Version is one two = absurd (omega (arith, one, two))
 
@@ -282,11 +328,12 @@ module _ (first : List ℕ) (given : List (List ℕ)) where
       go Relay is one two = absurd (omega (arith, one, two))
       go (Rov prefix) is one two = absurd (omega (arith, one, two))
       go (Recall query) is one two = absurd (omega (arith, one, two))
+      go Archive is one two = absurd (omega (arith, one, two))
       go Help is one two = absurd (omega (arith, one, two))
       go Version is one two = absurd (omega (arith, one, two))
 
   -- no other command is left
-  module _ (replay : first ≢ codes "replay") (serve : first ≢ codes "serve") (check : first ≢ codes "check") (drill : first ≢ codes "drill") (relay : first ≢ codes "relay") (rov : first ≢ codes "rov") (recall : first ≢ codes "recall") where
+  module _ (replay : first ≢ codes "replay") (serve : first ≢ codes "serve") (check : first ≢ codes "check") (drill : first ≢ codes "drill") (relay : first ≢ codes "relay") (rov : first ≢ codes "rov") (archive : first ≢ codes "archive") (recall : first ≢ codes "recall") where
     pub no_more : given ≢ [] → (command : Command) (lenient : Bool) → IsCommand command lenient first given → ⊥
     no_more some (Replay query) lenient is = replay is.0
     no_more some Check lenient is = check is.0
@@ -294,6 +341,7 @@ module _ (first : List ℕ) (given : List (List ℕ)) where
     no_more some (Drill words) lenient is = drill is.0
     no_more some Relay lenient is = relay is.0
     no_more some (Rov prefix) lenient is = rov is.0
+    no_more some Archive lenient is = archive is.0
     no_more some (Recall query) lenient is = recall is.0
     no_more some Help lenient is = some is.1
     no_more some Version lenient is = some is.1
@@ -305,6 +353,7 @@ module _ (first : List ℕ) (given : List (List ℕ)) where
     no_other help version (Drill words) lenient is = drill is.0
     no_other help version Relay lenient is = relay is.0
     no_other help version (Rov prefix) lenient is = rov is.0
+    no_other help version Archive lenient is = archive is.0
     no_other help version (Recall query) lenient is = recall is.0
     no_other help version Help lenient is = help is.0
     no_other help version Version lenient is = version is.0

@@ -19,7 +19,8 @@ use Rattle.wire_io.proofs.Joins.{join, appends_none, keeps_appends}
 use Rattle.bmp_message.specs.Effects.{GivesMessages}
 use Rattle.station_doors.specs.Doors.{YardValue, HandsOut, TakesBack, one_more, untouched}
 use Rattle.query_eval.specs.Replies.{PutsReply}
-use Rattle.station_top.specs.Station.{Explains, explained, judged_by, LendsWhereTold, IsTaken, FromYard, IsReplyTo, IsStopped, TakesOneInput, Runs, refused, replied, starved, unready, called, Concludes, CallConcludes, RovConcludes, Answers, replied_to, served, drilled, relayed_to, recalled_from, drilled_whole, drill_starved, DrillConcludes, AnswersFault, ServesNobody}
+use Rattle.station_top.specs.Station.{Explains, explained, judged_by, LendsWhereTold, IsTaken, FromYard, IsReplyTo, IsStopped, TakesOneInput, Runs, refused, replied, starved, unready, called, Concludes, CallConcludes, RovConcludes, Answers, replied_to, served, drilled, relayed_to, archived_to, recalled_from, drilled_whole, drill_starved, DrillConcludes, AnswersFault, ServesNobody}
+use Rattle.station_top.specs.ArchiveRuns.{ArchiveConcludes}
 use Rattle.station_top.specs.Input.{HasCome}
 use Rattle.station_top.specs.RecallRuns.{RecallConcludes}
 use Rattle.station_top.specs.Status.{status_of, status_served}
@@ -36,11 +37,11 @@ use Rattle.station_top.specs.declared.drill_words.DrillWords.{DrillWords}
 use Rattle.station_top.specs.declared.serve_words.ServeWords.{ServeWords}
 use Rattle.station_top.specs.declared.words.Call.{Call}
 use Rattle.station_top.specs.declared.words.Command.{Command}
-use Rattle.station_top.specs.declared.words.Command.TheVariants.{Replay, Check, Serve, Drill, Relay, Rov, Recall, Help, Version}
+use Rattle.station_top.specs.declared.words.Command.TheVariants.{Replay, Check, Serve, Drill, Relay, Rov, Archive, Recall, Help, Version}
 use Rattle.station_top.specs.declared.status.Status.{Status}
-use Rattle.station_top.specs.declared.status.Status.TheVariants.{Done, Stopped, Usage, ReadFault, WriteFault, NoMemory, YardFault, Unwritable, BadFile, BadArchive, DiskFault}
+use Rattle.station_top.specs.declared.status.Status.TheVariants.{Done, Stopped, Usage, ReadFault, WriteFault, NoMemory, YardFault, Unwritable, BadFile, BadArchive, DiskFault, ArchiveFull}
 use Rattle.station_top.specs.declared.take.Taken.{Taken}
-use Rattle.station_top.proofs.Commands.{recall_call, rov_call}
+use Rattle.station_top.proofs.Commands.{archive_call, recall_call, rov_call}
 use Rattle.station_top.proofs.Lengths.{walk_lengths}
 
 -- the port was handed out, taken from and given back
@@ -165,6 +166,7 @@ concludes_unread meaning Stands Replies old new number told Unwritable from = ab
 concludes_unread meaning Stands Replies old new number told BadFile from = absurd from
 concludes_unread meaning Stands Replies old new number told BadArchive from = absurd from
 concludes_unread meaning Stands Replies old new number told DiskFault from = absurd from
+concludes_unread meaning Stands Replies old new number told ArchiveFull from = absurd from
 
 -- the words are a call
 pub answers_called : (Serves : Meaning → ServeWords → Outcome → Type 0) (call : Call) (words : List (List ℕ)) (old new : Option YardValue) (number calls : ℕ) (told0 told1 : Option (List ℕ)) (status : Status) → IsCall call words → CallConcludes (Serves (meaning_of call.lenient)) call.command (file_in call.lenient words) (meaning_of call.lenient) old new number calls told0 told1 status
@@ -181,6 +183,9 @@ answers_called Serves call words old new number calls told0 told1 status is c = 
     go (Rov prefix) same k =
         let named = rov_call prefix call.lenient words (subst (λ (m : Command). IsCall (record { command = m; lenient = call.lenient }) words) same is) in
         judged_by named.0 prefix call.lenient named.1 (subst (λ (path : List ℕ). RovConcludes (meaning_of call.lenient) path prefix old new number calls told0 told1 status) named.2 k)
+    go Archive same k =
+        let named = archive_call call.lenient words (subst (λ (m : Command). IsCall (record { command = m; lenient = call.lenient }) words) same is) in
+        archived_to named.0 call.lenient named.1 (subst (λ (path : List ℕ). ArchiveConcludes (meaning_of call.lenient) path old new number calls told0 told1 status) named.2 k)
     go (Recall query) same (counted, k) =
         let named = recall_call query call.lenient words (subst (λ (m : Command). IsCall (record { command = m; lenient = call.lenient }) words) same is) in
         recalled_from named.0 query call.lenient named.1 counted (subst (λ (path : List ℕ). RecallConcludes (meaning_of call.lenient) (IsReplyTo (Recall query)) path old new number told0 told1 status) named.2 k)

@@ -21,3 +21,5 @@ pub mod DrillOne
 pub mod Relaying
 pub mod Judging
 pub mod Recalling
+pub mod Archiving
+pub mod InputKept

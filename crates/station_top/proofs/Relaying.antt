@@ -12,7 +12,7 @@ use Rattle.station_doors.specs.Doors.{YardValue}
 use Rattle.station_top.specs.Station.{AnswersFault, FromYard, IsTaken, RelayConcludes, Relayed, broken_off, cut, relayed, unlent, unsettled, untaken, unwritable, wrote}
 use Rattle.station_top.specs.Status.{status_relayed}
 use Rattle.station_top.specs.declared.status.Status.{Status}
-use Rattle.station_top.specs.declared.status.Status.TheVariants.{Done, Stopped, Usage, ReadFault, WriteFault, NoMemory, YardFault, Unwritable, BadFile, BadArchive, DiskFault}
+use Rattle.station_top.specs.declared.status.Status.TheVariants.{Done, Stopped, Usage, ReadFault, WriteFault, NoMemory, YardFault, Unwritable, BadFile, BadArchive, DiskFault, ArchiveFull}
 use Rattle.station_top.specs.declared.take.Taken.{Taken}
 use Rattle.station_top.proofs.Concluding.{no_write_fault}
 
@@ -46,6 +46,7 @@ relay_untaken meaning Stands old new number told Unwritable from = absurd from
 relay_untaken meaning Stands old new number told BadFile from = absurd from
 relay_untaken meaning Stands old new number told BadArchive from = absurd from
 relay_untaken meaning Stands old new number told DiskFault from = absurd from
+relay_untaken meaning Stands old new number told ArchiveFull from = absurd from
 
 -- a write fault is answered exactly where a write failed
 pub relay_counts : (cause : Cause) (status : Status) (before now : ℕ) (r : Result (Unit {0}) EmitFault) → IsCounted before now r → status ≡ status_relayed r cause → AnswersFault before now status WriteFault

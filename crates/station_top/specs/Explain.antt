@@ -13,6 +13,7 @@ help_text = codes "bmpstation: a station for the BGP Monitoring Protocol (RFC 78
     ++ codes "  drill SEED LANES MESSAGES  lanes over made streams, and what they come to\n"
     ++ codes "  relay [--lenient]          the BMP stream that rebuilds what that stream left\n"
     ++ codes "  rov [--lenient] FILE P     whether the VRPs in FILE allow each route within P\n"
+    ++ codes "  archive [--lenient] FILE   keep that stream in FILE, a new file or an empty one\n"
     ++ codes "  recall [--lenient] FILE Q  the reply of query Q on the stream kept in FILE\n"
     ++ codes "  --help, -h                 this text\n"
     ++ codes "  --version, -V              which version this is\n"
@@ -35,7 +36,7 @@ help_text = codes "bmpstation: a station for the BGP Monitoring Protocol (RFC 78
     ++ codes "statuses: 0 done, 1 the stream stopped early, 2 usage, 3 a read failed,\n"
     ++ codes "4 a write failed, 5 want of memory, 6 no input, port or FILE can be had,\n"
     ++ codes "8 what that stream left can't be relayed, 9 FILE is too long or of another form,\n"
-    ++ codes "10 FILE is no archive, 11 the disk failed\n"
+    ++ codes "10 FILE is no archive, or not empty, 11 the disk failed, 12 the archive is full\n"
     ++ codes "\n"
     ++ codes "The manual is bmpstation(1); bmpstation-query(7) has the queries.\n"
 

@@ -13,4 +13,5 @@ pub mod DrillWords
 pub mod Drill
 pub mod Rov
 pub mod RecallRuns
+pub mod ArchiveRuns
 pub mod Explain

@@ -29,6 +29,7 @@ use Rattle.station_doors.specs.declared.files.FileFault.{FileFault}
 use Rattle.station_doors.specs.declared.files.FileFault.TheVariants as fault
 use Rattle.station_doors.specs.declared.listening.Listening.{Listening}
 use Rattle.station_run.specs.declared.outcome.Outcome.{Outcome}
+use Rattle.station_top.specs.ArchiveRuns.{ArchiveConcludes}
 use Rattle.station_top.specs.Input.{HasCome}
 use Rattle.station_top.specs.RecallRuns.{RecallConcludes}
 use Rattle.station_top.specs.Drill.{IsDrillText}
@@ -37,16 +38,16 @@ use Rattle.station_top.specs.DrillWords.{MayDrill}
 use Rattle.station_top.specs.ServeWords.{MayServe}
 use Rattle.station_top.specs.Take.{BreaksOff, Comes}
 use Rattle.station_top.specs.Status.{status_of, status_served}
-use Rattle.station_top.specs.Words.{IsCall, IsRecallCall, IsRovCall, TakeMemory}
+use Rattle.station_top.specs.Words.{IsArchiveCall, IsCall, IsRecallCall, IsRovCall, TakeMemory}
 use Rattle.station_top.specs.Written.{IsWritten}
 use Rattle.station_top.specs.declared.drill_words.DrillWords.{DrillWords}
 use Rattle.station_top.specs.declared.serve_words.ServeWords.{ServeWords}
 use Rattle.station_top.specs.declared.status.Status.{Status}
-use Rattle.station_top.specs.declared.status.Status.TheVariants.{Done, Stopped, Usage, ReadFault, WriteFault, NoMemory, YardFault, Unwritable, BadFile, BadArchive, DiskFault}
+use Rattle.station_top.specs.declared.status.Status.TheVariants.{Done, Stopped, Usage, ReadFault, WriteFault, NoMemory, YardFault, Unwritable, BadFile, BadArchive, DiskFault, ArchiveFull}
 use Rattle.station_top.specs.declared.take.Taken.{Taken}
 use Rattle.station_top.specs.declared.words.Call.{Call}
 use Rattle.station_top.specs.declared.words.Command.{Command}
-use Rattle.station_top.specs.declared.words.Command.TheVariants.{Replay, Check, Serve, Drill, Relay, Rov, Recall, Help, Version}
+use Rattle.station_top.specs.declared.words.Command.TheVariants.{Replay, Check, Serve, Drill, Relay, Rov, Archive, Recall, Help, Version}
 
 -- the bytes are the reply of a command on these entries
 abbrev pub IsReplyTo : Command → List EntryValue → List ℕ → Type 0
@@ -56,6 +57,7 @@ IsReplyTo (Serve serve) entries bytes = ⊥
 IsReplyTo (Drill drill) entries bytes = ⊥
 IsReplyTo Relay entries bytes = ⊥
 IsReplyTo (Rov prefix) entries bytes = ⊥
+IsReplyTo Archive entries bytes = ⊥
 IsReplyTo (Recall query) entries bytes = IsReply (query_value query) (entries ∷ []) bytes
 IsReplyTo Help entries bytes = ⊥
 IsReplyTo Version entries bytes = ⊥
@@ -68,6 +70,7 @@ Explains (Serve serve) text = ⊥
 Explains (Drill drill) text = ⊥
 Explains Relay text = ⊥
 Explains (Rov prefix) text = ⊥
+Explains Archive text = ⊥
 Explains (Recall query) text = ⊥
 Explains Help text = text ≡ help_text
 Explains Version text = text ≡ version_line
@@ -80,12 +83,13 @@ MayAsk (Serve serve) = MayServe serve
 MayAsk (Drill drill) = MayDrill drill
 MayAsk Relay = Unit {0}
 MayAsk (Rov prefix) = Unit {0}
+MayAsk Archive = Unit {0}
 MayAsk (Recall query) = query_value query ≢ quit
 MayAsk Help = Unit {0}
 MayAsk Version = Unit {0}
 
--- the command takes the one input connection and answers with lines that its words alone ask for; `relay` and `rov` take it
--- too, and have relations of their own, as `recall` has, which takes none
+-- the command takes the one input connection and answers with lines that its words alone ask for; `relay`, `rov` and `archive`
+-- take it too, and have relations of their own, as `recall` has, which takes none
 abbrev pub TakesOneInput : Command → Type 0
 TakesOneInput (Replay query) = Unit {0}
 TakesOneInput Check = Unit {0}
@@ -93,6 +97,7 @@ TakesOneInput (Serve serve) = ⊥
 TakesOneInput (Drill drill) = ⊥
 TakesOneInput Relay = ⊥
 TakesOneInput (Rov prefix) = ⊥
+TakesOneInput Archive = ⊥
 TakesOneInput (Recall query) = ⊥
 TakesOneInput Help = ⊥
 TakesOneInput Version = ⊥
@@ -105,6 +110,7 @@ IsServing (Serve serve) = Unit {0}
 IsServing (Drill drill) = ⊥
 IsServing Relay = ⊥
 IsServing (Rov prefix) = ⊥
+IsServing Archive = ⊥
 IsServing (Recall query) = ⊥
 IsServing Help = ⊥
 IsServing Version = ⊥
@@ -235,8 +241,8 @@ pub record DrillConcludes (drill : DrillWords) (told0 told1 : Option (List ℕ))
   pub written : IsWritten told0 told1 text meant status
 
 -- What a command answers, and what it wrote: one that takes the one input connection makes one call of the yard, and `rov`
--- one more before it, for the file; `recall` makes one, for the disk; of `serve` the relation says all; `drill` asks the yard
--- for nothing.
+-- one more before it, for the file, as `archive` does for the disk; `recall` makes one, for the disk; of `serve` the relation
+-- says all; `drill` asks the yard for nothing.
 abbrev pub CallConcludes : (ServeWords → Outcome → Type 0) → Command → List ℕ → Meaning → Option YardValue → Option YardValue → ℕ → ℕ → Option (List ℕ) → Option (List ℕ) → Status → Type 0
 CallConcludes Serves (Replay query) file meaning old new number calls told0 told1 status = (calls ≡ one_more number) × Concludes meaning (IsReplyTo (Replay query)) old new number told0 told1 status
 CallConcludes Serves Check file meaning old new number calls told0 told1 status = (calls ≡ one_more number) × Concludes meaning (IsReplyTo Check) old new number told0 told1 status
@@ -244,6 +250,7 @@ CallConcludes Serves (Serve serve) file meaning old new number calls told0 told1
 CallConcludes Serves (Drill drill) file meaning old new number calls told0 told1 status = (new ≡ old) × (calls ≡ number) × DrillConcludes drill told0 told1 status
 CallConcludes Serves Relay file meaning old new number calls told0 told1 status = (calls ≡ one_more number) × RelayConcludes meaning old new number told0 told1 status
 CallConcludes Serves (Rov prefix) file meaning old new number calls told0 told1 status = RovConcludes meaning file prefix old new number calls told0 told1 status
+CallConcludes Serves Archive file meaning old new number calls told0 told1 status = ArchiveConcludes meaning file old new number calls told0 told1 status
 CallConcludes Serves (Recall query) file meaning old new number calls told0 told1 status = (calls ≡ one_more number) × RecallConcludes meaning (IsReplyTo (Recall query)) file old new number told0 told1 status
 CallConcludes Serves Help file meaning old new number calls told0 told1 status = (new ≡ old) × (calls ≡ number) × IsWritten told0 told1 help_text Done status
 CallConcludes Serves Version file meaning old new number calls told0 told1 status = (new ≡ old) × (calls ≡ number) × IsWritten told0 told1 version_line Done status
@@ -260,6 +267,8 @@ pub data Answers (Serves : Meaning → ServeWords → Outcome → Type 0) (words
   relayed_to : (lenient : Bool) → IsCall (record { command = Relay; lenient = lenient }) words → calls ≡ one_more number → RelayConcludes (meaning_of lenient) old new number told0 told1 status → Answers Serves words old new number calls told0 told1 status
   -- they are a call of `rov`: the file that is asked for is the one that they name
   judged_by : (file : List ℕ) (prefix : PrefixValue) (lenient : Bool) → IsRovCall file prefix lenient words → RovConcludes (meaning_of lenient) file prefix old new number calls told0 told1 status → Answers Serves words old new number calls told0 told1 status
+  -- they are a call of `archive`: the disk that is asked for is the one that they name
+  archived_to : (file : List ℕ) (lenient : Bool) → IsArchiveCall file lenient words → ArchiveConcludes (meaning_of lenient) file old new number calls told0 told1 status → Answers Serves words old new number calls told0 told1 status
   -- they are a call of `recall`: the disk that is asked for is the one that they name, and no port is
   recalled_from : (file : List ℕ) (query : Query) (lenient : Bool) → IsRecallCall file (query_value query) lenient words → calls ≡ one_more number → RecallConcludes (meaning_of lenient) (IsReplyTo (Recall query)) file old new number told0 told1 status → Answers Serves words old new number calls told0 told1 status
   -- they ask for the help text or the version, and the yard is asked for nothing
@@ -294,3 +303,4 @@ FromYard meaning Stands old new number (Err Unwritable) = ⊥
 FromYard meaning Stands old new number (Err BadFile) = ⊥
 FromYard meaning Stands old new number (Err BadArchive) = ⊥
 FromYard meaning Stands old new number (Err DiskFault) = ⊥
+FromYard meaning Stands old new number (Err ArchiveFull) = ⊥

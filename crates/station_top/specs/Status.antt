@@ -7,7 +7,7 @@ use Rattle.relay_out.specs.declared.fault.EmitFault.TheVariants as fault
 use Rattle.station_run.specs.declared.outcome.Outcome.{Outcome}
 use Rattle.station_run.specs.declared.outcome.Outcome.TheVariants as outcome
 use Rattle.station_top.specs.declared.status.Status.{Status}
-use Rattle.station_top.specs.declared.status.Status.TheVariants.{Done, Stopped, Usage, ReadFault, WriteFault, NoMemory, YardFault, Unwritable, BadFile, BadArchive, DiskFault}
+use Rattle.station_top.specs.declared.status.Status.TheVariants.{Done, Stopped, Usage, ReadFault, WriteFault, NoMemory, YardFault, Unwritable, BadFile, BadArchive, DiskFault, ArchiveFull}
 
 abbrev pub code_of : Status → ℕ
 code_of Done = 0
@@ -21,6 +21,7 @@ code_of Unwritable = 8
 code_of BadFile = 9
 code_of BadArchive = 10
 code_of DiskFault = 11
+code_of ArchiveFull = 12
 
 -- the status of a stream that stopped for this cause
 abbrev pub status_of : Cause → Status

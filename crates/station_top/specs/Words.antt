@@ -9,7 +9,7 @@ use Rattle.station_top.specs.DrillWords.{IsDrill}
 use Rattle.station_top.specs.ServeWords.{IsServe}
 use Rattle.station_top.specs.declared.words.Call.{Call}
 use Rattle.station_top.specs.declared.words.Command.{Command}
-use Rattle.station_top.specs.declared.words.Command.TheVariants.{Replay, Check, Serve, Drill, Relay, Rov, Recall, Help, Version}
+use Rattle.station_top.specs.declared.words.Command.TheVariants.{Replay, Check, Serve, Drill, Relay, Rov, Archive, Recall, Help, Version}
 
 -- the line is this query, which isn't the end of a session
 pub record IsAsking (line : List ℕ) (query : QueryValue) : Type 0 where
@@ -47,6 +47,14 @@ IsRovOf file prefix lenient given = (asked : List (List ℕ)) × IsPlain lenient
 abbrev pub IsRov : PrefixValue → Bool → List (List ℕ) → Type 0
 IsRov prefix lenient given = (file : List ℕ) × IsRovOf file prefix lenient given
 
+-- The one word behind `archive` is this file. Any word is a file by its place.
+abbrev pub IsArchiveOf : List ℕ → Bool → List (List ℕ) → Type 0
+IsArchiveOf file lenient given = IsPlain lenient given (file ∷ [])
+
+-- the same of some file
+abbrev pub IsArchive : Bool → List (List ℕ) → Type 0
+IsArchive lenient given = (file : List ℕ) × IsArchiveOf file lenient given
+
 -- The words behind `recall` are this file, and then the query, as behind `replay`. Any word is a file by its place.
 abbrev pub IsRecallOf : List ℕ → QueryValue → Bool → List (List ℕ) → Type 0
 IsRecallOf file query lenient given = (asked : List (List ℕ)) × IsPlain lenient given asked × AsksOf file query asked
@@ -56,7 +64,7 @@ abbrev pub IsRecall : QueryValue → Bool → List (List ℕ) → Type 0
 IsRecall query lenient given = (file : List ℕ) × IsRecallOf file query lenient given
 
 -- The first of the words and those behind it are this command, which is lenient or isn't: `--lenient` stands right behind
--- `replay`, `check`, `relay`, `rov` or `recall`, or anywhere among the settings of `serve`.
+-- `replay`, `check`, `relay`, `rov`, `archive` or `recall`, or anywhere among the settings of `serve`.
 abbrev pub IsCommand : Command → Bool → List ℕ → List (List ℕ) → Type 0
 IsCommand (Replay query) lenient first given = (first ≡ codes "replay") × IsReplay (query_value query) lenient given
 IsCommand Check lenient first given = (first ≡ codes "check") × IsPlain lenient given []
@@ -64,6 +72,7 @@ IsCommand (Serve serve) lenient first given = (first ≡ codes "serve") × IsSer
 IsCommand (Drill drill) lenient first given = (first ≡ codes "drill") × IsDrill drill given × (lenient ≡ false)
 IsCommand Relay lenient first given = (first ≡ codes "relay") × IsPlain lenient given []
 IsCommand (Rov prefix) lenient first given = (first ≡ codes "rov") × IsRov prefix lenient given
+IsCommand Archive lenient first given = (first ≡ codes "archive") × IsArchive lenient given
 IsCommand (Recall query) lenient first given = (first ≡ codes "recall") × IsRecall (query_value query) lenient given
 IsCommand Help lenient first given = ((first ≡ codes "--help") ⊎ (first ≡ codes "-h")) × (given ≡ []) × (lenient ≡ false)
 IsCommand Version lenient first given = ((first ≡ codes "--version") ⊎ (first ≡ codes "-V")) × (given ≡ []) × (lenient ≡ false)
@@ -80,6 +89,12 @@ pub record IsRovCall (file : List ℕ) (prefix : PrefixValue) (lenient : Bool) (
   pub given : List (List ℕ)
   pub spelled : words ≡ codes "rov" ∷ given
   pub is_rov : IsRovOf file prefix lenient given
+
+-- the words are a call of `archive` with this file
+pub record IsArchiveCall (file : List ℕ) (lenient : Bool) (words : List (List ℕ)) : Type 0 where
+  pub given : List (List ℕ)
+  pub spelled : words ≡ codes "archive" ∷ given
+  pub is_archive : IsArchiveOf file lenient given
 
 -- the words are a call of `recall` with this file and this query
 pub record IsRecallCall (file : List ℕ) (query : QueryValue) (lenient : Bool) (words : List (List ℕ)) : Type 0 where

@@ -17,6 +17,7 @@ pub(crate) fn help() -> &'static str
         "  drill SEED LANES MESSAGES  lanes over made streams, and what they come to\n",
         "  relay [--lenient]          the BMP stream that rebuilds what that stream left\n",
         "  rov [--lenient] FILE P     whether the VRPs in FILE allow each route within P\n",
+        "  archive [--lenient] FILE   keep that stream in FILE, a new file or an empty one\n",
         "  recall [--lenient] FILE Q  the reply of query Q on the stream kept in FILE\n",
         "  --help, -h                 this text\n",
         "  --version, -V              which version this is\n",
@@ -39,7 +40,7 @@ pub(crate) fn help() -> &'static str
         "statuses: 0 done, 1 the stream stopped early, 2 usage, 3 a read failed,\n",
         "4 a write failed, 5 want of memory, 6 no input, port or FILE can be had,\n",
         "8 what that stream left can't be relayed, 9 FILE is too long or of another form,\n",
-        "10 FILE is no archive, 11 the disk failed\n",
+        "10 FILE is no archive, or not empty, 11 the disk failed, 12 the archive is full\n",
         "\n",
         "The manual is bmpstation(1); bmpstation-query(7) has the queries.\n",
     )

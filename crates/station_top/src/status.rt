@@ -22,10 +22,12 @@ pub enum Status {
     /// The file of validated ROA payloads (VRPs) has a record of another form, or is too long. The line that says so is all that was
     /// written, and no byte of the stream was read.
     BadFile,
-    /// The file is no archive. The line that says so is all that was written.
+    /// The file is no archive, or it isn't empty where one is to be made. The line that says so is all that was written.
     BadArchive,
     /// The disk failed.
     DiskFault,
+    /// The archive has no room for what the input gave next.
+    ArchiveFull,
 }
 
 impl Status {
@@ -47,6 +49,7 @@ impl Status {
             Status::BadFile => 9,
             Status::BadArchive => 10,
             Status::DiskFault => 11,
+            Status::ArchiveFull => 12,
         }
     }
 }

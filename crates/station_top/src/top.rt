@@ -18,6 +18,7 @@ ghost use Rattle.station_top.specs.declared.words.Call.{Call as AnyCall};
 
 use crate::Status;
 use crate::account::{Account, Replies};
+use crate::archive::run_archive_by;
 use crate::counts::Counts;
 use crate::drill::write_drill;
 use crate::drill_words::DrillWords;
@@ -336,6 +337,7 @@ where
         Command::Drill(drill_words) => run_drill(rt, alloc, drill_words, out),
         Command::Relay => run_relay_by(alloc, lenient, yard, out),
         Command::Rov(prefix) => run_rov(alloc, lenient, path, prefix, yard, out),
+        Command::Archive => run_archive_by(alloc, lenient, path, yard, out),
         Command::Recall(query) => {
             run_recall_by::<Replay, Y, O>(alloc, lenient, path, &query, yard, out)
         }
@@ -370,6 +372,12 @@ where
 /// stop line. Where the file has a record of another form, or is too long, it answers `BadFile`: a line that says so is
 /// all that is written, and no port is asked for.
 ///
+/// `archive` with a file asks the yard for the disk of the file, whose path is the very word that names it, and then for the
+/// port. It makes an archive of the file, which has no byte yet, and takes the input as `replay` does, but keeps each piece in
+/// the archive before it reads it, so that a crash at any moment leaves what was kept (`feed_archive`). It gives both back and
+/// writes `kept` with the number of bytes that were kept, and the stop line. Where the file has a byte it answers `BadArchive`,
+/// where the disk fails `DiskFault`, and where the archive has no room for a piece `ArchiveFull`.
+///
 /// `recall` with a file and a query other than `quit` asks the yard for the disk of the file, whose path is the very word that
 /// names it, recovers the archive on it (`feed_archive`), gives the disk back, and writes what `replay` writes for the
 /// archive's content as a connection that ended. It asks for no port, and leaves the file as it was. Where the file is no
@@ -380,8 +388,8 @@ where
 /// nothing and take no memory.
 ///
 /// Other words are usage. The bodies of the messages are read by the RFCs alone, and with `--lenient`, which stands right
-/// behind `replay`, `check`, `relay`, `rov` or `recall` or among the settings of `serve`, as routers send them (`lenient` of
-/// `bmp_specs`).
+/// behind `replay`, `check`, `relay`, `rov`, `archive` or `recall` or among the settings of `serve`, as routers send them
+/// (`lenient` of `bmp_specs`).
 pub fn station<Y: Yard, O: Sink, R: Threads + Wait + Sync>(
     rt: &R,
     alloc: Global,

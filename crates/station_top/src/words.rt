@@ -5,7 +5,7 @@ ghost use Rattle.bmp_specs.specs.PrefixText.{IsPrefixText};
 ghost use Rattle.bmp_specs.specs.Query.{QueryValue, quit, space};
 ghost use Rattle.bmp_specs.specs.Values.{PrefixValue};
 ghost use Rattle.query_lang.specs.Queries.{query_value};
-ghost use Rattle.station_top.specs.Words.{AsksOf, IsAsking, IsCall, IsCommand, IsPlain, IsRecall, IsReplay, IsRov, NamesFile, TakeMemory, TakesMemory, file_in};
+ghost use Rattle.station_top.specs.Words.{AsksOf, IsArchive, IsAsking, IsCall, IsCommand, IsPlain, IsRecall, IsReplay, IsRov, NamesFile, TakeMemory, TakesMemory, file_in};
 ghost use Rattle.station_top.specs.declared.words.Call.{Call as AnyCall};
 ghost use Rattle.station_top.specs.declared.words.Command.{Command as AnyCommand};
 
@@ -37,6 +37,9 @@ pub enum Command {
     /// `rov`, a file of validated ROA payloads (VRPs) and a prefix: what the VRPs say of each route within the prefix. The file
     /// stays a word of the call.
     Rov(Prefix),
+
+    /// `archive` and a file: the input is kept in it. The file stays a word of the call.
+    Archive,
 
     /// `recall`, a file and a query other than `quit`: its reply on what the archive in the file keeps. The file stays a word
     /// of the call.
@@ -104,6 +107,12 @@ fn is_rov(word: &str) -> bool
     ensures { IsTrue result ↔ (word.now ≡ codes "rov") }
 {
     word == "rov"
+}
+
+fn is_archive(word: &str) -> bool
+    ensures { IsTrue result ↔ (word.now ≡ codes "archive") }
+{
+    word == "archive"
 }
 
 fn is_recall(word: &str) -> bool
@@ -232,6 +241,19 @@ fn read_rov(given: &[String]) -> Option<(Prefix, bool)>
     }
 }
 
+// Whether the words behind `archive` are a file alone, or `--lenient` and a file, and then whether it is there.
+fn read_archive(given: &[String]) -> Option<bool>
+    ensures some { IfSome result (λ lenient. IsArchive lenient (map string_bytes given.now)) }
+    ensures none { IfNone result ((lenient : Bool) → IsArchive lenient (map string_bytes given.now) → ⊥) }
+{
+    let (lenient, asked) = split_lenient(given);
+    if asked.len() == 1 {
+        Some(lenient)
+    } else {
+        None
+    }
+}
+
 // The query behind the file, where the words are a file and those of a query.
 fn read_kept(alloc: Global, words: &[String]) -> Result<Query, WordsFault>
     ensures ok { IfOk result (λ query. (file : List ℕ) × AsksOf file (query_value query) (map string_bytes words.now)) }
@@ -301,6 +323,15 @@ fn read_call(alloc: Global, first: &str, given: &[String]) -> Result<Call, Words
         return match read_rov(given) {
             Some((prefix, lenient)) => Ok(Call {
                 command: Command::Rov(prefix),
+                lenient,
+            }),
+            None => Err(WordsFault::Usage),
+        };
+    }
+    if is_archive(first) {
+        return match read_archive(given) {
+            Some(lenient) => Ok(Call {
+                command: Command::Archive,
                 lenient,
             }),
             None => Err(WordsFault::Usage),

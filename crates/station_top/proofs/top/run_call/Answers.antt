@@ -1,5 +1,6 @@
 use Rattle.std.proofs.Common.{ℕ, List, refl, subst}
 use Rattle.bmp_specs.specs.LenientBody.{meaning_of}
+use Rattle.station_top.specs.ArchiveRuns.{ArchiveConcludes}
 use Rattle.station_top.specs.RecallRuns.{RecallConcludes}
 use Rattle.station_top.specs.Station.{IsReplyTo, RovConcludes}
 use Rattle.station_top.specs.declared.words.Command.TheVariants.{Recall}
@@ -36,3 +37,7 @@ returns-in-Rov-clause-concludes g c = rw c.in-Rov.is (subst (λ (path : List ℕ
 pub returns-in-Recall-clause-concludes : goal.returns-in-Recall-clause-concludes
 returns-in-Recall-clause-concludes g c =
     rw c.in-Recall.is (c.run_recall_by.ensures.calls, subst (λ (path : List ℕ). RecallConcludes (meaning_of c.args.call.lenient) (IsReplyTo (Recall c.in-Recall.query)) path (g.Y.Yard.told c.args.yard.now) (g.Y.Yard.told c.run_recall_by.new.yard) (g.Y.Yard.calls c.args.yard.now) (g.O.Sink.told c.args.out.now) (g.O.Sink.told c.run_recall_by.new.out) c.run_recall_by.result) c.file_word-path.ensures c.run_recall_by.ensures.concludes)
+
+pub returns-in-Archive-clause-concludes : goal.returns-in-Archive-clause-concludes
+returns-in-Archive-clause-concludes g c =
+    rw c.in-Archive.is (subst (λ (path : List ℕ). ArchiveConcludes (meaning_of c.args.call.lenient) path (g.Y.Yard.told c.args.yard.now) (g.Y.Yard.told c.run_archive_by.new.yard) (g.Y.Yard.calls c.args.yard.now) (g.Y.Yard.calls c.run_archive_by.new.yard) (g.O.Sink.told c.args.out.now) (g.O.Sink.told c.run_archive_by.new.out) c.run_archive_by.result) c.file_word-path.ensures c.run_archive_by.ensures.concludes)

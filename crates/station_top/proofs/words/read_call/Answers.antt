@@ -1,7 +1,7 @@
 use Rattle.std.proofs.Common.{◌≡◌, Err, map, ap}
 use Rattle.std.specs.String.{string_bytes}
 use Rattle.station_top.specs.declared.words.WordsFault.TheVariants.{Usage}
-use Rattle.station_top.proofs.Commands.{no_drill, no_recall, no_replay, no_rov, no_serve}
+use Rattle.station_top.proofs.Commands.{no_archive, no_drill, no_recall, no_replay, no_rov, no_serve}
 use Rattle.station_top.proofs.words.read_call.Goals as goal
 
 pub returns-in-Err-clause-usage : goal.returns-in-Err-clause-usage
@@ -26,3 +26,7 @@ pub returns-in-Err-read_recall-clause-usage : goal.returns-in-Err-read_recall-cl
 returns-in-Err-read_recall-clause-usage c = λ usage command lenient is.
     let fault : c.in-Err-read_recall.fault ≡ Usage = cc usage in
     no_recall c.args.first.now (map string_bytes c.args.given.now) (c.is_recall.ensures.0 c.if-is_recall.true) (c.in-Err-read_recall.ensures.usage (ap Err fault)) command lenient is
+
+pub returns-in-None-read_archive-clause-usage : goal.returns-in-None-read_archive-clause-usage
+returns-in-None-read_archive-clause-usage c = λ usage command lenient is.
+    no_archive c.args.first.now (map string_bytes c.args.given.now) (c.is_archive.ensures.0 c.if-is_archive.true) c.in-None-read_archive.ensures.none command lenient is
