@@ -3,11 +3,15 @@
 #![tactic(auto)]
 
 #[cfg(test)]
+mod archives;
+#[cfg(test)]
 mod doors;
 #[cfg(test)]
 mod lanes;
 #[cfg(test)]
 mod machine;
+#[cfg(test)]
+mod meeting;
 #[cfg(test)]
 mod opened;
 #[cfg(test)]

@@ -3,7 +3,7 @@ ghost use Rattle.std.specs.Prelude.{◌≡◌};
 
 use crate::streams::{INITIATION, PEER_UP, PEER_UP_OF_TWO_OCTETS, ROUTE_IN_TWO_OCTETS};
 use crate::words::words;
-use crate::yards::{Around, yard};
+use crate::yards::{Around, Comes, yard};
 use bmp_message::Reading;
 use cut_publisher::Ending;
 use ip_prefix::Addr;
@@ -18,7 +18,8 @@ use std::test::Fail;
 use std::thread::Threads;
 use wire_io::MemSink;
 
-type Keeping = MemYard<Ending<RouterTables>>;
+/// A yard that keeps the ending that it took.
+pub(crate) type Keeping = MemYard<Ending<RouterTables>>;
 
 // A call of the station: its words, what stands round it, how much may be written, and which writes fail; its exit
 // status, what is written or only its front, what each link is written begins with, and the last revision, where there
@@ -36,20 +37,32 @@ struct Row {
     last: Option<u64>,
 }
 
-// What a call left.
+/// What a call left.
 #[derive(Drop)]
-struct Left {
-    status: u8,
-    out: MemSink,
-    yard: Keeping,
+pub(crate) struct Left {
+    pub(crate) status: u8,
+    pub(crate) out: MemSink,
+    pub(crate) yard: Keeping,
+}
+
+/// What these words leave of a yard, and of a sink with so much room, of which these writes fail.
+pub(crate) fn call<R: Threads + Wait + Sync>(
+    rt: &R,
+    alloc: Global,
+    text: &str,
+    mut yard: Keeping,
+    room: u32,
+    writes: &[u64],
+) -> Option<Left> {
+    let words = words(alloc, text)?;
+    let mut out = MemSink::new(alloc, room, writes).ok()?;
+    let status = station(rt, alloc, words.as_slice(), &mut yard, &mut out).code();
+    Some(Left { status, out, yard })
 }
 
 fn called<R: Threads + Wait + Sync>(rt: &R, alloc: Global, row: Row) -> Option<Left> {
-    let words = words(alloc, row.words)?;
-    let mut yard = yard(alloc, row.around)?;
-    let mut out = MemSink::new(alloc, row.room, row.writes).ok()?;
-    let status = station(rt, alloc, words.as_slice(), &mut yard, &mut out).code();
-    Some(Left { status, out, yard })
+    let yard = yard(alloc, row.around)?;
+    call(rt, alloc, row.words, yard, row.room, row.writes)
 }
 
 // The revision of the ending that the yard has.
@@ -60,16 +73,14 @@ fn last(yard: &Keeping) -> Option<u64> {
     }
 }
 
-// Whether link 0 was written the replies first, and nothing where there are none.
+// Whether link 0 was written the replies: whole lines alone, and no line alone, else these first.
 fn has_replies(yard: &Keeping, replies: &str) -> bool {
     let written = yard.written(0);
     let replies = replies.as_bytes();
-    if replies.is_empty() {
-        return written.is_empty();
-    }
-    match written.get(..replies.len()) {
-        Some(first) => first == replies,
-        None => false,
+    if replies.is_empty() || replies.ends_with(b"\n") {
+        written == replies
+    } else {
+        written.starts_with(replies)
     }
 }
 
@@ -135,10 +146,7 @@ const VERSION: Row = Row {
 const ONE_LANE: Around = Around {
     ports: 1,
     stream: &[INITIATION],
-    reads: &[],
-    links: 0,
-    lines: &[],
-    calls: &[],
+    ..Around::NOTHING
 };
 
 // A lane whose router sends a route that the lenient reading alone takes, and an asker.
@@ -153,10 +161,9 @@ const TWO_OCTETS: Around = Around {
 const TWO_AND_TWO: Around = Around {
     ports: 2,
     stream: &[INITIATION],
-    reads: &[],
     links: 2,
     lines: &["cut\n"],
-    calls: &[],
+    ..Around::NOTHING
 };
 
 const ROWS: &[Row] = &[
@@ -307,17 +314,33 @@ const ROWS: &[Row] = &[
         words: "-V",
         ..VERSION
     },
-    // 64 lanes at one port, beside one for the asker: an opening and a closing each
+    // 64 lanes at one port, beside one for the asker: 0 to 63 bytes of a Peer Up, an opening and a closing each
     Row {
         words: "serve --ports shared --feed-port 5 --ask-port 6 --feeds 64 --askers 1 --rounds 1",
         around: Around {
             ports: 64,
-            stream: &[],
+            comes: Comes::Fronts,
+            stream: &[PEER_UP],
             links: 1,
             ..Around::NOTHING
         },
         written: "ready\ndone 128\n",
         last: Some(128),
+        ..NONE
+    },
+    // no router, and a client whose line is no query
+    Row {
+        words: "serve --feeds=1 --askers=1 --feed-port=1 --ask-port=2 --rounds=1",
+        around: Around {
+            ports: 1,
+            comes: Comes::Nobody,
+            links: 1,
+            lines: &["error\n"],
+            ..Around::NOTHING
+        },
+        written: "ready\ndone 0\n",
+        replies: "error query\n",
+        last: Some(0),
         ..NONE
     },
     // the least and the greatest number of seconds

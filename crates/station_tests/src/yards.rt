@@ -7,11 +7,25 @@ use station_doors::{LinkList, MemLink, MemPort, MemYard, PortList};
 use std::alloc::Global;
 use wire_io::{ByteList, NoMemory};
 
-/// What stands round a station: so many ports, each with one connection of these messages; so many links, each with one
+/// What comes to the ports.
+#[derive(Clone, Copy)]
+pub(crate) enum Comes {
+    /// No connection.
+    Nobody,
+
+    /// To each a connection of the stream.
+    Stream,
+
+    /// To each a connection of as many bytes of the stream as there are ports before it.
+    Fronts,
+}
+
+/// What stands round a station: so many ports, to which connections of these messages come; so many links, each with one
 /// connection for each of these lines. The reads of a port and the calls of the yard with these numbers fail.
 #[derive(Clone, Copy)]
 pub(crate) struct Around {
     pub(crate) ports: u32,
+    pub(crate) comes: Comes,
     pub(crate) stream: &'static [&'static str],
     pub(crate) reads: &'static [u64],
     pub(crate) links: u32,
@@ -23,6 +37,7 @@ impl Around {
     /// No port and no link.
     pub(crate) const NOTHING: Around = Around {
         ports: 0,
+        comes: Comes::Stream,
         stream: &[],
         reads: &[],
         links: 0,
@@ -41,8 +56,29 @@ pub(crate) fn yard<E>(alloc: Global, around: Around) -> Option<MemYard<E>> {
 fn ports(alloc: Global, around: Around) -> Option<PortList>
     ensures { IfSome result (All IsUntouched) }
 {
-    let stream = [bytes(alloc, around.stream)?];
-    ports_of(alloc, around.ports, &stream, around.reads).ok()
+    let stream = bytes(alloc, around.stream)?;
+    ports_of(alloc, &around, stream.as_slice()).ok()
+}
+
+// What comes to the port of this number.
+fn connections_of(
+    alloc: Global,
+    comes: Comes,
+    stream: &[u8],
+    number: u32,
+) -> Result<Vec<ByteList>, NoMemory> {
+    let bytes = match comes {
+        Comes::Nobody => return Ok(Vec::new(alloc)),
+        Comes::Stream => stream,
+        Comes::Fronts => stream.get(..number as usize).unwrap_or(stream),
+    };
+    let mut connection = ByteList::new(alloc);
+    connection.extend(bytes)?;
+    let mut connections = Vec::new(alloc);
+    match connections.push(connection) {
+        Ok(()) => Ok(connections),
+        Err(_) => Err(NoMemory),
+    }
 }
 
 // A port with these connections, given in small pieces first.
@@ -52,18 +88,21 @@ fn port(alloc: Global, connections: &[ByteList], reads: &[u64]) -> Result<MemPor
     Ok(MemPort::new(alloc, connections, &[1, 1, 4, 1, 30, 7], reads)?)
 }
 
-// So many of them.
-fn ports_of(
-    alloc: Global,
-    count: u32,
-    connections: &[ByteList],
-    reads: &[u64],
-) -> Result<PortList, NoMemory>
+// The port of this number.
+fn port_of(alloc: Global, around: &Around, stream: &[u8], number: u32) -> Result<MemPort, NoMemory>
+    ensures { IfOk result IsUntouched }
+{
+    let connections = connections_of(alloc, around.comes, stream, number)?;
+    port(alloc, connections.as_slice(), around.reads)
+}
+
+// All of them.
+fn ports_of(alloc: Global, around: &Around, stream: &[u8]) -> Result<PortList, NoMemory>
     ensures { IfOk result (All IsUntouched) }
 {
     let mut ports = PortList::new(alloc);
-    for _ in 0..count {
-        let port = port(alloc, connections, reads)?;
+    for number in 0..around.ports {
+        let port = port_of(alloc, around, stream, number)?;
         match ports.push(port) {
             Ok(()) => {}
             Err(_) => return Err(NoMemory),

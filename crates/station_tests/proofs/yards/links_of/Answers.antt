@@ -1,4 +1,3 @@
-use Rattle.std.specs.List.{All}
 use Rattle.std.proofs.lemmas.List.Elements.{All-push}
 use Rattle.station_doors.specs.MemYard.{IsIdle}
 use Rattle.station_tests.proofs.yards.links_of.Goals as goal
