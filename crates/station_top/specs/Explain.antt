@@ -13,7 +13,7 @@ help_text = codes "bmpstation: a station for the BGP Monitoring Protocol (RFC 78
     ++ codes "  drill SEED LANES MESSAGES  lanes over made streams, and what they come to\n"
     ++ codes "  relay [--lenient]          the BMP stream that rebuilds what that stream left\n"
     ++ codes "  rov [--lenient] FILE P     whether the VRPs in FILE allow each route within P\n"
-    ++ codes "  archive [--lenient] FILE   keep that stream in FILE, a new file or an empty one\n"
+    ++ codes "  archive [--lenient] FILE   keep that stream in FILE, which is new or empty\n"
     ++ codes "  recall [--lenient] FILE Q  the reply of query Q on the stream kept in FILE\n"
     ++ codes "  --help, -h                 this text\n"
     ++ codes "  --version, -V              which version this is\n"

@@ -17,7 +17,7 @@ pub(crate) fn help() -> &'static str
         "  drill SEED LANES MESSAGES  lanes over made streams, and what they come to\n",
         "  relay [--lenient]          the BMP stream that rebuilds what that stream left\n",
         "  rov [--lenient] FILE P     whether the VRPs in FILE allow each route within P\n",
-        "  archive [--lenient] FILE   keep that stream in FILE, a new file or an empty one\n",
+        "  archive [--lenient] FILE   keep that stream in FILE, which is new or empty\n",
         "  recall [--lenient] FILE Q  the reply of query Q on the stream kept in FILE\n",
         "  --help, -h                 this text\n",
         "  --version, -V              which version this is\n",
