@@ -1,8 +1,8 @@
 -- The tables of a replay, brought up to date, and the cut that is made of them.
 use Rattle.std.proofs.Common.{◌≡◌, ℕ, zero, suc, List, [], ◌∷◌, ◌++◌, Option, Result, length, refl, sym, ap, ◌∙◌, subst, append-nil, arith}
-use Rattle.std.proofs.lemmas.List.{length-map}
+use Rattle.std.proofs.lemmas.List.{length-map, map-append}
 use Rattle.bmp_specs.specs.QueryReply.{IsReply}
-use Rattle.bmp_specs.specs.Values.{EntryValue, opened}
+use Rattle.bmp_specs.specs.Values.{EntryValue}
 use Rattle.cut_publisher.specs.declared.history.Event.{Event}
 use Rattle.cut_publisher.specs.Cuts.{AreLanes, IsCutOf}
 use Rattle.cut_publisher.specs.History.{batch, part, IsWithin}
@@ -12,18 +12,18 @@ use Rattle.query_eval.specs.Replies.{PutsReply, IsReplyOn, StandsForHistory, lan
 use Rattle.wire_io.specs.declared.sink.Failed.{Failed}
 use Rattle.wire_io.specs.Aside.{Aside}
 use Rattle.rib_model.specs.declared.entry.Entry.{Entry}
-use Rattle.rib_model.specs.declared.entry.Entry.TheVariants.{Opened}
 use Rattle.rib_model.specs.Entries.{entry_value, entry_values}
+use Rattle.router_tables.specs.Building.{Builds}
 use Rattle.router_tables.specs.Tables.{StandsFor, TablesValue}
 use Rattle.station_top.specs.Replay.{Gathers, Settled, IsCutOfEntries, IsReplyOf}
 use Rattle.station_top.specs.declared.replay.Replay.{Replay}
 
--- the opening was taken
-pub begun : (replay : Replay) → StandsFor replay.tables (opened ∷ []) → replay.gathered ≡ [] → Gathers replay (opened ∷ [])
-begun replay stands none = record {
-  taken = Opened ∷ [];
-  stands = stands;
-  values = ap (λ (more : List Entry). entry_values (Opened ∷ more)) (sym none);
+-- nothing was taken, and nothing is gathered
+pub begun : (replay : Replay) → Builds replay.builder [] → replay.gathered ≡ [] → Gathers replay []
+begun replay builds none = record {
+  taken = [];
+  builds = builds;
+  values = ap entry_values (sym none);
 }
 
 -- the entries of the one lane
@@ -36,16 +36,17 @@ within_all [] = tt
 within_all (e ∷ es) = (omega arith, within_all es)
 
 -- the cut of the one lane stands for its entries
-pub cut_is : (replay : Replay) (revision : ℕ) (entries : List EntryValue) → Settled replay entries → revision ≡ length entries → (lane : TablesValue × ℕ) → lane.0 ≡ replay.tables → lane.1 ≡ revision → (cut : List (TablesValue × ℕ)) → cut ≡ lane ∷ []
+pub cut_is : (replay : Replay) (tables : TablesValue) (revision : ℕ) (entries : List EntryValue) → Gathers replay entries → StandsFor tables entries → revision ≡ length entries → (lane : TablesValue × ℕ) → lane.0 ≡ tables → lane.1 ≡ revision → (cut : List (TablesValue × ℕ)) → cut ≡ lane ∷ []
     → IsCutOf (λ tables es. StandsFor tables (entry_values es)) (lane ∷ []) cut → IsCutOfEntries cut entries
-cut_is replay revision entries s count lane tables_is count_is cut same is =
-    let taken = s.gathers.taken in
-    let values : entries ≡ entry_values taken = s.gathers.values ∙ ap entry_values (ap (λ (more : List Entry). taken ++ more) s.none ∙ append-nil taken) in
+cut_is replay tables revision entries g stands count lane tables_is count_is cut same is =
+    let taken = g.taken ++ replay.gathered in
+    let values : entries ≡ entry_values taken = g.values in
     let number : lane.1 ≡ length taken = count_is ∙ count ∙ ap length values ∙ length-map taken entry_value in
+    let of_taken : StandsFor tables (entry_values taken) = subst (λ (es : List EntryValue). StandsFor tables es) values stands in
     record {
       taken = taken;
       values = values;
-      stands = is (batch 0 taken) (within_all taken) (lanes taken (subst (λ (t : TablesValue). StandsFor t (entry_values taken)) (sym tables_is) s.gathers.stands) number);
+      stands = is (batch 0 taken) (within_all taken) (lanes taken (subst (λ (t : TablesValue). StandsFor t (entry_values taken)) (sym tables_is) of_taken) number);
       one = ap length same;
     }
   where
@@ -61,9 +62,23 @@ replied_on faults told aside query cut entries is answers =
     let lanes : lanes_of (length cut) (batch 0 is.taken) ≡ entries ∷ [] = ap (λ (n : ℕ). lanes_of n (batch 0 is.taken)) is.one ∙ ap (λ (es : List Entry). entry_values es ∷ []) (part_all is.taken) ∙ ap (λ (es : List EntryValue). es ∷ []) (sym is.values) in
     record { text = put.text; is_reply = subst (λ (l : List (List EntryValue)). IsReply (query_value query) l put.text) lanes put.is_reply; written = put.written }
 
--- the tables of a replay that has nothing gathered stand for its entries
-pub settled_stands : (replay : Replay) (entries : List EntryValue) → Settled replay entries → StandsFor replay.tables entries
-settled_stands replay entries s =
+-- the tables in the making take what was gathered
+pub settled_more : (old new : Replay) (given : List Entry) (entries : List EntryValue) → Gathers old entries → given ≡ old.gathered → ((so_far : List EntryValue) → Builds old.builder so_far → Builds new.builder (so_far ++ entry_values given)) → new.gathered ≡ []
+    → Settled new entries
+settled_more old new given entries h same takes none =
+    let taken = h.taken ++ given in
+    record {
+      gathers = record {
+        taken = taken;
+        builds = subst (λ (es : List EntryValue). Builds new.builder es) (sym (map-append entry_value h.taken given)) (takes (entry_values h.taken) h.builds);
+        values = h.values ∙ ap (λ (l : List Entry). entry_values (h.taken ++ l)) (sym same) ∙ ap entry_values (sym (append-nil taken)) ∙ ap (λ (l : List Entry). entry_values (taken ++ l)) (sym none);
+      };
+      none = none;
+    }
+
+-- tables in the making that have taken all entries of a replay are those of its entries
+pub settled_builds : (replay : Replay) (entries : List EntryValue) → Settled replay entries → Builds replay.builder entries
+settled_builds replay entries s =
     let taken = s.gathers.taken in
     let values : entries ≡ entry_values taken = s.gathers.values ∙ ap entry_values (ap (λ (more : List Entry). taken ++ more) s.none ∙ append-nil taken) in
-    subst (λ (es : List EntryValue). StandsFor replay.tables es) (sym values) s.gathers.stands
+    subst (λ (es : List EntryValue). Builds replay.builder es) (sym values) s.gathers.builds

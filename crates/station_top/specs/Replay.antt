@@ -1,4 +1,5 @@
--- What a replay stands for: the entries that its tables have, and those that are gathered and that they don't have yet.
+-- What a replay stands for: the entries that its tables in the making have, and those that are gathered and that they
+-- don't have yet.
 use Rattle.std.specs.Prelude.{◌≡◌, ◌≢◌, ℕ, List, [], ◌∷◌, ◌++◌, length}
 use Rattle.bmp_specs.specs.Query.{quit}
 use Rattle.bmp_specs.specs.QueryReply.{IsReply}
@@ -9,16 +10,17 @@ use Rattle.query_lang.specs.declared.query.Query.{Query}
 use Rattle.query_lang.specs.Queries.{query_value}
 use Rattle.rib_model.specs.declared.entry.Entry.{Entry}
 use Rattle.rib_model.specs.Entries.{entry_values}
-use Rattle.router_tables.specs.Tables.{StandsFor, TablesValue}
+use Rattle.router_tables.specs.Building.{Builds}
+use Rattle.router_tables.specs.Tables.{TablesValue}
 use Rattle.station_top.specs.declared.replay.Replay.{Replay}
 
--- they are the entries of the tables, and then those that are gathered
+-- they are the entries that the tables in the making have taken, and then those that are gathered
 pub record Gathers (replay : Replay) (entries : List EntryValue) : Type 0 where
   pub taken : List Entry
-  pub stands : StandsFor replay.tables (entry_values taken)
+  pub builds : Builds replay.builder (entry_values taken)
   pub values : entries ≡ entry_values (taken ++ replay.gathered)
 
--- they are the entries of the tables
+-- the tables in the making have taken all of them
 pub record Settled (replay : Replay) (entries : List EntryValue) : Type 0 where
   pub gathers : Gathers replay entries
   pub none : replay.gathered ≡ []

@@ -10,20 +10,21 @@ use cut_publisher::{Cut, CutLane};
 use query_eval::answer;
 use query_lang::Query;
 use rib_model::Entry;
-use router_tables::RouterTables;
+use router_tables::{RouterTables, TablesBuilder};
 use std::alloc::Global;
+use std::mem;
 use std::sync::Arc;
 use wire_io::{Failed, List, NoMemory, Sink, Unplaced};
 
-/// So many bytes of messages are gathered before the tables take them, as many as one read of a router's connection
-/// has at most: the tables take them while they are still in the processor's caches.
+/// So many bytes of messages are gathered before the tables in the making take them, as many as one read of a router's
+/// connection has at most: they are taken while they are still in the processor's caches.
 const BATCH: u64 = 65_536;
 
-/// The tables of the one router, and the entries that were gathered since they took some.
+/// The tables of the one router in the making, and the entries that were gathered since they took some.
 #[derive(Drop)]
 pub struct Replay {
     alloc: Global,
-    tables: RouterTables,
+    builder: TablesBuilder,
     gathered: List<Entry>,
     // the bytes of their messages
     bytes: u64,
@@ -44,8 +45,8 @@ impl Replay {
     fn settle(&mut self) -> Result<(), NoMemory>
         ensures { OnOk result ((entries : List EntryValue) → Gathers self.old entries → Settled self.new entries) }
     {
-        self.tables.extend(self.gathered.as_slice())?;
-        self.gathered = List::new(self.alloc);
+        let gathered = mem::replace(&mut self.gathered, List::new(self.alloc));
+        self.builder.take(gathered)?;
         self.bytes = 0;
         Ok(())
     }
@@ -72,8 +73,8 @@ impl Replay {
     {
         let mut replay = self;
         replay.settle()?;
-        let Replay { tables, .. } = replay;
-        Ok(tables)
+        let Replay { builder, .. } = replay;
+        builder.into_tables()
     }
 }
 
@@ -87,14 +88,14 @@ impl Account for Replay {
     ghost stands = { Gathers };
 
     fn begin(alloc: Global) -> Result<Replay, NoMemory> {
-        let mut tables = RouterTables::new(alloc)?;
-        tables.apply(&Entry::Opened)?;
-        Ok(Replay {
+        let mut replay = Replay {
             alloc,
-            tables,
+            builder: TablesBuilder::new(alloc)?,
             gathered: List::new(alloc),
             bytes: 0,
-        })
+        };
+        replay.gather(Entry::Opened)?;
+        Ok(replay)
     }
 
     fn note(&mut self, entry: Entry) -> Result<(), NoMemory> {
@@ -106,9 +107,7 @@ impl Account for Replay {
     }
 
     fn ready(self, alloc: Global, revision: u64) -> Result<Cut<RouterTables>, NoMemory> {
-        let mut replay = self;
-        replay.settle()?;
-        let Replay { tables, .. } = replay;
+        let tables = self.into_tables()?;
         let lane = CutLane {
             value: Arc::new(alloc, tables)?,
             count: revision,

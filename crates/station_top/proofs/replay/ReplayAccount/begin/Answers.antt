@@ -3,4 +3,4 @@ use Rattle.station_top.proofs.Replaying.{begun}
 use Rattle.station_top.proofs.replay.ReplayAccount.begin.Goals as goal
 
 pub returns : goal.returns
-returns c = begun _ (c.in_ok-apply.ensures.ok [] c.in_ok-tables.ensures) c.new-2.ensures
+returns c = c.in_ok-gather.ensures [] (begun _ c.in_ok-new.ensures c.new-2.ensures)
