@@ -122,7 +122,7 @@ takes_opened meaning Stands a b c d w0 w1 calls0 calls taken t o shut same = rec
   shows = λ plan e none. comes meaning Stands plan a b c d w0 w1 calls taken t e (same ∙ none) o shut;
 }
 
--- the one input connection was begun, and want of memory came
+-- the one input connection was begun, and memory ran out
 has_begun : (meaning : Meaning) (plan : Plan) (a b c d : Aside) (w0 w1 : Option (List LastRead)) (calls : ℕ) (bytes : List ℕ) → TakesBytes meaning b c w0 w1 calls bytes gave → a ≡ untouched plan → calls ≡ 0 → Opens a b (Ok true) → Closes c d → HasBegun meaning plan d
 has_begun meaning plan a b c d w0 w1 calls bytes t e none o shut =
     let o1 = subst (λ (x : Aside). Opens x b (Ok true)) e o in

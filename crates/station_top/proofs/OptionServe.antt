@@ -104,7 +104,7 @@ told_once words m name value are is = (are.settings, are.are_settings, subst (Is
 pub told_never : (words : List (List ℕ)) (m : ArgMatches) (name : List ℕ) → AreMatches words m → first_value (found_of m) name ≡ None → Never (dashed name) words
 told_never words m name are is = (are.settings, are.are_settings, subst (IsTold (values_of (dashed name) are.settings)) is (are.told name))
 
--- where there is no fault, an error is want of memory
+-- where there is no fault, an error is that memory ran out
 pub by_memory : (kinds : Kinds) (e : Error) → kinds ≡ [] → HasKind kinds e → kind_of e ≡ OutOfMemory
 by_memory kinds e none (inl memory) = memory
 by_memory [] e none (inr among) = elim among [ ]

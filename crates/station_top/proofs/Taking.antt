@@ -288,7 +288,7 @@ module _ (R : Type 0) (meaning : Meaning) (state : R → meaning.State) (gives :
         early = λ _. come_early meaning g.bytes ended.messages cause ended.ends;
       })
 
-  -- want of memory came behind a read that gave bytes
+  -- memory ran out after a read that gave bytes
   pub breaks : (w0 w after : Option (List LastRead)) (b : Aside) (d' m : ℕ) (buf : List ℕ) → GaveOn w0 w → Went w after (Ok m) → Reads a b (Ok m) buf → AsPlanned a.plan c d' (Ok m) → m ≢ 0 → m ≤ length buf → n + m ≤ most_taken → m ≤ most_read → (bytes : List ℕ) × TakesBytes meaning a0 b w0 after calls0 bytes gave
   unfolding goes_more
   breaks w0 w after b d' m buf on went r p some within room size =

@@ -34,7 +34,7 @@ help_text = codes "bmpstation: a station for the BGP Monitoring Protocol (RFC 78
     ++ codes "  --lenient                  read what FRR and GoBGP send beside the RFCs\n"
     ++ codes "\n"
     ++ codes "statuses: 0 done, 1 the stream stopped early, 2 usage, 3 a read failed,\n"
-    ++ codes "4 a write failed, 5 want of memory, 6 no input, port or FILE can be had,\n"
+    ++ codes "4 a write failed, 5 out of memory, 6 no input, port or FILE can be had,\n"
     ++ codes "8 what that stream left can't be relayed, 9 FILE is too long or of another form,\n"
     ++ codes "10 FILE is no archive, or not empty, 11 the disk failed, 12 the archive is full\n"
     ++ codes "\n"

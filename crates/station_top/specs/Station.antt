@@ -155,10 +155,10 @@ pub data Runs (meaning : Meaning) (Replies : List EntryValue → List ℕ → Ty
   -- line, and the port is given back
   replied : (input : Given) (messages : List EntryValue) (cause : Cause) (reply : List ℕ) → HasCome meaning input messages cause → IsReadNoFurther meaning input.bytes → Replies (opened ∷ messages) reply
       → LendsWhereTold (λ plan shows. Comes meaning plan shows input messages cause) old new number → Runs meaning Replies old new number (status_of cause) (reply ++ stop_line cause)
-  -- want of memory while the input was taken: nothing is written, and the port is given back, with what it gave until
+  -- out of memory while the input was taken: nothing is written, and the port is given back, with what it gave until
   -- then
   starved : LendsWhereTold (BreaksOff meaning) old new number → Runs meaning Replies old new number NoMemory []
-  -- want of memory once the input was taken: nothing is written, and the port is given back
+  -- out of memory once the input was taken: nothing is written, and the port is given back
   unready : (input : Given) (messages : List EntryValue) (cause : Cause) → HasCome meaning input messages cause → IsReadNoFurther meaning input.bytes
       → LendsWhereTold (λ plan shows. Comes meaning plan shows input messages cause) old new number → Runs meaning Replies old new number NoMemory []
 
@@ -177,9 +177,9 @@ pub data Relayed (effects : List EffectValue) (cause : Cause) (told0 told1 : Opt
 pub data RelayConcludes (meaning : Meaning) (old new : Option YardValue) (number : ℕ) (told0 told1 : Option (List ℕ)) : Status → Type 0 where
   -- the yard refused the port: nothing is written
   unlent : Refuses old new number → told1 ≡ told0 → RelayConcludes meaning old new number told0 told1 YardFault
-  -- want of memory while the input was taken: nothing is written
+  -- out of memory while the input was taken: nothing is written
   untaken : LendsWhereTold (BreaksOff meaning) old new number → told1 ≡ told0 → RelayConcludes meaning old new number told0 told1 NoMemory
-  -- want of memory once it was taken: nothing is written
+  -- out of memory once it was taken: nothing is written
   unsettled : (input : Given) (messages : List EntryValue) (cause : Cause) → HasCome meaning input messages cause → IsReadNoFurther meaning input.bytes
       → LendsWhereTold (λ plan shows. Comes meaning plan shows input messages cause) old new number → told1 ≡ told0 → RelayConcludes meaning old new number told0 told1 NoMemory
   -- the input was taken, and what its opening and its messages left is relayed
@@ -191,7 +191,7 @@ pub data RelayConcludes (meaning : Meaning) (old new : Option YardValue) (number
 pub data Means (words : List (List ℕ)) (old new : Option YardValue) (number : ℕ) : ℕ → Status → List ℕ → Type 0 where
   -- the words are no command: the usage line, and the yard is asked for nothing
   usage : ((call : Call) → IsCall call words → ⊥) → new ≡ old → Means words old new number number Usage usage_line
-  -- want of memory while the words were read: nothing is written, and the yard is asked for nothing
+  -- out of memory while the words were read: nothing is written, and the yard is asked for nothing
   unread : TakeMemory words → new ≡ old → Means words old new number number NoMemory []
   -- they are this call, which takes the one input connection
   called : (call : Call) (status : Status) (text : List ℕ) → IsCall call words → TakesOneInput call.command → Runs (meaning_of call.lenient) (IsReplyTo call.command) old new number status text → Means words old new number (one_more number) status text
@@ -216,7 +216,7 @@ longfile_line = line (codes "longfile") []
 pub data RovConcludes (meaning : Meaning) (path : List ℕ) (prefix : PrefixValue) (old new : Option YardValue) (number calls : ℕ) (told0 told1 : Option (List ℕ)) (status : Status) : Type 0 where
   -- the yard gave no file: nothing is written
   no_file : GivesFile path number old new (Err fault.Failed) → calls ≡ one_more number → told1 ≡ told0 → status ≡ YardFault → RovConcludes meaning path prefix old new number calls told0 told1 status
-  -- want of memory while the file was taken, or its VRPs were read: nothing is written
+  -- out of memory while the file was taken, or its VRPs were read: nothing is written
   file_starved : (given : Result (List ℕ) FileFault) → GivesFile path number old new given → calls ≡ one_more number → told1 ≡ told0 → status ≡ NoMemory → RovConcludes meaning path prefix old new number calls told0 told1 status
   -- the file is too long: the line that says so, and nothing else
   long_file : GivesFile path number old new (Err fault.TooLong) → calls ≡ one_more number → IsWritten told0 told1 longfile_line BadFile status → RovConcludes meaning path prefix old new number calls told0 told1 status
@@ -230,7 +230,7 @@ pub data RovConcludes (meaning : Meaning) (path : List ℕ) (prefix : PrefixValu
 pub data DrillMeans (drill : DrillWords) : Status → List ℕ → Type 0 where
   -- the replies on what the lanes make of their streams
   drilled_whole : (text : List ℕ) → IsDrillText drill.seed drill.lanes drill.messages text → DrillMeans drill Done text
-  -- want of memory: nothing is written
+  -- out of memory: nothing is written
   drill_starved : DrillMeans drill NoMemory []
 
 -- what a drill answers, and what it wrote

@@ -130,7 +130,7 @@ pub record HasBegun (meaning : Meaning) (plan : Plan) (shows : Aside) : Type 0 w
   pub opening : shows.open_faults ≡ 0
   pub reading : shows.read_faults ≡ 0
 
--- what a port with this plan shows where want of memory ended the taking: no call was made of it, or its one input
+-- what a port with this plan shows where the taking ended out of memory: no call was made of it, or its one input
 -- connection was begun
 abbrev pub BreaksOff : Meaning → Plan → Aside → Type 0
 BreaksOff meaning plan shows = (shows ≡ untouched plan) ⊎ HasBegun meaning plan shows

@@ -44,7 +44,7 @@ pub trait Account {
         Self: Sized,
         ensures { IfOk result (λ account. stands account (opened ∷ [])) };
 
-    /// Notes what was made of the next message. After want of memory the account may only be dropped.
+    /// Notes what was made of the next message. Out of memory the account may only be dropped.
     fn note(&mut self, item: <Self::Wants as Reads>::Item) -> Result<(), NoMemory>
         ensures { OnOk result ((entry : EntryValue) → Self.Wants.is_of item entry → (entries : List EntryValue) → stands self.old entries → stands self.new (entries ++ entry ∷ [])) };
 

@@ -38,7 +38,7 @@ pub(crate) fn help() -> &'static str
         "  --lenient                  read what FRR and GoBGP send beside the RFCs\n",
         "\n",
         "statuses: 0 done, 1 the stream stopped early, 2 usage, 3 a read failed,\n",
-        "4 a write failed, 5 want of memory, 6 no input, port or FILE can be had,\n",
+        "4 a write failed, 5 out of memory, 6 no input, port or FILE can be had,\n",
         "8 what that stream left can't be relayed, 9 FILE is too long or of another form,\n",
         "10 FILE is no archive, or not empty, 11 the disk failed, 12 the archive is full\n",
         "\n",

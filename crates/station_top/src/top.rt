@@ -47,7 +47,7 @@ const USAGE: &str =
     "usage: bmpstation replay QUERY, check, serve OPTIONS, or drill SEED LANES MESSAGES\n";
 
 // Takes the one input connection of the yard's port 0 into an account, and gives the port back. YardFault where the
-// yard refused the port, NoMemory on want of memory.
+// yard refused the port, NoMemory out of memory.
 fn take_from<Y: Yard, A: Account + Drop, R: BodyReading + Drop>(
     alloc: Global,
     yard: &mut Y,

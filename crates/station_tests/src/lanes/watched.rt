@@ -35,7 +35,7 @@ pub(crate) struct Look {
     pub(crate) shown: Shown,
 }
 
-// A port whose asker looks in front of each call. Whether a look was lost for want of memory.
+// A port whose asker looks in front of each call. Whether memory ran out for a look.
 #[derive(Drop)]
 struct Watch {
     port: MemPort,
