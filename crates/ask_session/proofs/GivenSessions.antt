@@ -1,10 +1,11 @@
 -- What a link shows of the connections that were served.
 use Rattle.std.proofs.Common.{◌≡◌, ℕ, List, [], ◌∷◌, ◌++◌, map, Option, Some, refl, ap, sym, ◌∙◌, subst, append_assoc, append-nil}
-use Rattle.station_doors.specs.Doors.{GivesNext}
-use Rattle.wire_io.specs.Aside.{Aside, Given, fresh}
+use Rattle.bmp_specs.specs.Life.{Given}
+use Rattle.station_doors.specs.Doors.{GivesNext, opened_one}
+use Rattle.wire_io.specs.Aside.{Aside, fresh}
 use Rattle.ask_session.specs.Replies.{History}
 use Rattle.ask_session.specs.Connection.{GivesInput}
-use Rattle.ask_session.specs.Sessions.{Session, Serves, input_of, opened_one}
+use Rattle.ask_session.specs.Sessions.{Session, Serves, input_of}
 
 pub serves_given : (lanes : ℕ) (ss : List Session) (seen seen' : History) (aside aside' : Aside) (told told' : Option (List ℕ)) (writes writes' : ℕ) (given : List Given)
     → Serves lanes seen seen' aside aside' told told' writes writes' ss → aside.given ≡ Some given → aside'.given ≡ Some (given ++ map input_of ss)

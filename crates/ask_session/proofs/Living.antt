@@ -2,10 +2,10 @@
 use Rattle.std.proofs.Common.{◌≡◌, ◌⊎◌, inl, inr, ℕ, ◌+◌, ◌≤◌, true, false, length, List, [], ◌++◌, Option, refl, ap, sym, ◌∙◌, subst, append-nil, length-append, arith}
 use mathlib.Core.Bool.{false≢true}
 use Rattle.std.specs.Io.KnownBytes.{Appends, Keeps, IsAtEnd}
-use Rattle.bmp_specs.specs.Life.{LastRead, gave, gave_none, failed, most_taken}
+use Rattle.bmp_specs.specs.Life.{LastRead, gave, gave_none, failed, most_taken, Given}
 use Rattle.cut_publisher.specs.History.{revision}
 use Rattle.cut_publisher.proofs.Prefixes.{begins_self}
-use Rattle.wire_io.specs.Aside.{Aside, Given, fresh}
+use Rattle.wire_io.specs.Aside.{Aside, fresh}
 use Rattle.wire_io.specs.Faults.{Rose}
 use Rattle.wire_io.proofs.Joins.{appends_none, appends_then, keeps_appends}
 use Rattle.ask_session.specs.declared.close.Close.{Close}

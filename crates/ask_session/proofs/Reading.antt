@@ -2,10 +2,10 @@
 use Rattle.std.proofs.Common.{◌≡◌, ℕ, nat_eq, cond, Bool, true, false, ◌+◌, ◌^◌, ◌<◌, length, take, List, [], ◌++◌, Option, None, Some, Result, Ok, Err, refl, ap, sym, ◌∙◌, subst, append_assoc, length-append, arith}
 use Rattle.std.proofs.lemmas.Bool.Decides.{nat_tests}
 use Rattle.std.specs.Io.KnownBytes.{Consumes, Keeps}
-use Rattle.bmp_specs.specs.Life.{LastRead, gave, gave_none, failed}
-use Rattle.station_doors.specs.Doors.{Reads, GivesBytes, given_more, read_of}
+use Rattle.bmp_specs.specs.Life.{LastRead, gave, gave_none, failed, Given}
+use Rattle.station_doors.specs.Doors.{Reads, GivesBytes, read_of, GivesMore}
 use Rattle.station_doors.proofs.Sessions.{given_more_last}
-use Rattle.wire_io.specs.Aside.{Aside, Given, fresh}
+use Rattle.wire_io.specs.Aside.{Aside, fresh}
 use Rattle.wire_io.specs.declared.sink.Failed.{Failed}
 use Rattle.ask_session.specs.Connection.{GivesInput, Stays, ReadsInput}
 
@@ -19,11 +19,6 @@ consumes_none : (a b : Option (List ℕ)) → Keeps a b → Consumes a b []
 consumes_none None b k = tt
 consumes_none (Some xs) None k = absurd k
 consumes_none (Some xs) (Some ys) k = sym k
-
--- the connections given, of which the present one gave these bytes more
-abbrev GivesMore : Option (List Given) → Option (List Given) → List ℕ → LastRead → Type 0
-GivesMore None now piece last = now ≡ None
-GivesMore (Some before) now piece last = now ≡ Some (given_more before piece last)
 
 more_ok : (a b : Option (List Given)) (n : ℕ) (buf : List ℕ) → GivesBytes a b (Ok n) buf → GivesMore a b (take n buf) (read_of n)
 more_ok None b n buf p = p

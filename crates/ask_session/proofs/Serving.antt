@@ -6,11 +6,11 @@ use Rattle.std.proofs.lemmas.Bool.Decides.{nat_tests}
 use Rattle.cut_publisher.specs.History.{Asker, Begins, revision}
 use Rattle.cut_publisher.proofs.Prefixes.{begins_self, begins_trans}
 use Rattle.rib_model.specs.declared.entry.Entry.{Entry}
-use Rattle.station_doors.specs.Doors.{Closes}
+use Rattle.station_doors.specs.Doors.{Closes, opened_one}
 use Rattle.wire_io.specs.Aside.{Aside}
 use Rattle.ask_session.specs.Replies.{History}
 use Rattle.ask_session.specs.Connection.{Conversed}
-use Rattle.ask_session.specs.Sessions.{Session, Serves, Served, OpensLink, Refuses, Sees, opened_one}
+use Rattle.ask_session.specs.Sessions.{Session, Serves, Served, OpensLink, Refuses, Sees}
 
 pub sees_self : (a : Asker Entry) → Sees a a
 sees_self a = record { station = refl; seat = refl; seen = begins_self a.seen; unmarked = λ u. u }

@@ -1,8 +1,8 @@
 -- One connection of an asker: what was read of it, what was written, and why it ended.
 use Rattle.std.specs.Prelude.{◌≡◌, ◌⊎◌, ℕ, ◌≤◌, Bool, true, false, List, [], ◌∷◌, ◌++◌, length, Option, None, Some}
 use Rattle.std.specs.Io.KnownBytes.{Appends, Consumes, IsAtEnd}
-use Rattle.bmp_specs.specs.Life.{gave_none, failed, most_taken}
-use Rattle.wire_io.specs.Aside.{Aside, Given, fresh}
+use Rattle.bmp_specs.specs.Life.{gave_none, failed, most_taken, Given}
+use Rattle.wire_io.specs.Aside.{Aside, fresh}
 use Rattle.wire_io.specs.Faults.{Rose}
 use Rattle.wire_io.specs.Writes.{AppendsFront}
 use Rattle.ask_session.specs.declared.close.Close.{Close}

@@ -1,10 +1,11 @@
 -- The connections of an asker, one after another.
-use Rattle.std.specs.Prelude.{◌≡◌, ℕ, Bool, true, false, List, [], ◌∷◌, length, MatchBool, nat_lt, Option, Result, Ok, Err, Some, map, ◌++◌}
+use Rattle.std.specs.Prelude.{◌≡◌, ℕ, Bool, List, [], ◌∷◌, length, MatchBool, nat_lt, Option, Result, Some, map, ◌++◌}
 use Rattle.std.specs.Io.KnownBytes.{Keeps}
+use Rattle.bmp_specs.specs.Life.{Given}
 use Rattle.cut_publisher.specs.History.{Asker, Begins, IsUnmarked, revision}
 use Rattle.rib_model.specs.declared.entry.Entry.{Entry}
-use Rattle.station_doors.specs.Doors.{Opens, Closes, noted_writes}
-use Rattle.wire_io.specs.Aside.{Aside, Given}
+use Rattle.station_doors.specs.Doors.{Opens, Closes, noted_writes, opened_one, IsRefusal}
+use Rattle.wire_io.specs.Aside.{Aside}
 use Rattle.wire_io.specs.declared.sink.Failed.{Failed}
 use Rattle.ask_session.specs.declared.close.Close.{Close}
 use Rattle.ask_session.specs.Replies.{History}
@@ -32,9 +33,6 @@ pub record OpensLink (old new : Aside) (writes : ℕ) (result : Result Bool Fail
   pub opens : Opens old new result
   pub noted : new.write_faults ≡ noted_writes writes old.write_faults result
 
-abbrev pub opened_one : Result Bool Failed
-opened_one = Ok true
-
 -- One connection after another, of so many lanes: what the pass has seen, what the link tells, what was written and the
 -- count of faults in writes, before and after. What the pass has seen only grows, so that revisions never fall.
 abbrev pub Serves : (lanes : ℕ) → (seen seen' : History) → (aside aside' : Aside) → (told told' : Option (List ℕ)) → (writes writes' : ℕ) → List Session → Type 0
@@ -42,12 +40,6 @@ Serves lanes seen seen' aside aside' told told' writes writes' [] = (seen' ≡ s
 Serves lanes seen seen' aside aside' told told' writes writes' (s ∷ ss) = Begins seen s.seen × OpensLink aside s.opened writes opened_one × Keeps told s.told0
     × Conversed lanes s.seen (revision seen) s.opened s.ended s.input s.told0 s.told1 writes s.writes s.close × Closes s.ended s.closed
     × Serves lanes s.seen seen' s.closed aside' s.told1 told' s.writes writes' ss
-
--- the result of `next_connection` that gave no connection: there was none, or it failed
-abbrev pub IsRefusal : Result Bool Failed → Type 0
-IsRefusal (Ok true) = ⊥
-IsRefusal (Ok false) = Unit {0}
-IsRefusal (Err failed) = Unit {0}
 
 -- a call of `next_connection` gave no connection
 pub record Refuses (old new : Aside) (writes : ℕ) : Type 0 where

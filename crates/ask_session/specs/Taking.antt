@@ -1,7 +1,7 @@
 -- A connection, piece by piece.
 use Rattle.std.specs.Prelude.{◌≡◌, ℕ, ◌≤◌, List, Option, length}
-use Rattle.bmp_specs.specs.Life.{gave, most_taken}
-use Rattle.wire_io.specs.Aside.{Aside, Given}
+use Rattle.bmp_specs.specs.Life.{gave, most_taken, Given}
+use Rattle.wire_io.specs.Aside.{Aside}
 use Rattle.ask_session.specs.Replies.{History}
 use Rattle.ask_session.specs.Connection.{ReadsInput}
 use Rattle.ask_session.specs.Hearing.{Goes}

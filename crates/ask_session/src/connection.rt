@@ -1,6 +1,6 @@
 ghost use Rattle.std.specs.Prelude.{◌≡◌, IsTrue};
+ghost use Rattle.bmp_specs.specs.Life.{Given};
 ghost use Rattle.cut_publisher.specs.History.{revision};
-ghost use Rattle.wire_io.specs.Aside.{Given};
 ghost use Rattle.ask_session.specs.Lines.{HasNoEnd, IsTooMany};
 ghost use Rattle.ask_session.specs.Connection.{Conversed};
 ghost use Rattle.ask_session.specs.Sessions.{Sees};
@@ -9,12 +9,10 @@ ghost use Rattle.ask_session.specs.Hearing.{Hears, EndsSo, IsEnd};
 use crate::close::Close;
 use crate::line::{Line, chomp};
 use crate::reply::reply_to;
+use bmp_specs::MOST_TAKEN;
 use cut_publisher::AskPass;
 use router_tables::RouterTables;
 use station_doors::Link;
-
-/// The most bytes that are taken of one connection: 2^46.
-const MOST_TAKEN: u64 = 0x4000_0000_0000;
 
 /// Takes a piece of the input, answers each line that ends in it, and tells how the connection ended, if it did.
 fn hear<K: Link>(

@@ -1,6 +1,7 @@
 ghost use Rattle.std.specs.Prelude.{◌≡◌, false, IsTrue};
 ghost use Rattle.std.specs.Io.KnownBytes.{Keeps};
-ghost use Rattle.ask_session.specs.Sessions.{Sees, Served, OpensLink, Refuses, opened_one};
+ghost use Rattle.station_doors.specs.Doors.{opened_one};
+ghost use Rattle.ask_session.specs.Sessions.{Sees, Served, OpensLink, Refuses};
 
 use crate::connection::converse;
 use cut_publisher::AskPass;

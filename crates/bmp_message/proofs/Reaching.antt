@@ -9,6 +9,7 @@ use Rattle.std.proofs.lemmas.List.{get_or_append_left, nil_from_length}
 use Rattle.bmp_specs.specs.declared.causes.Why.{Why}
 use Rattle.bmp_specs.specs.declared.causes.Why.TheVariants.{Version, Length, Body}
 use Rattle.bmp_specs.specs.Frame.{IsFrame, NeedsMore, BreaksVersion, BreaksLength, stated, IsInRange}
+use Rattle.bmp_specs.specs.Life.{EndsAt}
 use Rattle.bmp_specs.specs.Meaning.{Meaning, WalksBy}
 use Rattle.bmp_specs.specs.Values.{EntryValue}
 use Rattle.bmp_specs.specs.Walk.{Verdict, terminated, broken, Stops, termination}
@@ -16,7 +17,7 @@ use Rattle.bmp_specs.proofs.FrameCode.{stated-append}
 use Rattle.bmp_specs.proofs.WalkRead.{HasWalked-more, HasWalked-stops, HasWalked-terminates}
 use Rattle.bmp_frames.specs.Cutter.{CutterValue, IsAtFront, Gives}
 use Rattle.bmp_frames.specs.declared.cutter.Next.TheVariants.{Bad}
-use Rattle.bmp_message.specs.StreamWalk.{WalkValue, HasRead, HasCutNext, EndsAt, Stands, HasReached, verdict_with, rest_of, next_stage, Advances}
+use Rattle.bmp_message.specs.StreamWalk.{WalkValue, HasRead, HasCutNext, Stands, HasReached, verdict_with, rest_of, next_stage, Advances}
 use Rattle.bmp_message.specs.declared.walk.Stage.{Stage}
 use Rattle.bmp_message.specs.declared.walk.Stage.TheVariants.{Between, Within, Terminated, Broken}
 

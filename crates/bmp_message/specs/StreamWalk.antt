@@ -1,6 +1,8 @@
 -- The walk of a stream (RFC 7854, section 4.1) that comes in pieces: what any run of its calls gives.
-use Rattle.std.specs.Prelude.{◌≡◌, ℕ, ◌+◌, ◌-◌, ◌<◌, ◌≤◌, ◌==◌, List, [], ◌∷◌, ◌++◌, length, Result, Ok, if◌then◌else◌}
+use Rattle.std.specs.Prelude.{◌≡◌, ℕ, ◌+◌, ◌-◌, ◌<◌, ◌≤◌, ◌==◌, List, [], ◌∷◌, ◌++◌, length, Option, None, Some, Result, Ok, if◌then◌else◌}
+use Rattle.bmp_specs.specs.declared.causes.Cause.{Cause}
 use Rattle.bmp_specs.specs.Frame.{IsFrame}
+use Rattle.bmp_specs.specs.Life.{EndsAt, EndsBy}
 use Rattle.bmp_specs.specs.Meaning.{Meaning, WalksBy}
 use Rattle.bmp_specs.specs.Values.{EntryValue}
 use Rattle.bmp_specs.specs.Walk.{Verdict, whole, more, terminated, broken, HasWalked, termination}
@@ -41,10 +43,6 @@ pub record HasCutNext {R : Type 0} (meaning : Meaning) (state : R → meaning.St
   pub is_frame : IsFrame frame kind w.cutter.body
   pub read : HasRead meaning fed given (state w.reading) (frame ++ w.cutter.pending) w.offset
 
--- The walk of the bytes, whatever comes after them, gives these entries and ends so.
-abbrev pub EndsAt : Meaning → List ℕ → List EntryValue → ℕ → Verdict → Type 0
-EndsAt meaning fed given offset verdict = (after : List ℕ) → WalksBy meaning (fed ++ after) given offset verdict
-
 abbrev pub Stands : {R : Type 0} (meaning : Meaning) (state : R → meaning.State) → List ℕ → List EntryValue → WalkValue R → Stage → Type 0
 Stands meaning state fed given w stage.Between = HasRead meaning fed given (state w.reading) w.cutter.pending w.offset
 Stands meaning state fed given w (stage.Within kind) = HasCutNext meaning state fed given w kind
@@ -60,6 +58,16 @@ pub record HasReached {R : Type 0} (meaning : Meaning) (state : R → meaning.St
 -- the verdict where nothing more comes: whole where no byte is left over
 abbrev pub verdict_with : ℕ → Verdict
 verdict_with rest = if rest == 0 then whole else more
+
+-- the walk gave all whole messages of these bytes, which are these, and goes on where more comes
+pub record HasGiven {R : Type 0} (meaning : Meaning) (state : R → meaning.State) (fed : List ℕ) (messages : List EntryValue) (walk : WalkValue R) : Type 0 where
+  pub reached : HasReached meaning state fed messages walk
+  pub walks : WalksBy meaning fed messages walk.offset (verdict_with (rest_of walk))
+
+-- the walk gave all messages of these bytes, and goes on, or ends for a cause
+abbrev pub Gives : {R : Type 0} (meaning : Meaning) (state : R → meaning.State) → List ℕ → List EntryValue → WalkValue R → Option Cause → Type 0
+Gives meaning state fed messages walk None = HasGiven meaning state fed messages walk
+Gives meaning state fed messages walk (Some cause) = EndsBy meaning fed messages cause
 
 -- The run goes on with this answer: one more message was given; or the walk of the bytes, if nothing more comes,
 -- gives the entries given; or the walk ends here, whatever comes.

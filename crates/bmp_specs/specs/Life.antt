@@ -1,5 +1,5 @@
 -- The life of a connection, a notion of ours: its opening, the messages of the bytes that were taken of it, and its closing.
-use Rattle.std.specs.Prelude.{◌≡◌, ℕ, ◌-◌, ◌^◌, ◌<◌, ◌≤◌, List, [], ◌∷◌, ◌++◌, length, take}
+use Rattle.std.specs.Prelude.{◌≡◌, ℕ, ◌-◌, ◌^◌, ◌<◌, ◌≤◌, ◌==◌, List, [], ◌∷◌, ◌++◌, length, take, if◌then◌else◌}
 use Rattle.bmp_specs.specs.declared.causes.Cause.{Cause}
 use Rattle.bmp_specs.specs.declared.causes.Cause.TheVariants.{Ended, Terminated, CutShort, Broken, ReadFault, Full}
 use Rattle.bmp_specs.specs.Values.{EntryValue, opened, closed}
@@ -11,6 +11,11 @@ pub data LastRead : Type 0 where
   gave : LastRead
   gave_none : LastRead
   failed : LastRead
+
+-- a connection that was given: its bytes that were given, and how its last read went
+pub record Given : Type 0 where
+  pub bytes : List ℕ
+  pub last : LastRead
 
 -- the most bytes that are taken of one connection
 abbrev pub most_taken : ℕ
@@ -43,6 +48,32 @@ cause_rank (ReadFault at) = 5
 pub record IsCause (taken : ℕ) (last : LastRead) (verdict : Verdict) (offset : ℕ) (cause : Cause) : Type 0 where
   pub fits : Fits taken last verdict offset cause
   pub first : (other : Cause) → cause_rank other < cause_rank cause → Fits taken last verdict offset other → ⊥
+
+-- by this meaning of bodies the walk of the bytes that were taken has these messages, and this is the cause of the
+-- connection's end
+pub record HasCome (meaning : Meaning) (input : Given) (messages : List EntryValue) (cause : Cause) : Type 0 where
+  pub offset : ℕ
+  pub verdict : Verdict
+  pub within : length input.bytes ≤ most_taken
+  pub walk : WalksBy meaning input.bytes messages offset verdict
+  pub because : IsCause (length input.bytes) input.last verdict offset cause
+
+-- the walk of these bytes, whatever comes after them, has these messages and this verdict
+abbrev pub EndsAt : Meaning → List ℕ → List EntryValue → ℕ → Verdict → Type 0
+EndsAt meaning bytes messages offset verdict = (after : List ℕ) → WalksBy meaning (bytes ++ after) messages offset verdict
+
+-- the same, with the cause of the end, where the bytes decide it
+abbrev pub EndsBy : Meaning → List ℕ → List EntryValue → Cause → Type 0
+EndsBy meaning bytes messages Terminated = (offset : ℕ) × EndsAt meaning bytes messages offset terminated
+EndsBy meaning bytes messages (Broken offset why) = EndsAt meaning bytes messages offset (broken why)
+EndsBy meaning bytes messages Ended = ⊥
+EndsBy meaning bytes messages (CutShort offset) = ⊥
+EndsBy meaning bytes messages (ReadFault offset) = ⊥
+EndsBy meaning bytes messages Full = ⊥
+
+-- the cause of a connection that ended with so many bytes after its messages
+abbrev pub cause_at_end : ℕ → ℕ → Cause
+cause_at_end rest offset = if rest == 0 then Ended else CutShort offset
 
 -- the entries are the life of a connection of which these bytes were taken
 pub record IsLife (meaning : Meaning) (bytes : List ℕ) (last : LastRead) (life : List EntryValue) : Type 0 where

@@ -16,3 +16,9 @@ pub enum Cause {
     ReadFault { offset: u64 },
     Full,
 }
+
+/// The most bytes that are taken of one connection: 2^46. One that gives as many ends with `Cause::Full`.
+pub const MOST_TAKEN: u64 = 0x4000_0000_0000;
+
+/// The most bytes that one read of a router's connection gives.
+pub const MOST_READ: u64 = 65536;

@@ -10,7 +10,7 @@ mod peers;
 mod registry;
 mod wire;
 
-pub use causes::{Cause, Why};
+pub use causes::{Cause, MOST_READ, MOST_TAKEN, Why};
 pub use peers::{Detail, View};
 pub use registry::Shape;
 pub use wire::{Family, IdUse, SegmentKind, Side, Width};

@@ -6,9 +6,9 @@ use Rattle.feed_archive.specs.Appending.{ArchiveValue, AppendAnswers}
 use Rattle.feed_archive.specs.declared.fault.AppendFault.{AppendFault}
 use Rattle.feed_archive.specs.declared.fault.AppendFault.TheVariants.{Failed as DiskFailed, Full, Stopped}
 use mathlib.Core.Bool.{Bool, true, false, false≢true}
-use Rattle.bmp_specs.specs.Life.{LastRead, failed}
+use Rattle.bmp_specs.specs.Life.{LastRead, failed, Given}
 use Rattle.wire_io.specs.declared.sink.Failed.{Failed}
-use Rattle.wire_io.specs.Aside.{Aside, Given, Plan, fresh}
+use Rattle.wire_io.specs.Aside.{Aside, Plan, fresh}
 use Rattle.std.specs.Prelude.{IfSome, OnErr, Contains}
 use Rattle.station_doors.specs.Doors.{given_more, GivesBytes, GivesNext, open_after, Reads, Opens, Closes, AsPlanned}
 use Rattle.disk_doors.specs.Note.{Event}

@@ -1,7 +1,7 @@
 -- A port that keeps what it gives: what it tells, and what its archive holds.
 use Rattle.std.specs.Prelude.{◌≡◌, ℕ, zero, suc, ◌+◌, ◌*◌, ◌<◌, ◌≤◌, ◌⊎◌, Bool, true, false, cond, List, [], ◌∷◌, ◌++◌, length, Option, None, Some}
-use Rattle.bmp_specs.specs.Life.{LastRead, gave as gave_some, gave_none, failed, most_read}
-use Rattle.wire_io.specs.Aside.{Aside, Given, Plan, fresh}
+use Rattle.bmp_specs.specs.Life.{LastRead, gave as gave_some, gave_none, failed, most_read, Given}
+use Rattle.wire_io.specs.Aside.{Aside, Plan, fresh}
 use Rattle.station_doors.specs.Doors.{MadeOver, given_more}
 use Rattle.station_doors.specs.Planned.{Follows}
 use Rattle.disk_doors.specs.Images.{IsImage}

@@ -2,14 +2,15 @@
 use Rattle.std.proofs.Common.{◌≡◌, inr, ◌+◌, ◌<◌, ◌≤◌, ◌^◌, List, [], ◌∷◌, ◌++◌, length, Result, Ok, Err, Some, None, Option, refl, sym, subst, append-nil, arith}
 use Rattle.std.specs.Prelude.{MatchResult}
 use Rattle.bmp_specs.specs.declared.causes.Cause.{Cause}
+use Rattle.bmp_specs.specs.Life.{Given}
 use Rattle.bmp_specs.specs.Meaning.{Meaning}
 use Rattle.bmp_specs.specs.Values.{opened, closed}
 use Rattle.cut_publisher.specs.History.{Fed}
 use Rattle.rib_model.specs.declared.entry.Entry.{Entry}
-use Rattle.station_doors.specs.Doors.{Closes, GivesNext, Opens}
-use Rattle.wire_io.specs.Aside.{Aside, Given, fresh}
+use Rattle.station_doors.specs.Doors.{Closes, GivesNext, Opens, opened_one}
+use Rattle.wire_io.specs.Aside.{Aside, fresh}
 use Rattle.feed_worker.specs.Connection.{EndsFresh, IsNew, TakesConnection, BreaksConnection}
-use Rattle.feed_worker.specs.Feed.{Concludes, IsBegunOf, IsLifeOf, opened_one}
+use Rattle.feed_worker.specs.Feed.{Concludes, IsBegunOf, IsLifeOf}
 use Rattle.feed_worker.specs.Publishing.{Grows}
 use Rattle.feed_worker.proofs.Growing.{grows_then, grows_count}
 use Rattle.feed_worker.proofs.Lengths.{few_messages}

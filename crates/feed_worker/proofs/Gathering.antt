@@ -4,17 +4,17 @@ use Rattle.std.proofs.lemmas.List.{map-append, length-map}
 use Rattle.bmp_specs.specs.declared.causes.Why.{Why}
 use Rattle.bmp_specs.specs.declared.causes.Cause.{Cause}
 use Rattle.bmp_specs.specs.declared.causes.Cause.TheVariants.{Ended, Terminated, CutShort, Broken, ReadFault, Full}
-use Rattle.bmp_specs.specs.Life.{most_taken}
+use Rattle.bmp_specs.specs.Life.{most_taken, EndsAt, EndsBy}
 use Rattle.bmp_specs.specs.Meaning.{Meaning}
 use Rattle.bmp_specs.specs.Values.{EntryValue, opened}
 use Rattle.bmp_specs.specs.Walk.{terminated, broken}
-use Rattle.bmp_message.specs.StreamWalk.{WalkValue, HasReached, EndsAt, GoesOn, rest_of, verdict_with}
+use Rattle.bmp_message.specs.StreamWalk.{WalkValue, HasReached, GoesOn, rest_of, verdict_with, Gives}
 use Rattle.bmp_message.specs.declared.walk.Progress.TheVariants as progress
 use Rattle.cut_publisher.specs.History.{Fed}
 use Rattle.rib_model.specs.declared.entry.Entry.{Entry}
 use Rattle.rib_model.specs.Entries.{entry_value, entry_values}
 use Rattle.feed_worker.specs.Publishing.{Grows}
-use Rattle.feed_worker.specs.Walking.{EndsBy, Gives, HasPublished, Publishes}
+use Rattle.feed_worker.specs.Walking.{HasPublished, Publishes}
 use Rattle.feed_worker.proofs.Lengths.{few_messages}
 use Rattle.feed_worker.proofs.Growing.{grows_then, grows_count}
 

@@ -1,11 +1,11 @@
 -- What a port tells of the connections that were served.
 use Rattle.std.proofs.Common.{◌≡◌, List, [], ◌∷◌, ◌++◌, map, Option, Some, ap, sym, ◌∙◌, subst, append_assoc, append-nil}
+use Rattle.bmp_specs.specs.Life.{Given}
 use Rattle.bmp_specs.specs.Meaning.{Meaning}
-use Rattle.station_doors.specs.Doors.{GivesNext}
+use Rattle.station_doors.specs.Doors.{GivesNext, GivesMore, opened_one}
 use Rattle.station_doors.proofs.Sessions.{given_more_last}
-use Rattle.wire_io.specs.Aside.{Aside, Given, fresh}
-use Rattle.feed_worker.specs.Connection.{GivesMore}
-use Rattle.feed_worker.specs.Feed.{Connection, Serves, input_of, opened_one}
+use Rattle.wire_io.specs.Aside.{Aside, fresh}
+use Rattle.feed_worker.specs.Feed.{Connection, Serves, input_of}
 
 pub serves_given : (meaning : Meaning) (cs : List Connection) (old new : Aside) (given : List Given) → Serves meaning old new cs → old.given ≡ Some given → new.given ≡ Some (given ++ map input_of cs)
 serves_given meaning [] old new given same is = ap (λ (x : Aside). x.given) same ∙ is ∙ ap (λ (l : List Given). Some l) (sym (append-nil given))

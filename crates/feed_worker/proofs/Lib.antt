@@ -1,9 +1,7 @@
-pub mod Fronts
 pub mod Growing
 pub mod Lengths
 pub mod Gathering
 pub mod Ports
-pub mod Causes
 pub mod Taking
 pub mod Concluding
 pub mod Serving

@@ -10,10 +10,10 @@ use Rattle.bmp_specs.specs.Meaning.{Meaning}
 use Rattle.bmp_specs.specs.Values.{EntryValue}
 use Rattle.rib_model.specs.declared.entry.Entry.{Entry}
 use Rattle.rib_model.specs.Entries.{entry_values}
-use Rattle.station_doors.specs.Doors.{OpensNext, untouched}
+use Rattle.station_doors.specs.Doors.{OpensNext, untouched, IsRefusal, opened_one}
 use Rattle.wire_io.specs.Aside.{Aside, Plan}
 use Rattle.wire_io.specs.declared.sink.Failed.{Failed}
-use Rattle.feed_worker.specs.Feed.{Connection, IsRefusal, Refuses, Serves, Visits, lives_of, opened_one}
+use Rattle.feed_worker.specs.Feed.{Connection, Refuses, Serves, Visits, lives_of}
 use Rattle.feed_worker.specs.Planned.{AreWholeLives, IsWholeLife, PublishesPlan}
 use Rattle.feed_worker.proofs.Growing.{grows_values}
 use Rattle.feed_worker.proofs.Serving.{few_rounds_fit}

@@ -3,15 +3,15 @@ use Rattle.std.proofs.Common.{◌≡◌, ◌≢◌, ℕ, zero, suc, ◌+◌, ◌
 use Rattle.std.proofs.Math.Dec.{eqb-suc-zero}
 use Rattle.std.specs.Prelude.{IsTrue, IfSome}
 use Rattle.std.specs.Io.KnownBytes.{Consumes, Keeps}
-use Rattle.bmp_specs.specs.Life.{LastRead, gave, gave_none, failed, most_taken, IsReadNoFurther}
+use Rattle.bmp_specs.specs.Life.{LastRead, gave, gave_none, failed, most_taken, IsReadNoFurther, Given}
 use Rattle.bmp_specs.specs.Meaning.{Meaning}
 use Rattle.bmp_specs.specs.Values.{EntryValue}
 use Rattle.wire_io.specs.declared.sink.Failed.{Failed}
-use Rattle.wire_io.specs.Aside.{Aside, Given, Plan, fresh}
+use Rattle.wire_io.specs.Aside.{Aside, Plan, fresh}
 use Rattle.wire_io.specs.Faults.{Rose}
-use Rattle.station_doors.specs.Doors.{Reads, AsPlanned, GivesBytes, given_more, read_of}
+use Rattle.station_doors.specs.Doors.{Reads, AsPlanned, GivesBytes, given_more, read_of, GivesMore}
 use Rattle.station_doors.proofs.Sessions.{given_more_last}
-use Rattle.feed_worker.specs.Connection.{EndsFresh, IsNew, GivesMore, TakesBytes}
+use Rattle.feed_worker.specs.Connection.{EndsFresh, IsNew, TakesBytes}
 use Rattle.feed_worker.specs.FeedPort.{IsPublished, IsPublishedWhereTold, present_of}
 
 consumes_then : (a b c : Option (List ℕ)) (s t : List ℕ) → Consumes a b s → Consumes b c t → Consumes a c (s ++ t)

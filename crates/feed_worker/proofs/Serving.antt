@@ -6,9 +6,9 @@ use Rattle.bmp_specs.specs.Meaning.{Meaning}
 use Rattle.bmp_specs.specs.Values.{EntryValue, closed}
 use Rattle.cut_publisher.specs.History.{Fed}
 use Rattle.rib_model.specs.declared.entry.Entry.{Entry}
-use Rattle.station_doors.specs.Doors.{Opens}
+use Rattle.station_doors.specs.Doors.{Opens, opened_one}
 use Rattle.wire_io.specs.Aside.{Aside}
-use Rattle.feed_worker.specs.Feed.{Connection, Concludes, IsBegunOf, IsLifeOf, FewRoundsFit, HaveRoom, Refuses, Serves, ServesAll, ServesSome, Stops, Visits, most_entries, lives_of, opened_one}
+use Rattle.feed_worker.specs.Feed.{Connection, Concludes, IsBegunOf, IsLifeOf, FewRoundsFit, HaveRoom, Refuses, Serves, ServesAll, ServesSome, Stops, Visits, most_entries, lives_of}
 use Rattle.feed_worker.specs.Publishing.{Grows}
 use Rattle.feed_worker.proofs.Growing.{grows_none, grows_then, grows_count}
 use Rattle.feed_worker.proofs.Lengths.{few_messages}

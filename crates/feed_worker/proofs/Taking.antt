@@ -2,10 +2,12 @@
 use Rattle.std.proofs.Common.{◌≡◌, ◌≢◌, inl, inr, ℕ, ◌+◌, ◌<◌, ◌≤◌, ◌^◌, length, take, List, [], ◌∷◌, ◌++◌, Some, None, Ok, Err, refl, sym, ◌∙◌, subst, append-nil, length-take, arith}
 use Rattle.bmp_specs.specs.declared.causes.Cause.{Cause}
 use Rattle.bmp_specs.specs.declared.causes.Cause.TheVariants.{ReadFault, Full}
-use Rattle.bmp_specs.specs.Life.{gave, gave_none, failed, most_taken, most_read, IsReadNoFurther}
+use Rattle.bmp_specs.proofs.Fronts.{read_no_further}
+use Rattle.bmp_specs.specs.Life.{gave, gave_none, failed, most_taken, most_read, IsReadNoFurther, cause_at_end}
 use Rattle.bmp_specs.specs.Meaning.{Meaning}
 use Rattle.bmp_specs.specs.Values.{opened}
 use Rattle.bmp_specs.specs.Walk.{whole}
+use Rattle.bmp_message.proofs.Causes.{come_end, come_fault, come_full, come_early_here, undecided}
 use Rattle.bmp_message.specs.StreamWalk.{WalkValue, HasReached, rest_of, verdict_with}
 use Rattle.cut_publisher.specs.History.{Fed}
 use Rattle.rib_model.specs.declared.entry.Entry.{Entry}
@@ -14,12 +16,10 @@ use Rattle.rib_model.specs.Entries.{entry_values}
 use Rattle.station_doors.specs.Doors.{Reads, AsPlanned}
 use Rattle.wire_io.specs.declared.sink.Failed.{Failed}
 use Rattle.wire_io.specs.Aside.{Aside}
-use Rattle.feed_worker.specs.Connection.{IsNew, TakesConnection, BreaksConnection, cause_at_end}
+use Rattle.feed_worker.specs.Connection.{IsNew, TakesConnection, BreaksConnection}
 use Rattle.feed_worker.specs.FeedPort.{IsPublishedWhereTold}
 use Rattle.feed_worker.specs.Publishing.{Grows}
 use Rattle.feed_worker.specs.Walking.{HasPublished, HasRoom, Publishes}
-use Rattle.feed_worker.proofs.Causes.{come_end, come_fault, come_full, come_early, undecided}
-use Rattle.feed_worker.proofs.Fronts.{read_no_further}
 use Rattle.feed_worker.proofs.Ports.{Goes, goes_none, goes_more, takes_going, takes_end, takes_fault, published_told}
 use Rattle.feed_worker.proofs.Growing.{grows_none, grows_values}
 
@@ -122,7 +122,7 @@ module _ {B : Type 0} (meaning : Meaning) (state : B → meaning.State) (a0 a : 
       input = record { bytes = t.bytes ++ take m buf; last = gave };
       messages = p.messages;
       took = takes_going meaning a0 b (t.bytes ++ take m buf) (n + m) goes no_further room;
-      come = come_early meaning (t.bytes ++ take m buf) p.messages cause p.gives (omega (arith, goes.count, room));
+      come = come_early_here meaning (t.bytes ++ take m buf) p.messages cause gave p.gives (omega (arith, goes.count, room));
       grows = p.grows;
     }
 

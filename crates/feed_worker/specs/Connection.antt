@@ -1,17 +1,14 @@
 -- One connection of a router: what is taken of it, and what the lane publishes of that.
-use Rattle.std.specs.Prelude.{◌≡◌, ◌⊎◌, IsTrue, ℕ, ◌≤◌, ◌==◌, List, [], ◌∷◌, ◌++◌, Option, None, Some, IfSome, length, if◌then◌else◌}
+use Rattle.std.specs.Prelude.{◌≡◌, ◌⊎◌, IsTrue, ℕ, ◌≤◌, List, [], ◌∷◌, ◌++◌, Option, None, Some, IfSome, length}
 use Rattle.std.specs.Io.KnownBytes.{Consumes, IsAtEnd}
 use Rattle.bmp_specs.specs.declared.causes.Cause.{Cause}
-use Rattle.bmp_specs.specs.declared.causes.Cause.TheVariants.{Ended, CutShort}
-use Rattle.bmp_specs.specs.Life.{LastRead, gave, gave_none, failed, most_taken, most_read, IsCause, IsOpenLife, IsReadNoFurther}
-use Rattle.bmp_specs.specs.Meaning.{Meaning, WalksBy}
+use Rattle.bmp_specs.specs.Life.{gave, gave_none, failed, most_taken, most_read, IsOpenLife, IsReadNoFurther, Given, HasCome}
+use Rattle.bmp_specs.specs.Meaning.{Meaning}
 use Rattle.bmp_specs.specs.Values.{EntryValue, opened}
-use Rattle.bmp_specs.specs.Walk.{Verdict}
+use Rattle.station_doors.specs.Doors.{GivesMore, CountsLast}
 use Rattle.cut_publisher.specs.History.{Fed}
 use Rattle.rib_model.specs.declared.entry.Entry.{Entry}
-use Rattle.station_doors.specs.Doors.{given_more}
-use Rattle.wire_io.specs.Aside.{Aside, Given, fresh}
-use Rattle.wire_io.specs.Faults.{Rose}
+use Rattle.wire_io.specs.Aside.{Aside, fresh}
 use Rattle.feed_worker.specs.Publishing.{Grows}
 
 -- where the connections given are told, the last of them gave nothing yet
@@ -24,17 +21,6 @@ pub record IsNew (a : Aside) : Type 0 where
   pub is_open : IsTrue a.is_open
   pub none : a.taken ≡ 0
   pub fresh : EndsFresh a.given
-
--- the present connection gave these bytes more, and its last read went so
-abbrev pub GivesMore : Option (List Given) → Option (List Given) → List ℕ → LastRead → Type 0
-GivesMore None new bytes last = new ≡ None
-GivesMore (Some old) new bytes last = new ≡ Some (given_more old bytes last)
-
--- the count of faults before the reads of a connection and after them, where the last one went so
-abbrev pub CountsLast : ℕ → ℕ → LastRead → Type 0
-CountsLast before now gave = now ≡ before
-CountsLast before now gave_none = now ≡ before
-CountsLast before now failed = Rose before now
 
 -- What the reads of a connection do to its port: they gave these bytes, and the last one went so. The connection was
 -- read no further than its walk goes: what was taken before the last read doesn't decide it. A read gave nothing only
@@ -55,19 +41,6 @@ pub record TakesBytes (meaning : Meaning) (old new : Aside) (input : Given) : Ty
   pub planned : input.last ≡ failed → IfSome old.plan (λ plan. plan.fails ≡ [] → ⊥)
   pub open_faults : new.open_faults ≡ old.open_faults
   pub read_faults : CountsLast old.read_faults new.read_faults input.last
-
--- by this meaning of bodies the walk of the bytes that were taken has these messages, and this is the cause of the
--- connection's end
-pub record HasCome (meaning : Meaning) (input : Given) (messages : List EntryValue) (cause : Cause) : Type 0 where
-  pub offset : ℕ
-  pub verdict : Verdict
-  pub within : length input.bytes ≤ most_taken
-  pub walk : WalksBy meaning input.bytes messages offset verdict
-  pub because : IsCause (length input.bytes) input.last verdict offset cause
-
--- the cause of a connection that ended with so many bytes behind its messages
-abbrev pub cause_at_end : ℕ → ℕ → Cause
-cause_at_end rest offset = if rest == 0 then Ended else CutShort offset
 
 -- The present connection was taken to its end, for this cause: its opening and all messages of what it gave were
 -- published, and nothing else.

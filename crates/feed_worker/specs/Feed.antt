@@ -1,12 +1,12 @@
 -- The connections of a lane, one after another.
-use Rattle.std.specs.Prelude.{◌≡◌, ◌⊎◌, ℕ, ◌+◌, ◌<◌, ◌≤◌, ◌^◌, Bool, List, [], ◌∷◌, ◌++◌, length, map, MatchBool, nat_lt, Some, IfSome, OnErr, Result, Ok, Err, true, false}
-use Rattle.bmp_specs.specs.Life.{IsLife}
+use Rattle.std.specs.Prelude.{◌≡◌, ◌⊎◌, ℕ, ◌+◌, ◌<◌, ◌≤◌, ◌^◌, Bool, List, [], ◌∷◌, ◌++◌, length, map, MatchBool, nat_lt, Some, IfSome, OnErr, Result}
+use Rattle.bmp_specs.specs.Life.{IsLife, Given}
 use Rattle.bmp_specs.specs.Meaning.{Meaning}
 use Rattle.bmp_specs.specs.Values.{EntryValue}
 use Rattle.cut_publisher.specs.History.{Fed}
 use Rattle.rib_model.specs.declared.entry.Entry.{Entry}
-use Rattle.station_doors.specs.Doors.{Opens, Closes}
-use Rattle.wire_io.specs.Aside.{Aside, Given}
+use Rattle.station_doors.specs.Doors.{Opens, Closes, opened_one, IsRefusal}
+use Rattle.wire_io.specs.Aside.{Aside}
 use Rattle.wire_io.specs.declared.sink.Failed.{Failed}
 use Rattle.feed_worker.specs.Connection.{TakesBytes, IsBegun}
 use Rattle.feed_worker.specs.Publishing.{Grows}
@@ -29,9 +29,6 @@ abbrev pub lives_of : List Connection → List EntryValue
 lives_of [] = []
 lives_of (c ∷ cs) = c.life ++ lives_of cs
 
-abbrev pub opened_one : Result Bool Failed
-opened_one = Ok true
-
 -- the port opened a connection, gave bytes of it, and closed it
 pub record Visits (meaning : Meaning) (old : Aside) (c : Connection) : Type 0 where
   pub opens : Opens old c.opened opened_one
@@ -42,12 +39,6 @@ pub record Visits (meaning : Meaning) (old : Aside) (c : Connection) : Type 0 wh
 abbrev pub Serves : Meaning → Aside → Aside → List Connection → Type 0
 Serves meaning old new [] = new ≡ old
 Serves meaning old new (c ∷ cs) = Visits meaning old c × IsLife meaning c.input.bytes c.input.last c.life × Serves meaning c.closed new cs
-
--- the result of `next_connection` that gave no connection: there was none, or it failed
-abbrev pub IsRefusal : Result Bool Failed → Type 0
-IsRefusal (Ok true) = ⊥
-IsRefusal (Ok false) = Unit {0}
-IsRefusal (Err failed) = Unit {0}
 
 -- A call of `next_connection` gave no connection. It failed only where the plan has a call that fails.
 pub record Refuses (old new : Aside) : Type 0 where

@@ -1,9 +1,9 @@
 -- When a lane may be given more bytes: nothing whole is unpublished.
 use Rattle.std.specs.Prelude.{◌≡◌, ℕ, List, [], ◌∷◌, ◌++◌, Option, None, Some}
+use Rattle.bmp_specs.specs.Life.{Given}
 use Rattle.bmp_specs.specs.Meaning.{Meaning, WalksBy}
 use Rattle.bmp_specs.specs.Values.{EntryValue, opened}
 use Rattle.bmp_specs.specs.Walk.{Verdict}
-use Rattle.wire_io.specs.Aside.{Given}
 
 -- by this meaning of bodies the entries since the last opening are exactly the messages of these bytes
 pub record IsPublished (meaning : Meaning) (entries : List EntryValue) (bytes : List ℕ) : Type 0 where

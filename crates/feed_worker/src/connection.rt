@@ -1,27 +1,22 @@
 //! One connection of a router, taken read by read.
 ghost use Rattle.std.specs.Prelude.{◌≡◌, ◌+◌, ◌<◌, ◌≤◌, ◌^◌, ◌∷◌, [], IsTrue, length, MatchResult};
+ghost use Rattle.bmp_specs.specs.Life.{cause_at_end};
 ghost use Rattle.bmp_specs.specs.Values.{closed};
 ghost use Rattle.bmp_message.specs.StreamWalk.{rest_of};
 ghost use Rattle.station_doors.specs.Doors.{Closes};
-ghost use Rattle.feed_worker.specs.Connection.{IsNew, TakesConnection, BreaksConnection, cause_at_end};
+ghost use Rattle.feed_worker.specs.Connection.{IsNew, TakesConnection, BreaksConnection};
 ghost use Rattle.feed_worker.specs.Publishing.{Grows};
 
 use crate::feed_port::FeedPort;
 use crate::publishing::{publish_entries, publish_piece};
 use bmp_message::{BodyReading, StreamWalk};
-use bmp_specs::Cause;
+use bmp_specs::{Cause, MOST_READ, MOST_TAKEN};
 use cut_publisher::{FeedPass, Naming, Publisher};
 use rib_model::Entry;
 use router_tables::RouterTables;
 use std::alloc::Global;
 use std::sync::Wait;
 use wire_io::NoMemory;
-
-/// The most bytes that are taken of one connection, 2^46.
-const MOST_TAKEN: u64 = 0x4000_0000_0000;
-
-/// The most bytes that one read gives.
-const MOST_READ: u64 = 65536;
 
 /// Takes the present connection of the port, of which no byte was given, to its end, and tells why it ended. The pass
 /// publishes its opening, and then its messages as `B` reads them, those of one read in one step. The closing is left

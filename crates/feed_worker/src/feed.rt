@@ -1,8 +1,8 @@
 //! The connections of a lane, one after another.
 ghost use Rattle.std.specs.Prelude.{◌≡◌, ◌+◌, ◌≤◌, ◌^◌, false, IsTrue, length, MatchResult};
-ghost use Rattle.station_doors.specs.Doors.{Opens};
+ghost use Rattle.station_doors.specs.Doors.{Opens, opened_one};
 ghost use Rattle.feed_worker.specs.Connection.{IsNew};
-ghost use Rattle.feed_worker.specs.Feed.{Concludes, IsBegunOf, IsLifeOf, Refuses, ServesFeed, opened_one};
+ghost use Rattle.feed_worker.specs.Feed.{Concludes, IsBegunOf, IsLifeOf, Refuses, ServesFeed};
 
 use crate::connection::{close_connection, take_connection};
 use crate::feed_port::FeedPort;

@@ -1,11 +1,11 @@
 //! What one read brings, published in one step.
 ghost use Rattle.std.specs.Prelude.{◌≡◌, ◌++◌, ◌≤◌, ◌^◌, ℕ, List, length, IfOk, MatchResult};
 ghost use Rattle.bmp_specs.specs.Values.{EntryValue};
-ghost use Rattle.bmp_message.specs.StreamWalk.{HasReached, fed_of};
+ghost use Rattle.bmp_message.specs.StreamWalk.{HasReached, fed_of, Gives};
 ghost use Rattle.cut_publisher.specs.History.{Fed};
 ghost use Rattle.rib_model.specs.Entries.{entry_values};
 ghost use Rattle.feed_worker.specs.Publishing.{Grows};
-ghost use Rattle.feed_worker.specs.Walking.{Gives, HasPublished, HasRoom, Publishes};
+ghost use Rattle.feed_worker.specs.Walking.{HasPublished, HasRoom, Publishes};
 
 use bmp_message::{BodyReading, Entries, Progress, StreamWalk};
 use bmp_specs::Cause;

@@ -4,7 +4,7 @@ use Rattle.std.specs.Prelude.{All, slice_get}
 use Rattle.std.proofs.lemmas.Option.{slice_get-get_or, slice_get_within, get_or_from_slice_get}
 use Rattle.std.proofs.lemmas.List.{length-map, map-append, drop_at, get_or_default, take_at}
 use native.Mathlib.Decide.{ℕ_discrete}
-use Rattle.bmp_specs.specs.Life.{gave}
+use Rattle.bmp_specs.specs.Life.{gave, Given}
 use Rattle.bmp_specs.specs.Meaning.{Meaning}
 use Rattle.bmp_specs.specs.Query.{QueryValue, quit}
 use Rattle.bmp_specs.specs.QueryReply.{IsReply}
@@ -19,7 +19,6 @@ use Rattle.query_eval.specs.Replies.{IsReplyOn, lanes_of}
 use Rattle.rib_model.specs.declared.entry.Entry.{Entry}
 use Rattle.rib_model.specs.Entries.{entry_value, entry_values}
 use Rattle.router_tables.specs.Tables.{TablesValue, StandsFor}
-use Rattle.wire_io.specs.Aside.{Given}
 use Rattle.station_core.specs.declared.lane.Lane.{Lane}
 use Rattle.station_core.specs.declared.lane.Present.{Present}
 use Rattle.station_core.specs.Machine.{AreDue, ChangesLane, IsAnswered, IsTold, LaneValue, MachineValue, Publishes, WhereNamed, next_of, parts_from, with_seen}

@@ -3,15 +3,14 @@ use Rattle.std.proofs.Common.{◌≡◌, ◌≢◌, ℕ, zero, suc, ◌*◌, ◌
 use Rattle.std.proofs.Math.Dec.{eqb-suc-zero}
 use Rattle.bmp_specs.specs.declared.causes.Cause.{Cause}
 use Rattle.bmp_specs.specs.declared.causes.Cause.TheVariants.{Ended, Terminated, CutShort, Broken, ReadFault, Full}
-use Rattle.bmp_specs.specs.Life.{gave, gave_none, most_taken, Fits, IsCause, IsUndecided}
+use Rattle.bmp_specs.specs.Life.{gave, gave_none, most_taken, Fits, IsCause, IsUndecided, Given, EndsBy}
 use Rattle.bmp_specs.specs.Meaning.{Meaning, WalksBy}
 use Rattle.bmp_specs.specs.Values.{EntryValue, opened, closed}
 use Rattle.bmp_specs.specs.Walk.{Verdict, whole, more, terminated, broken}
 use Rattle.bmp_specs.proofs.LifeOne.{cause_of_termination, cause_of_break, cause_of_fullness, cause_of_end, cause_of_cut, cause_of_fault}
 use Rattle.bmp_message.specs.StreamWalk.{verdict_with}
-use Rattle.wire_io.specs.Aside.{Given}
 use Rattle.station_core.specs.Machine.{AreDue, HasEnded, IsLifeSoFar, IsLive, with_end}
-use Rattle.station_core.specs.Taking.{EndsBy, cause_at_end}
+use Rattle.station_core.specs.Taking.{cause_of_close}
 use Rattle.station_core.proofs.Lengths.{few_messages}
 
 -- one more life
@@ -66,7 +65,7 @@ module _ (meaning : Meaning) (c : Given) (messages : List EntryValue) (cause : C
 
 module _ (meaning : Meaning) (bytes : List ℕ) (messages : List EntryValue) (offset : ℕ) where
   -- the last read failed, or gave no byte
-  pub ends_last : (fault : Bool) (rest : ℕ) → length bytes < most_taken → WalksBy meaning bytes messages offset (verdict_with rest) → EndsWith meaning (with_end fault (record { bytes = bytes; last = gave })) messages (cause_at_end fault (length bytes) rest offset)
+  pub ends_last : (fault : Bool) (rest : ℕ) → length bytes < most_taken → WalksBy meaning bytes messages offset (verdict_with rest) → EndsWith meaning (with_end fault (record { bytes = bytes; last = gave })) messages (cause_of_close fault (length bytes) rest offset)
   ends_last true rest room w = (offset, verdict_with rest, omega (arith, room), w, cause_of_fault (length bytes) (verdict_with rest) offset (undecided rest) (below_most (length bytes) room))
   ends_last false zero room w = (offset, whole, omega (arith, room), w, cause_of_end (length bytes) offset (below_most (length bytes) room))
   ends_last false (suc n) room w = subst (λ (b : Bool). EndsWith meaning (record { bytes = bytes; last = gave_none }) messages (if b then Ended else CutShort offset)) (sym (eqb-suc-zero n))

@@ -2,6 +2,7 @@
 use Rattle.std.proofs.Common.{◌≡◌, ℕ, ◌<◌, ◌≤◌, min, max, List, [], ◌∷◌, ◌++◌, length, drop, get_or, set, inl, inr, sym, ap, ◌∙◌, subst, arith, length-set, get_or-set_other, get_or-set_same}
 use Rattle.std.proofs.lemmas.Option.{get_or_from_slice_get}
 use native.Mathlib.Decide.{ℕ_discrete}
+use Rattle.bmp_specs.specs.Life.{Given}
 use Rattle.bmp_specs.specs.Meaning.{Meaning}
 use Rattle.bmp_specs.specs.QueryReply.{IsReply}
 use Rattle.cut_publisher.specs.declared.history.Event.TheVariants.{Finish as Mark}
@@ -9,7 +10,6 @@ use Rattle.cut_publisher.specs.History.{Begins, batch, revision}
 use Rattle.cut_publisher.proofs.Fronts.{front_is}
 use Rattle.cut_publisher.proofs.Lanes.{revision-append}
 use Rattle.cut_publisher.proofs.Prefixes.{begins_self, begins_trans}
-use Rattle.wire_io.specs.Aside.{Given}
 use Rattle.station_core.specs.declared.event.Event.{Event}
 use Rattle.station_core.specs.declared.event.Event.TheVariants.{Begin, Take, End, Publish, Tell, Ask, Finish}
 use Rattle.station_core.specs.Laws.{AskersRemember, HaveSeen, HistoriesGrow, RepliesAreOnFronts}

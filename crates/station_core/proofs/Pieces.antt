@@ -7,19 +7,19 @@ use Rattle.std.proofs.Math.Seq.{take-append-add}
 use Rattle.bmp_specs.specs.declared.causes.Cause.{Cause}
 use Rattle.bmp_specs.specs.declared.causes.Cause.TheVariants.{Broken, Full, Terminated}
 use Rattle.bmp_specs.specs.declared.causes.Why.{Why}
-use Rattle.bmp_specs.specs.Life.{gave, most_taken}
+use Rattle.bmp_specs.specs.Life.{gave, most_taken, Given, EndsAt}
 use Rattle.bmp_specs.specs.Meaning.{Meaning, WalksBy}
 use Rattle.bmp_specs.specs.Values.{EntryValue, opened, closed}
 use Rattle.bmp_specs.specs.Walk.{broken}
-use Rattle.bmp_message.specs.StreamWalk.{WalkValue, EndsAt, GoesOn, HasReached, fed_of, rest_of, verdict_with}
+use Rattle.bmp_message.specs.StreamWalk.{WalkValue, GoesOn, HasReached, fed_of, rest_of, verdict_with, Gives, HasGiven}
 use Rattle.bmp_message.specs.declared.walk.Progress.TheVariants as progress
 use Rattle.rib_model.specs.declared.entry.Entry.{Entry}
 use Rattle.rib_model.specs.declared.entry.Entry.TheVariants.{Opened, Closed}
 use Rattle.rib_model.specs.Entries.{entry_value, entry_values}
-use Rattle.wire_io.specs.Aside.{Given, fresh}
+use Rattle.wire_io.specs.Aside.{fresh}
 use Rattle.station_core.specs.declared.lane.Present.{Present}
 use Rattle.station_core.specs.Machine.{AreDue, Begins, ComesTo, HasLive, with_end, with_piece}
-use Rattle.station_core.specs.Taking.{Gathers, Gives, HasGiven, IsIdle, IsSound, IsTaken, Moves, cause_at_end}
+use Rattle.station_core.specs.Taking.{Gathers, IsIdle, IsSound, IsTaken, Moves, cause_of_close}
 use Rattle.station_core.proofs.Dues.{due_more, EndsWith, ended_life, ends_early, ends_full, ends_last, life_ended, live_going}
 
 -- how much of a piece is taken
@@ -102,14 +102,14 @@ module _ {B : Type 0} (meaning : Meaning) (state : B → meaning.State) where
   values_closed due before messages cause is = values_more due (Closed cause ∷ []) before messages is
 
   -- the live connection ends
-  pub ends_live : (due due' : List Entry) (present : Present B) (fault : Bool) (cause : Cause) → cause ≡ cause_at_end fault present.taken (rest_of present.walk) present.walk.offset → due' ≡ due ++ Closed cause ∷ []
+  pub ends_live : (due due' : List Entry) (present : Present B) (fault : Bool) (cause : Cause) → cause ≡ cause_of_close fault present.taken (rest_of present.walk) present.walk.offset → due' ≡ due ++ Closed cause ∷ []
       → Moves meaning state (ComesTo meaning (with_end fault)) due due' (Some present) None
   ends_live due due' present fault cause is grown = record {
     made = Closed cause ∷ [];
     grown = grown;
     leads = λ connections t.
         let c : Given = with_end fault (record { bytes = t.bytes; last = gave }) in
-        let now : cause_at_end fault (length t.bytes) (rest_of present.walk) present.walk.offset ≡ cause = ap (λ (n : ℕ). cause_at_end fault n (rest_of present.walk) present.walk.offset) (sym t.taken) ∙ sym is in
+        let now : cause_of_close fault (length t.bytes) (rest_of present.walk) present.walk.offset ≡ cause = ap (λ (n : ℕ). cause_of_close fault n (rest_of present.walk) present.walk.offset) (sym t.taken) ∙ sym is in
         let ends : EndsWith meaning c t.messages cause = subst (EndsWith meaning c t.messages) now (ends_last meaning t.bytes t.messages present.walk.offset fault (rest_of present.walk) t.room t.given.walks) in
         record {
           new = t.earlier ++ c ∷ [];

@@ -7,10 +7,10 @@ use Rattle.std.proofs.lemmas.Option.{get_or_from_slice_get}
 use Rattle.std.proofs.lemmas.List.Sums.{sum_by_more, sum_by-take-le}
 use Rattle.std.proofs.lemmas.Bool.{false≢true}
 use native.Mathlib.Decide.{ℕ_discrete}
-use Rattle.bmp_specs.specs.Life.{gave}
+use Rattle.bmp_specs.specs.Life.{gave, Given}
 use Rattle.bmp_specs.specs.Meaning.{Meaning}
 use Rattle.router_tables.specs.Tables.{TablesValue}
-use Rattle.wire_io.specs.Aside.{Aside, Given}
+use Rattle.wire_io.specs.Aside.{Aside}
 use Rattle.wire_io.specs.Writes.{Writes}
 use Rattle.wire_io.proofs.Joins.{join, writes_none}
 use Rattle.cut_publisher.specs.History.{revision}

@@ -3,7 +3,7 @@
 use Rattle.std.specs.Prelude.{◌≡◌, ◌≢◌, ℕ, zero, suc, ◌+◌, ◌<◌, ◌≤◌, min, max, ◌⊎◌, Bool, true, false, if◌then◌else◌, List, [], ◌∷◌, ◌++◌, length, take, drop, slice_get, slice_set, Some}
 use Rattle.std.specs.List.{position_or_len}
 use Rattle.bmp_specs.specs.declared.causes.Cause.{Cause}
-use Rattle.bmp_specs.specs.Life.{gave, gave_none, failed, most_taken, Fits, IsLife, IsOpenLife}
+use Rattle.bmp_specs.specs.Life.{gave, gave_none, failed, most_taken, Fits, IsLife, IsOpenLife, Given}
 use Rattle.bmp_specs.specs.Meaning.{Meaning, WalksBy}
 use Rattle.bmp_specs.specs.Query.{QueryValue, quit}
 use Rattle.bmp_specs.specs.QueryReply.{IsReply}
@@ -13,7 +13,7 @@ use Rattle.cut_publisher.specs.declared.history.Event.{Event as Joined}
 use Rattle.cut_publisher.specs.declared.history.Event.TheVariants.{Finish as Mark}
 use Rattle.cut_publisher.specs.History.{part, revision, batch, IsUnmarked}
 use Rattle.query_lang.specs.Queries.{query_value}
-use Rattle.wire_io.specs.Aside.{Given, fresh}
+use Rattle.wire_io.specs.Aside.{fresh}
 use Rattle.station_core.specs.declared.event.Event.{Event}
 use Rattle.station_core.specs.declared.event.Event.TheVariants.{Begin, Take, End, Publish, Tell, Ask, Finish}
 

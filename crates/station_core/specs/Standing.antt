@@ -1,5 +1,6 @@
 -- What the machine keeps for a state of it: for each lane what it keeps, and the tables that are published of it.
 use Rattle.std.specs.Prelude.{◌≡◌, ◌≢◌, ℕ, ◌+◌, ◌<◌, ◌≤◌, ◌⊎◌, min, max, Bool, MatchBool, List, [], ◌∷◌, ◌++◌, length, drop, slice_index, slice_index_or, slice_set, Option, Result, Ok, Err}
+use Rattle.bmp_specs.specs.Life.{Given}
 use Rattle.bmp_specs.specs.Meaning.{Meaning}
 use Rattle.bmp_specs.specs.Query.{QueryValue, quit}
 use Rattle.bmp_specs.specs.Values.{EntryValue}
@@ -12,7 +13,7 @@ use Rattle.rib_model.specs.declared.entry.Entry.{Entry}
 use Rattle.rib_model.specs.Entries.{entry_value, entry_values}
 use Rattle.router_tables.specs.Tables.{TablesValue, StandsFor}
 use Rattle.wire_io.specs.declared.bytes.NoMemory.{NoMemory as OutOfMemory}
-use Rattle.wire_io.specs.Aside.{Aside, Given}
+use Rattle.wire_io.specs.Aside.{Aside}
 use Rattle.wire_io.specs.Writes.{Writes}
 use Rattle.wire_io.specs.declared.sink.Failed.{Failed as WriteFailed}
 use Rattle.station_core.specs.declared.event.Event.{Event}

@@ -1,36 +1,15 @@
 -- The present connection of a lane, taken piece by piece, and the entries that are due of the lane.
-use Rattle.std.specs.Prelude.{◌≡◌, ℕ, ◌<◌, ◌==◌, List, [], ◌∷◌, ◌++◌, length, Bool, if◌then◌else◌, Option, Some, None}
+use Rattle.std.specs.Prelude.{◌≡◌, ℕ, ◌<◌, List, [], ◌∷◌, ◌++◌, length, Bool, if◌then◌else◌, Option, Some, None}
 use Rattle.bmp_specs.specs.declared.causes.Cause.{Cause}
-use Rattle.bmp_specs.specs.declared.causes.Cause.TheVariants as cause
-use Rattle.bmp_specs.specs.Life.{gave, most_taken}
-use Rattle.bmp_specs.specs.Meaning.{Meaning, WalksBy}
+use Rattle.bmp_specs.specs.declared.causes.Cause.TheVariants.{ReadFault}
+use Rattle.bmp_specs.specs.Life.{gave, most_taken, Given, cause_at_end}
+use Rattle.bmp_specs.specs.Meaning.{Meaning}
 use Rattle.bmp_specs.specs.Values.{EntryValue, opened}
-use Rattle.bmp_specs.specs.Walk.{terminated, broken}
-use Rattle.bmp_message.specs.StreamWalk.{WalkValue, HasReached, EndsAt, rest_of, verdict_with}
+use Rattle.bmp_message.specs.StreamWalk.{WalkValue, HasReached, HasGiven, Gives}
 use Rattle.rib_model.specs.declared.entry.Entry.{Entry}
 use Rattle.rib_model.specs.Entries.{entry_values}
-use Rattle.wire_io.specs.Aside.{Given}
 use Rattle.station_core.specs.declared.lane.Present.{Present}
 use Rattle.station_core.specs.Machine.{AreDue, IsFree}
-
--- by this meaning of bodies the walk of these bytes, whatever comes after them, has these messages and ends for this cause
-abbrev pub EndsBy : Meaning → List ℕ → List EntryValue → Cause → Type 0
-EndsBy meaning fed messages cause.Terminated = (offset : ℕ) × EndsAt meaning fed messages offset terminated
-EndsBy meaning fed messages (cause.Broken offset why) = EndsAt meaning fed messages offset (broken why)
-EndsBy meaning fed messages cause.Ended = ⊥
-EndsBy meaning fed messages (cause.CutShort offset) = ⊥
-EndsBy meaning fed messages (cause.ReadFault offset) = ⊥
-EndsBy meaning fed messages cause.Full = ⊥
-
--- the walk gave all whole messages of these bytes, which are these, and goes on where more comes
-pub record HasGiven {B : Type 0} (meaning : Meaning) (state : B → meaning.State) (fed : List ℕ) (messages : List EntryValue) (walk : WalkValue B) : Type 0 where
-  pub reached : HasReached meaning state fed messages walk
-  pub walks : WalksBy meaning fed messages walk.offset (verdict_with (rest_of walk))
-
--- the walk gave all messages of these bytes, and goes on, or ends for a cause
-abbrev pub Gives : {B : Type 0} (meaning : Meaning) (state : B → meaning.State) → List ℕ → List EntryValue → WalkValue B → Option Cause → Type 0
-Gives meaning state fed messages walk None = HasGiven meaning state fed messages walk
-Gives meaning state fed messages walk (Some cause) = EndsBy meaning fed messages cause
 
 -- all whole messages that the walk has are due now, behind what was due
 pub record Gathers {B : Type 0} (meaning : Meaning) (state : B → meaning.State) (old new : WalkValue B) (due due' : List Entry) (end : Option Cause) : Type 0 where
@@ -38,9 +17,10 @@ pub record Gathers {B : Type 0} (meaning : Meaning) (state : B → meaning.State
   pub grown : due' ≡ due ++ made
   pub gives : (fed : List ℕ) (given : List EntryValue) → HasReached meaning state fed given old → Gives meaning state fed (given ++ entry_values made) new end
 
--- the cause of a connection's end of which so many bytes were taken, so many of them behind its messages
-abbrev pub cause_at_end : Bool → ℕ → ℕ → ℕ → Cause
-cause_at_end fault taken rest offset = if fault then cause.ReadFault taken else (if rest == 0 then cause.Ended else cause.CutShort offset)
+-- the cause of a connection's end of which so many bytes were taken, so many of them after its messages, where a read
+-- failed or none did
+abbrev pub cause_of_close : Bool → ℕ → ℕ → ℕ → Cause
+cause_of_close fault taken rest offset = if fault then ReadFault taken else cause_at_end rest offset
 
 -- the last of the connections is taken, and what is due ends with what its walk gave
 pub record IsTaken {B : Type 0} (meaning : Meaning) (state : B → meaning.State) (due : List Entry) (present : Present B) (connections : List Given) : Type 0 where

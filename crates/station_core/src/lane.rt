@@ -2,16 +2,13 @@
 ghost use Rattle.std.specs.Prelude.{◌≡◌, ◌∷◌, ◌++◌, [], IfOk, OnOk};
 ghost use Rattle.bmp_message.specs.StreamWalk.{fed_of, rest_of};
 ghost use Rattle.station_core.specs.Machine.{Begins, ComesTo, with_end, with_piece};
-ghost use Rattle.station_core.specs.Taking.{Gathers, IsSound, Moves, cause_at_end};
+ghost use Rattle.station_core.specs.Taking.{Gathers, IsSound, Moves, cause_of_close};
 
 use bmp_message::{BodyReading, Entries, Progress, StreamWalk};
-use bmp_specs::Cause;
+use bmp_specs::{Cause, MOST_TAKEN};
 use rib_model::Entry;
 use std::alloc::Global;
 use wire_io::{List, NoMemory, Unplaced};
-
-/// The most bytes that are taken of one connection, 2^46.
-const MOST_TAKEN: u64 = 0x4000_0000_0000;
 
 /// The present connection of a lane: the walk of what was taken of it, and how many bytes that is.
 #[derive(Drop)]
@@ -92,7 +89,7 @@ fn take_piece<B: BodyReading + Drop>(
 
 // Why a connection ended of which nothing more comes.
 fn cause_of_end<B: BodyReading>(present: &Present<B>, failed: bool) -> Cause
-    ensures { result ≡ cause_at_end failed present.now.taken (rest_of present.now.walk) present.now.walk.offset }
+    ensures { result ≡ cause_of_close failed present.now.taken (rest_of present.now.walk) present.now.walk.offset }
 {
     if failed {
         return Cause::ReadFault {

@@ -4,9 +4,9 @@ use Rattle.std.proofs.Math.Dec.{eqb-suc-zero}
 use borrow.Author.Count.{below_more}
 use Rattle.std.specs.Prelude.{IfSome, Contains}
 use Rattle.std.specs.Io.KnownBytes.{Consumes, IsAtEnd, Keeps}
-use Rattle.bmp_specs.specs.Life.{LastRead, gave, gave_none, failed, most_taken, most_read}
+use Rattle.bmp_specs.specs.Life.{LastRead, gave, gave_none, failed, most_taken, most_read, Given}
 use Rattle.wire_io.specs.declared.sink.Failed.{Failed}
-use Rattle.wire_io.specs.Aside.{Aside, Given, Plan, fresh}
+use Rattle.wire_io.specs.Aside.{Aside, Plan, fresh}
 use Rattle.station_doors.specs.Doors.{Opens, OpensNext, GivesNext, Reads, GivesBytes, Closes, AsPlanned, given_more, one_more, read_of, read_size, untouched}
 use Rattle.station_doors.specs.Planned.{first_of, Gives, ReadsAsPlanned, AllGave, GaveBefore, last_of_reads, FollowsBy, FollowsPlan, Follows}
 

@@ -3,9 +3,9 @@ use Rattle.std.proofs.Common.{◌≡◌, ℕ, ◌+◌, ◌-◌, ◌^◌, ◌<◌
 use Rattle.std.proofs.lemmas.List.{take_more, take_more_set, drop_more, drop-set-lt, drop-drop, map-append, nil_from_length}
 use Rattle.std.proofs.Math.Seq.{take-add, map-set_same}
 use Rattle.std.proofs.Math.ListN.{set}
-use Rattle.bmp_specs.specs.Life.{LastRead, failed}
+use Rattle.bmp_specs.specs.Life.{LastRead, failed, Given}
 use Rattle.wire_io.specs.declared.sink.Failed.{Failed}
-use Rattle.wire_io.specs.Aside.{Aside, Given, Plan}
+use Rattle.wire_io.specs.Aside.{Aside, Plan}
 use Rattle.station_doors.specs.declared.connections.Last.{Last}
 use Rattle.station_doors.specs.declared.connections.Last.TheVariants.{Gave, Fault}
 use Rattle.station_doors.specs.declared.connections.Session.{Session}

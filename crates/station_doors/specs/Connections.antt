@@ -1,6 +1,7 @@
 -- Connections in memory.
 use Rattle.std.specs.Prelude.{◌≡◌, ℕ, List, [], ◌∷◌, ◌++◌, Option, None, Some, Bool, map, take, drop, unwrap_or}
-use Rattle.wire_io.specs.Aside.{Aside, Given, Plan}
+use Rattle.bmp_specs.specs.Life.{Given}
+use Rattle.wire_io.specs.Aside.{Aside, Plan}
 use Rattle.station_doors.specs.LastRead.{last_of}
 use Rattle.station_doors.specs.Doors.{read_of}
 use Rattle.station_doors.specs.declared.connections.Session.{Session}

@@ -1,10 +1,10 @@
 -- What ports and yards tell, and what their calls do to it.
 use Rattle.std.specs.Prelude.{◌≡◌, ℕ, ◌+◌, ◌-◌, ◌^◌, ◌<◌, min, Bool, true, false, List, [], ◌∷◌, ◌++◌, take, Option, Some, None, Result, Ok, Err, Contains, ◌⊎◌, nat_eq, if◌then◌else◌}
 use Rattle.std.specs.Io.KnownBytes.{ReadConsumes}
-use Rattle.bmp_specs.specs.Life.{LastRead, gave, gave_none, failed, most_taken, most_read}
+use Rattle.bmp_specs.specs.Life.{LastRead, gave, gave_none, failed, most_taken, most_read, Given}
 use Rattle.wire_io.specs.declared.sink.Failed.{Failed}
-use Rattle.wire_io.specs.Aside.{Aside, Given, Plan, fresh}
-use Rattle.wire_io.specs.Faults.{HasCause}
+use Rattle.wire_io.specs.Aside.{Aside, Plan, fresh}
+use Rattle.wire_io.specs.Faults.{HasCause, Rose}
 use Rattle.disk_doors.specs.Disk.{DiskValue}
 use Rattle.station_doors.specs.declared.listening.Listening.{Listening}
 
@@ -58,6 +58,16 @@ is_refusal (Ok true) = false
 is_refusal (Ok false) = true
 is_refusal (Err e) = false
 
+-- the result of `next_connection` that gave a connection
+abbrev pub opened_one : Result Bool Failed
+opened_one = Ok true
+
+-- the result of `next_connection` that gave none: there was none, or it failed
+abbrev pub IsRefusal : Result Bool Failed → Type 0
+IsRefusal (Ok true) = ⊥
+IsRefusal (Ok false) = Unit {0}
+IsRefusal (Err e) = Unit {0}
+
 -- what a call does that opens the next connection
 pub record Opens (old new : Aside) (result : Result Bool Failed) : Type 0 where
   pub plan : new.plan ≡ old.plan
@@ -84,6 +94,17 @@ abbrev pub given_more : List Given → List ℕ → LastRead → List Given
 given_more [] bytes last = []
 given_more (g ∷ []) bytes last = record { bytes = g.bytes ++ bytes; last = last } ∷ []
 given_more (g ∷ h ∷ gs) bytes last = g ∷ given_more (h ∷ gs) bytes last
+
+-- the present connection gave these bytes more, and its last read went so
+abbrev pub GivesMore : Option (List Given) → Option (List Given) → List ℕ → LastRead → Type 0
+GivesMore None new bytes last = new ≡ None
+GivesMore (Some old) new bytes last = new ≡ Some (given_more old bytes last)
+
+-- the count of faults before the reads of a connection and after them, where the last one went so
+abbrev pub CountsLast : ℕ → ℕ → LastRead → Type 0
+CountsLast before now gave = now ≡ before
+CountsLast before now gave_none = now ≡ before
+CountsLast before now failed = Rose before now
 
 -- how a read went that gave so many bytes
 abbrev pub read_of : ℕ → LastRead

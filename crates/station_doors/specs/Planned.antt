@@ -1,7 +1,7 @@
 -- What a port gives of its plan.
 use Rattle.std.specs.Prelude.{◌≡◌, ℕ, ◌*◌, ◌<◌, ◌≤◌, true, false, List, [], ◌∷◌, ◌++◌, length, drop, Some, Contains}
-use Rattle.bmp_specs.specs.Life.{LastRead, gave, gave_none, failed, most_taken, most_read}
-use Rattle.wire_io.specs.Aside.{Aside, Given, Plan}
+use Rattle.bmp_specs.specs.Life.{LastRead, gave, gave_none, failed, most_taken, most_read, Given}
+use Rattle.wire_io.specs.Aside.{Aside, Plan}
 use Rattle.station_doors.specs.Doors.{untouched}
 
 -- the bytes of the first connection, none where there is no connection

@@ -12,8 +12,8 @@ use Rattle.rib_model.specs.declared.entry.Entry.{Entry}
 use Rattle.router_tables.specs.Tables.{TablesValue}
 use Rattle.wire_io.specs.Aside.{Aside}
 use Rattle.wire_io.specs.declared.sink.Failed.{Failed}
-use Rattle.station_doors.specs.Doors.{Opens, one_more}
-use Rattle.feed_worker.specs.Feed.{Connection, IsRefusal, Serves, ServesFeed, Stops, lives_of}
+use Rattle.station_doors.specs.Doors.{Opens, one_more, IsRefusal}
+use Rattle.feed_worker.specs.Feed.{Connection, Serves, ServesFeed, Stops, lives_of}
 use Rattle.feed_worker.specs.declared.feed.LaneEnd.{LaneEnd}
 use Rattle.feed_worker.specs.declared.feed.LaneEnd.TheVariants as end
 use Rattle.feed_worker.proofs.Growing.{grows_values}

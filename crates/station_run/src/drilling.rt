@@ -13,6 +13,7 @@ use crate::pairing::{keep_ask, keep_feed};
 use crate::run::no_tables;
 use crate::tasks::AskWork;
 use crate::works::run_all;
+use bmp_specs::MOST_TAKEN;
 use cut_publisher::{
     AskList, Cut, FeedList, Naming, Publisher, Station, Unfinished, finish, name, open_station,
 };
@@ -30,9 +31,6 @@ const ASKERS: u32 = 4;
 
 /// How often each of them asks.
 const ASKED: u32 = 16;
-
-/// The most bytes that are taken of one connection, 2^46.
-const MOST_TAKEN: u64 = 0x4000_0000_0000;
 
 // The stream of a lane. One that is too long to be taken whole counts as want of memory.
 fn short_stream(alloc: Global, seed: u32, lane: u32, messages: u32) -> Result<ByteList, NoMemory>

@@ -1,15 +1,15 @@
 -- What a port comes to whose input was taken through another over it, which shows all that it shows but its plan.
 use Rattle.std.proofs.Common.{◌≡◌, ◌<◌, ◌≤◌, ℕ, length, take, List, [], ◌∷◌, ◌++◌, Option, Some, None, Bool, true, false, refl, ap, sym, ◌∙◌, subst, inl, inr, append-nil, arith}
 use Rattle.bmp_specs.specs.declared.causes.Cause.{Cause}
-use Rattle.bmp_specs.specs.Life.{LastRead, gave, gave_none, failed, most_taken}
+use Rattle.bmp_specs.specs.Life.{LastRead, gave, gave_none, failed, most_taken, Given, HasCome}
 use Rattle.bmp_specs.specs.Meaning.{Meaning}
 use Rattle.bmp_specs.specs.Values.{EntryValue}
-use Rattle.wire_io.specs.Aside.{Aside, Given, Plan}
-use Rattle.station_doors.specs.Doors.{untouched}
+use Rattle.wire_io.specs.Aside.{Aside, Plan}
+use Rattle.station_doors.specs.Doors.{untouched, CountsLast}
 use Rattle.station_doors.specs.Planned.{first_of, ReadsAsPlanned, GaveBefore, last_of_reads, FollowsFirst, FollowsNone, FollowsBy, FollowsPlan}
 use Rattle.station_doors.proofs.Planned.{gives_nothing}
-use Rattle.station_top.specs.Input.{HasCome, input_of}
-use Rattle.station_top.specs.Take.{TakesInput, WentOn, ReadsOn, LeavesInput, CountsOpening, CountsLast, IsEarly, Comes, BreaksOff, last_given, one_for}
+use Rattle.station_top.specs.Input.{input_of}
+use Rattle.station_top.specs.Take.{TakesInput, WentOn, ReadsOn, LeavesInput, CountsOpening, IsEarly, Comes, BreaksOff, last_given, one_for}
 use Rattle.station_top.specs.declared.take.Taken.{Taken}
 use Rattle.station_top.proofs.Causes.{come_of}
 use Rattle.station_top.proofs.Coming.{some_is, none_failed, failed_counted}

@@ -4,20 +4,20 @@ use Rattle.std.proofs.lemmas.List.{append_cancel_left}
 use Rattle.std.specs.Prelude.{◌↔◌, IfSome, unwrap_or}
 use Rattle.std.specs.Io.KnownBytes.{Consumes, IsAtEnd}
 use Rattle.bmp_specs.specs.declared.causes.Cause.TheVariants.{Ended, ReadFault}
-use Rattle.bmp_specs.specs.Life.{LastRead, gave, gave_none, failed, most_taken}
+use Rattle.bmp_specs.proofs.Fronts.{read_no_further}
+use Rattle.bmp_specs.specs.Life.{LastRead, gave, gave_none, failed, most_taken, Given, HasCome}
 use Rattle.bmp_specs.specs.Meaning.{Meaning}
 use Rattle.bmp_specs.specs.Values.{EntryValue, opened}
 use Rattle.wire_io.specs.declared.sink.Failed.{Failed}
-use Rattle.wire_io.specs.Aside.{Aside, Given, Plan, fresh}
-use Rattle.station_doors.specs.Doors.{Opens, GivesNext, Closes, one_more, untouched}
+use Rattle.wire_io.specs.Aside.{Aside, Plan, fresh}
+use Rattle.station_doors.specs.Doors.{Opens, GivesNext, Closes, one_more, untouched, GivesMore, CountsLast}
 use Rattle.station_doors.specs.Planned.{first_of, GoesAsPlanned, ReadsAsPlanned}
 use Rattle.station_doors.proofs.Planned.{gives_nothing, opens_first, none_left, failed_to_open}
 use Rattle.station_doors.proofs.Sessions.{given_more_last}
-use Rattle.station_top.specs.Input.{HasCome, input_of}
-use Rattle.station_top.specs.Take.{GivesMore, IsNew, Takes, TakesBytes, TakesInput, ToldInput, LeavesInput, WentOn, ReadsOn, HasBegun, BreaksOff, CountsLast, CountsOpening, Comes, last_given}
+use Rattle.station_top.specs.Input.{input_of}
+use Rattle.station_top.specs.Take.{IsNew, Takes, TakesBytes, TakesInput, ToldInput, LeavesInput, WentOn, ReadsOn, HasBegun, BreaksOff, CountsOpening, Comes, last_given}
 use Rattle.station_top.specs.declared.take.Taken.{Taken}
 use Rattle.bmp_specs.specs.Walk.{whole}
-use Rattle.station_top.proofs.Fronts.{read_no_further}
 use Rattle.station_top.proofs.Causes.{come_of, come_none, come_unopened}
 
 new_given : (a b : Option (List Given)) → GivesNext a b (Ok true) → GivesMore b b [] gave

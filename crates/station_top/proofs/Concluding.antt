@@ -7,12 +7,13 @@ use Rattle.bmp_specs.specs.declared.causes.Cause.{Cause}
 use Rattle.bmp_specs.specs.declared.causes.Cause.TheVariants as cause
 use Rattle.bmp_specs.specs.declared.causes.Cause.TheVariants.{Ended, Terminated, CutShort, Broken, Full}
 use Rattle.bmp_specs.specs.Check.{length_of}
+use Rattle.bmp_specs.specs.Life.{Given, HasCome}
 use Rattle.bmp_specs.specs.Lines.{stop_line}
 use Rattle.bmp_specs.specs.LenientBody.{meaning_of}
 use Rattle.bmp_specs.specs.Meaning.{Meaning}
 use Rattle.bmp_specs.specs.Values.{EntryValue, opened}
 use Rattle.wire_io.specs.declared.sink.Failed.{Failed}
-use Rattle.wire_io.specs.Aside.{Aside, Given, Plan}
+use Rattle.wire_io.specs.Aside.{Aside, Plan}
 use Rattle.wire_io.specs.Faults.{HasCause}
 use Rattle.wire_io.specs.Writes.{Writes}
 use Rattle.wire_io.proofs.Joins.{join, appends_none, keeps_appends}
@@ -21,7 +22,6 @@ use Rattle.station_doors.specs.Doors.{YardValue, HandsOut, TakesBack, one_more, 
 use Rattle.query_eval.specs.Replies.{PutsReply}
 use Rattle.station_top.specs.Station.{Explains, explained, judged_by, LendsWhereTold, IsTaken, FromYard, IsReplyTo, IsStopped, TakesOneInput, Runs, refused, replied, starved, unready, called, Concludes, CallConcludes, RovConcludes, Answers, replied_to, served, drilled, relayed_to, archived_to, recalled_from, drilled_whole, drill_starved, DrillConcludes, AnswersFault, ServesNobody}
 use Rattle.station_top.specs.ArchiveRuns.{ArchiveConcludes}
-use Rattle.station_top.specs.Input.{HasCome}
 use Rattle.station_top.specs.RecallRuns.{RecallConcludes}
 use Rattle.station_top.specs.Status.{status_of, status_served}
 use Rattle.station_top.specs.Take.{TakesInput, BreaksOff}

@@ -2,10 +2,11 @@
 use Rattle.std.proofs.Common.{◌≡◌, ℕ, ◌+◌, ◌-◌, ◌^◌, min, List, [], ◌∷◌, ◌++◌, sym, subst, arith, length-append}
 use Rattle.bmp_specs.specs.declared.causes.Why.{Why}
 use Rattle.bmp_specs.specs.declared.causes.Cause.TheVariants.{Terminated, Broken}
+use Rattle.bmp_specs.specs.Life.{EndsAt}
 use Rattle.bmp_specs.specs.Meaning.{Meaning}
 use Rattle.bmp_specs.specs.Values.{EntryValue, opened}
 use Rattle.bmp_specs.specs.Walk.{broken}
-use Rattle.bmp_message.specs.StreamWalk.{WalkValue, HasReached, EndsAt, GoesOn}
+use Rattle.bmp_message.specs.StreamWalk.{WalkValue, HasReached, GoesOn}
 use Rattle.station_top.specs.Account.{HasNoted, HasDrawn, IsDrained, IsEnded}
 use Rattle.bmp_message.specs.declared.walk.Progress.TheVariants as progress
 

@@ -2,7 +2,7 @@
 use Rattle.std.proofs.Common.{◌≡◌, ℕ, ◌+◌, ◌*◌, ◌<◌, ◌≤◌, List, [], ◌∷◌, ◌++◌, Option, Some, None, Bool, true, false, refl, sym, ap, ◌∙◌, subst, inl, inr, arith, length, append-nil, length-append}
 use Rattle.std.specs.Option.{is_some}
 use Rattle.std.specs.Prelude.{unwrap_or}
-use Rattle.bmp_specs.specs.Life.{LastRead}
+use Rattle.bmp_specs.specs.Life.{LastRead, Given}
 use Rattle.bmp_specs.specs.Meaning.{Meaning}
 use Rattle.bmp_specs.specs.Values.{EntryValue}
 use Rattle.disk_doors.proofs.Passing.{sound_smaller}
@@ -17,7 +17,7 @@ use Rattle.feed_archive.specs.declared.fault.AppendFault.{AppendFault}
 use Rattle.feed_archive.specs.declared.fault.AppendFault.TheVariants as append
 use Rattle.station_doors.specs.Doors.{DiskShown, MadeOver, one_more, untouched}
 use Rattle.station_doors.specs.Planned.{FollowsPlan, first_of}
-use Rattle.wire_io.specs.Aside.{Aside, Given, Plan}
+use Rattle.wire_io.specs.Aside.{Aside, Plan}
 use Rattle.wire_io.specs.Faults.{Rose}
 use Rattle.station_top.specs.ArchiveRuns.{HandsEmpty, IsRefused, IsTakenIn, KeepsBytes, KeepsFor, KeepsFront, KeepsInput}
 use Rattle.station_top.specs.Input.{input_of}

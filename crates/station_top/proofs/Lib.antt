@@ -1,5 +1,4 @@
 pub mod Lengths
-pub mod Fronts
 pub mod Causes
 pub mod Drawing
 pub mod Taking

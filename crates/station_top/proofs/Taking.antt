@@ -4,23 +4,24 @@ use Rattle.std.specs.Prelude.{IsTrue, IfSome, OnErr}
 use Rattle.std.specs.Io.KnownBytes.{Consumes, Keeps}
 use Rattle.bmp_specs.specs.declared.causes.Cause.{Cause}
 use Rattle.bmp_specs.specs.declared.causes.Cause.TheVariants.{ReadFault, Full}
-use Rattle.bmp_specs.specs.Life.{LastRead, gave, gave_none, failed, most_taken, most_read, IsReadNoFurther}
+use Rattle.bmp_specs.proofs.Fronts.{read_no_further}
+use Rattle.bmp_specs.specs.Life.{LastRead, gave, gave_none, failed, most_taken, most_read, IsReadNoFurther, Given, cause_at_end}
 use Rattle.bmp_specs.specs.Meaning.{Meaning, WalksBy}
 use Rattle.bmp_specs.specs.Values.{EntryValue, opened}
 use Rattle.bmp_specs.specs.Walk.{Verdict}
 use Rattle.wire_io.specs.declared.sink.Failed.{Failed}
-use Rattle.wire_io.specs.Aside.{Aside, Given}
+use Rattle.wire_io.specs.Aside.{Aside}
 use Rattle.wire_io.specs.Faults.{Rose}
-use Rattle.station_doors.specs.Doors.{Reads, AsPlanned, Went, GivesBytes, given_more, read_of, went_so}
+use Rattle.station_doors.specs.Doors.{Reads, AsPlanned, Went, GivesBytes, given_more, read_of, went_so, GivesMore}
 use Rattle.station_doors.specs.Planned.{AllGave, Gives}
 use Rattle.station_doors.proofs.Planned.{read_some, gives_none, gives_then, last_gave, last_none, last_failed, all_before, all_last}
+use Rattle.bmp_message.proofs.Causes.{come_end, come_fault, come_full, come_early, come_early_here, undecided}
 use Rattle.bmp_message.specs.Effects.{GivesMessages}
 use Rattle.bmp_message.specs.StreamWalk.{WalkValue, HasReached, rest_of, verdict_with}
 use Rattle.station_top.specs.Account.{HasNoted, HasDrawn, IsDrained, IsEnded}
-use Rattle.station_top.specs.Take.{GivesMore, IsNew, Takes, TakesBytes, ReadsOn, cause_at_end}
+use Rattle.station_top.specs.Take.{IsNew, Takes, TakesBytes, ReadsOn}
 use Rattle.station_top.specs.declared.take.Taken.{Taken}
-use Rattle.station_top.proofs.Causes.{come_end, come_fault, come_full, come_early, come_early_here, not_early, undecided}
-use Rattle.station_top.proofs.Fronts.{read_no_further}
+use Rattle.station_top.proofs.Causes.{not_early}
 use Rattle.station_top.proofs.Lengths.{walk_lengths}
 
 -- what holds anyway, holds where a call failed

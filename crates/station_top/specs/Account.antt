@@ -1,12 +1,11 @@
 -- What the entries of the input go to, one after another.
 use Rattle.std.specs.Prelude.{◌≡◌, ℕ, List, ◌∷◌, length, Option, Some, None}
 use Rattle.bmp_specs.specs.declared.causes.Cause.{Cause}
-use Rattle.bmp_specs.specs.declared.causes.Cause.TheVariants as cause
+use Rattle.bmp_specs.specs.Life.{EndsBy}
 use Rattle.bmp_specs.specs.Meaning.{Meaning, WalksBy}
 use Rattle.bmp_specs.specs.Reply.{told_count}
 use Rattle.bmp_specs.specs.Values.{EntryValue, opened}
-use Rattle.bmp_specs.specs.Walk.{terminated, broken}
-use Rattle.bmp_message.specs.StreamWalk.{WalkValue, HasReached, EndsAt, rest_of, verdict_with}
+use Rattle.bmp_message.specs.StreamWalk.{WalkValue, HasReached, rest_of, verdict_with}
 
 -- the account stands for the opening and these messages, so many entries
 pub record HasNoted (Stands : List EntryValue → Type 0) (messages : List EntryValue) (revision : ℕ) : Type 0 where
@@ -19,15 +18,6 @@ pub record HasDrawn {R : Type 0} (meaning : Meaning) (state : R → meaning.Stat
   pub messages : List EntryValue
   pub reached : HasReached meaning state fed messages walk
   pub noted : HasNoted Stands messages revision
-
--- The walk of these bytes, whatever comes after them, has these messages and ends for this cause.
-abbrev pub EndsBy : Meaning → List ℕ → List EntryValue → Cause → Type 0
-EndsBy meaning fed messages cause.Terminated = (offset : ℕ) × EndsAt meaning fed messages offset terminated
-EndsBy meaning fed messages (cause.Broken offset why) = EndsAt meaning fed messages offset (broken why)
-EndsBy meaning fed messages cause.Ended = ⊥
-EndsBy meaning fed messages (cause.CutShort offset) = ⊥
-EndsBy meaning fed messages (cause.ReadFault offset) = ⊥
-EndsBy meaning fed messages cause.Full = ⊥
 
 -- all whole messages of the bytes were noted, and the walk goes on where more comes
 pub record IsDrained {R : Type 0} (meaning : Meaning) (state : R → meaning.State) (Stands : List EntryValue → Type 0) (fed : List ℕ) (walk : WalkValue R) (revision : ℕ) : Type 0 where

@@ -1,7 +1,7 @@
 -- What `archive` comes to.
 use Rattle.std.specs.Prelude.{◌≡◌, ◌⊎◌, ℕ, ◌+◌, ◌*◌, ◌<◌, ◌≤◌, List, [], ◌∷◌, ◌++◌, Option, Some, None, Contains, Result, Ok, Err, length, codes}
 use Rattle.bmp_specs.specs.declared.causes.Cause.{Cause}
-use Rattle.bmp_specs.specs.Life.{IsReadNoFurther}
+use Rattle.bmp_specs.specs.Life.{IsReadNoFurther, Given, HasCome}
 use Rattle.bmp_specs.specs.Lines.{line, number_line, stop_line}
 use Rattle.bmp_specs.specs.Meaning.{Meaning}
 use Rattle.bmp_specs.specs.Values.{EntryValue}
@@ -22,10 +22,9 @@ use Rattle.feed_archive.specs.declared.fault.RecoverFault.TheVariants as recover
 use Rattle.station_doors.specs.Disks.{disk_at, with_disk}
 use Rattle.station_doors.specs.Doors.{DiskShown, YardValue, one_more, untouched}
 use Rattle.station_doors.specs.Planned.{first_of}
-use Rattle.wire_io.specs.Aside.{Aside, Given, Plan}
+use Rattle.wire_io.specs.Aside.{Aside, Plan}
 use Rattle.wire_io.specs.Faults.{Rose}
 use Rattle.wire_io.specs.declared.sink.Failed.{Failed}
-use Rattle.station_top.specs.Input.{HasCome}
 use Rattle.station_top.specs.RecallRuns.{RefusesDisk, status_unread, text_unread}
 use Rattle.station_top.specs.Status.{status_of}
 use Rattle.station_top.specs.Take.{BreaksOff, Comes}

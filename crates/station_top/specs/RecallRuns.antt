@@ -1,7 +1,7 @@
 -- What `recall` comes to.
 use Rattle.std.specs.Prelude.{◌≡◌, ◌⊎◌, ℕ, List, [], ◌∷◌, ◌++◌, Option, Some, None, Contains, Result, Ok, Err, IfErr, take, length, codes}
 use Rattle.bmp_specs.specs.declared.causes.Cause.{Cause}
-use Rattle.bmp_specs.specs.Life.{gave_none, most_taken}
+use Rattle.bmp_specs.specs.Life.{gave_none, most_taken, Given, HasCome}
 use Rattle.bmp_specs.specs.Lines.{line, number_line, stop_line}
 use Rattle.bmp_specs.specs.Meaning.{Meaning}
 use Rattle.bmp_specs.specs.Values.{EntryValue, opened}
@@ -11,8 +11,6 @@ use Rattle.feed_archive.specs.declared.fault.RecoverFault.{RecoverFault}
 use Rattle.feed_archive.specs.declared.fault.RecoverFault.TheVariants as fault
 use Rattle.station_doors.specs.Disks.{disk_at, with_disk}
 use Rattle.station_doors.specs.Doors.{DiskShown, YardValue}
-use Rattle.wire_io.specs.Aside.{Given}
-use Rattle.station_top.specs.Input.{HasCome}
 use Rattle.station_top.specs.Status.{status_of}
 use Rattle.station_top.specs.Written.{IsWritten}
 use Rattle.station_top.specs.declared.status.Status.{Status}

@@ -5,7 +5,7 @@ use Rattle.bmp_specs.specs.declared.causes.Cause.{Cause}
 use Rattle.bmp_specs.specs.Check.{check_lines}
 use Rattle.bmp_specs.specs.Lines.{line, number_line, stop_line, usage_line}
 use Rattle.bmp_specs.specs.LenientBody.{meaning_of}
-use Rattle.bmp_specs.specs.Life.{IsReadNoFurther}
+use Rattle.bmp_specs.specs.Life.{IsReadNoFurther, Given, HasCome}
 use Rattle.bmp_specs.specs.Meaning.{Meaning}
 use Rattle.bmp_specs.specs.Query.{quit}
 use Rattle.bmp_specs.specs.QueryReply.{IsReply}
@@ -16,7 +16,7 @@ use Rattle.relay_out.specs.Relayed.{ReadsBack}
 use Rattle.relay_out.specs.Told.{IsTold, StreamValue}
 use Rattle.relay_out.specs.Writable.{AreWritable}
 use Rattle.relay_out.specs.Writing.{IsFront}
-use Rattle.wire_io.specs.Aside.{Aside, Given, Plan}
+use Rattle.wire_io.specs.Aside.{Aside, Plan}
 use Rattle.wire_io.specs.Faults.{Rose}
 use Rattle.query_lang.specs.declared.query.Query.{Query}
 use Rattle.query_lang.specs.Queries.{query_value}
@@ -30,7 +30,6 @@ use Rattle.station_doors.specs.declared.files.FileFault.TheVariants as fault
 use Rattle.station_doors.specs.declared.listening.Listening.{Listening}
 use Rattle.station_run.specs.declared.outcome.Outcome.{Outcome}
 use Rattle.station_top.specs.ArchiveRuns.{ArchiveConcludes}
-use Rattle.station_top.specs.Input.{HasCome}
 use Rattle.station_top.specs.RecallRuns.{RecallConcludes}
 use Rattle.station_top.specs.Drill.{IsDrillText}
 use Rattle.station_top.specs.Explain.{help_text, version_line}

@@ -1,38 +1,23 @@
 -- What taking a connection does to a port.
-use Rattle.std.specs.Prelude.{◌≡◌, ◌↔◌, IsTrue, Bool, true, false, ℕ, ◌<◌, ◌≤◌, ◌==◌, ◌++◌, ◌⊎◌, List, [], ◌∷◌, Option, Some, None, IfSome, length, take, drop, if◌then◌else◌}
+use Rattle.std.specs.Prelude.{◌≡◌, ◌↔◌, IsTrue, Bool, true, false, ℕ, ◌<◌, ◌≤◌, ◌++◌, ◌⊎◌, List, [], ◌∷◌, Option, Some, None, IfSome, length, take, drop}
 use Rattle.std.specs.Io.KnownBytes.{Consumes, IsAtEnd}
 use Rattle.bmp_specs.specs.declared.causes.Cause.{Cause}
 use Rattle.bmp_specs.specs.declared.causes.Cause.TheVariants.{Ended, Terminated, CutShort, Broken, ReadFault, Full}
-use Rattle.bmp_specs.specs.Life.{LastRead, gave, gave_none, failed, most_taken, IsReadNoFurther}
+use Rattle.bmp_specs.specs.Life.{LastRead, gave, gave_none, failed, most_taken, IsReadNoFurther, Given, HasCome}
 use Rattle.bmp_specs.specs.Meaning.{Meaning}
 use Rattle.bmp_specs.specs.Values.{EntryValue, opened}
-use Rattle.wire_io.specs.Aside.{Aside, Given, Plan}
+use Rattle.wire_io.specs.Aside.{Aside, Plan}
 use Rattle.wire_io.specs.Faults.{Rose}
-use Rattle.station_doors.specs.Doors.{given_more, one_more, untouched}
+use Rattle.station_doors.specs.Doors.{one_more, untouched, GivesMore, CountsLast}
 use Rattle.station_doors.specs.Planned.{first_of, Gives, GoesAsPlanned, ReadsAsPlanned, GaveBefore, last_of_reads}
-use Rattle.station_top.specs.Input.{HasCome, input_of}
+use Rattle.station_top.specs.Input.{input_of}
 use Rattle.station_top.specs.declared.take.Taken.{Taken}
-
--- the present connection gave these bytes, and its last read went so
-abbrev pub GivesMore : Option (List Given) → Option (List Given) → List ℕ → LastRead → Type 0
-GivesMore None new bytes last = new ≡ None
-GivesMore (Some old) new bytes last = new ≡ Some (given_more old bytes last)
 
 -- the present connection is open, and no byte of it was given yet
 pub record IsNew (a : Aside) : Type 0 where
   pub is_open : IsTrue a.is_open
   pub none : a.taken ≡ 0
   pub fresh : GivesMore a.given a.given [] gave
-
--- the count of faults before the reads of a connection and after them, where the last one went so
-abbrev pub CountsLast : ℕ → ℕ → LastRead → Type 0
-CountsLast before now gave = now ≡ before
-CountsLast before now gave_none = now ≡ before
-CountsLast before now failed = Rose before now
-
--- the cause of a connection that ended with so many bytes behind its messages
-abbrev pub cause_at_end : ℕ → ℕ → Cause
-cause_at_end rest offset = if rest == 0 then Ended else CutShort offset
 
 -- the bytes decide the cause, whatever would come after them
 abbrev pub IsEarly : Cause → Type 0

@@ -44,6 +44,5 @@ pub use drill_words::DrillWords;
 pub use law::drills_have_one_text;
 pub use serve_words::ServeWords;
 pub use status::Status;
-pub use take::{MOST_READ, MOST_TAKEN};
 pub use top::station;
 pub use words::{Call, Command, WordsFault, read_words};

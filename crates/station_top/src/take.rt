@@ -1,24 +1,18 @@
 ghost use Rattle.std.specs.Prelude.{◌≡◌, ℕ, List, ◌∷◌, [], IsTrue, IfOk, OnErr};
-ghost use Rattle.bmp_specs.specs.Life.{gave};
+ghost use Rattle.bmp_specs.specs.Life.{gave, cause_at_end};
 ghost use Rattle.bmp_specs.specs.Values.{opened};
 ghost use Rattle.wire_io.specs.Aside.{Plan};
 ghost use Rattle.station_doors.specs.Doors.{untouched};
 ghost use Rattle.bmp_message.specs.StreamWalk.{rest_of, fed_of};
 ghost use Rattle.station_top.specs.Account.{HasDrawn, Draws};
-ghost use Rattle.station_top.specs.Take.{IsNew, Takes, TakesBytes, TakesInput, BreaksOff, LeavesInput, WentOn, cause_at_end};
+ghost use Rattle.station_top.specs.Take.{IsNew, Takes, TakesBytes, TakesInput, BreaksOff, LeavesInput, WentOn};
 
 use crate::account::Account;
 use bmp_message::{BodyReading, Progress, StreamWalk};
-use bmp_specs::Cause;
+use bmp_specs::{Cause, MOST_READ, MOST_TAKEN};
 use station_doors::Port;
 use std::alloc::Global;
 use wire_io::NoMemory;
-
-/// The most bytes that are taken of one connection, 2^46.
-pub const MOST_TAKEN: u64 = 0x4000_0000_0000;
-
-/// The most bytes that one read gives.
-pub const MOST_READ: u64 = 65536;
 
 // How the input was taken: why it ended, how many entries were noted, its opening among them, and how many bytes were taken.
 #[derive(Clone, Copy, Debug, PartialEq, Eq)]

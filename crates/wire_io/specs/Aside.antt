@@ -1,16 +1,11 @@
 -- What an object holds beside the side that is written to: the connections that a link gives, and what lies over it.
 use Rattle.std.specs.Prelude.{ℕ, Bool, false, List, [], ◌∷◌, Option, None}
-use Rattle.bmp_specs.specs.Life.{LastRead, gave}
+use Rattle.bmp_specs.specs.Life.{Given, gave}
 
 -- the connections that an object was made with, and the numbers of its calls that fail
 pub record Plan : Type 0 where
   pub connections : List (List ℕ)
   pub fails : List ℕ
-
--- a connection that was given: its bytes that were given, and how its last read went
-pub record Given : Type 0 where
-  pub bytes : List ℕ
-  pub last : LastRead
 
 -- a connection of which no byte was given yet
 abbrev pub fresh : Given

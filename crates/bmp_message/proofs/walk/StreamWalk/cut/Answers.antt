@@ -1,8 +1,9 @@
 use Rattle.std.proofs.Common.{sym, ap, ◌∙◌, subst}
+use Rattle.bmp_specs.specs.Life.{EndsAt}
 use Rattle.bmp_specs.specs.Meaning.{WalksBy}
 use Rattle.bmp_specs.specs.Walk.{broken}
 use Rattle.bmp_frames.specs.Cutter.{CutterValue}
-use Rattle.bmp_message.specs.StreamWalk.{WalkValue, HasReached, FitsStage, EndsAt, verdict_with, rest_of}
+use Rattle.bmp_message.specs.StreamWalk.{WalkValue, HasReached, FitsStage, verdict_with, rest_of}
 use Rattle.bmp_message.specs.declared.walk.Stage.{Stage}
 use Rattle.bmp_message.specs.declared.walk.Stage.TheVariants.{Broken}
 use Rattle.bmp_message.proofs.Reaching.{reached_end, ends_bad, walks_more}

@@ -1,16 +1,14 @@
 -- What a connection comes to, by how its last read went.
-use Rattle.std.proofs.Common.{◌≡◌, ◌≢◌, ℕ, zero, suc, ◌<◌, ◌≤◌, Bool, List, [], length, sym, subst, arith, if◌then◌else◌, append-nil}
+use Rattle.std.proofs.Common.{◌≡◌, ◌≢◌, ℕ, zero, suc, ◌<◌, ◌≤◌, Bool, List, [], ◌++◌, length, sym, subst, arith, if◌then◌else◌, append-nil, length-append}
 use Rattle.std.proofs.Math.Dec.{eqb-suc-zero}
 use Rattle.bmp_specs.specs.declared.causes.Cause.{Cause}
 use Rattle.bmp_specs.specs.declared.causes.Cause.TheVariants.{Ended, Terminated, CutShort, Broken, ReadFault, Full}
-use Rattle.bmp_specs.specs.Life.{gave, gave_none, failed, most_taken, IsUndecided}
+use Rattle.bmp_specs.specs.Life.{LastRead, gave, gave_none, failed, most_taken, IsUndecided, HasCome, EndsBy, cause_at_end}
 use Rattle.bmp_specs.specs.Meaning.{Meaning, WalksBy}
 use Rattle.bmp_specs.specs.Values.{EntryValue}
 use Rattle.bmp_specs.specs.Walk.{whole, more, terminated, broken}
 use Rattle.bmp_specs.proofs.LifeOne.{cause_of_termination, cause_of_break, cause_of_fullness, cause_of_end, cause_of_cut, cause_of_fault}
 use Rattle.bmp_message.specs.StreamWalk.{verdict_with}
-use Rattle.feed_worker.specs.Connection.{HasCome, cause_at_end}
-use Rattle.feed_worker.specs.Walking.{EndsBy}
 
 below_most : (n : ℕ) → n < most_taken → n ≢ most_taken
 below_most n h e = omega (arith, h, e)
@@ -41,10 +39,13 @@ module _ (meaning : Meaning) (bytes : List ℕ) (messages : List EntryValue) (of
   come_full rest full w = record { offset = offset; verdict = verdict_with rest; within = omega (arith, full); walk = w; because = cause_of_fullness (length bytes) gave (verdict_with rest) offset (undecided rest) full }
 
 -- the walk ended in the bytes
-pub come_early : (meaning : Meaning) (bytes : List ℕ) (messages : List EntryValue) (cause : Cause) → EndsBy meaning bytes messages cause → length bytes ≤ most_taken → HasCome meaning (record { bytes = bytes; last = gave }) messages cause
-come_early meaning bytes messages Terminated (offset, ends) within = record { offset = offset; verdict = terminated; within = within; walk = subst (λ (l : List ℕ). WalksBy meaning l messages offset terminated) (append-nil bytes) (ends []); because = cause_of_termination (length bytes) gave offset }
-come_early meaning bytes messages (Broken offset why) ends within = record { offset = offset; verdict = broken why; within = within; walk = subst (λ (l : List ℕ). WalksBy meaning l messages offset (broken why)) (append-nil bytes) (ends []); because = cause_of_break (length bytes) gave why offset }
-come_early meaning bytes messages Ended ends within = absurd ends
-come_early meaning bytes messages (CutShort offset) ends within = absurd ends
-come_early meaning bytes messages (ReadFault offset) ends within = absurd ends
-come_early meaning bytes messages Full ends within = absurd ends
+pub come_early : (meaning : Meaning) (bytes : List ℕ) (messages : List EntryValue) (cause : Cause) → EndsBy meaning bytes messages cause → (after : List ℕ) (last : LastRead) → length (bytes ++ after) ≤ most_taken → HasCome meaning (record { bytes = bytes ++ after; last = last }) messages cause
+come_early meaning bytes messages Terminated (offset, ends) after last within = record { offset = offset; verdict = terminated; within = within; walk = ends after; because = cause_of_termination (length (bytes ++ after)) last offset }
+come_early meaning bytes messages (Broken offset why) ends after last within = record { offset = offset; verdict = broken why; within = within; walk = ends after; because = cause_of_break (length (bytes ++ after)) last why offset }
+come_early meaning bytes messages Ended ends after last within = absurd ends
+come_early meaning bytes messages (CutShort offset) ends after last within = absurd ends
+come_early meaning bytes messages (ReadFault offset) ends after last within = absurd ends
+come_early meaning bytes messages Full ends after last within = absurd ends
+
+pub come_early_here : (meaning : Meaning) (bytes : List ℕ) (messages : List EntryValue) (cause : Cause) (last : LastRead) → EndsBy meaning bytes messages cause → length bytes ≤ most_taken → HasCome meaning (record { bytes = bytes; last = last }) messages cause
+come_early_here meaning bytes messages cause last ends within = subst (λ (l : List ℕ). HasCome meaning (record { bytes = l; last = last }) messages cause) (append-nil bytes) (come_early meaning bytes messages cause ends [] last (omega (arith, within, length-append bytes [])))
