@@ -41,7 +41,7 @@ module _ {O : Type 0} {faults : O → ℕ} {told : O → Option (List ℕ)} {asi
 
       cause : (r : Result (Unit {0}) Failed) → HasCause (faults b) (faults c) r → HasCause (faults a) (faults c) r
       cause (Ok v) h = record { later = omega (arith, h.later, f.cause.later); failed = tt; fine = h.fine ∙ f.cause.fine }
-      cause (Err d) h = record { later = omega (arith, h.later, f.cause.later); failed = omega (arith, h.failed, f.cause.later, f.cause.fine); fine = tt }
+      cause (Err d) h = record { later = omega (arith, h.later, f.cause.later); failed = subst (λ (n : ℕ). Rose n (faults c)) f.cause.fine h.failed; fine = tt }
 
   -- a call that failed, where more was to be written
   pub more : (a b : O) (s t text : List ℕ) (d : Failed) (r : Result (Unit {0}) Failed) → Writes faults told aside a s (Err d) b → is_err r ≡ true → text ≡ s ++ t → Writes faults told aside a text r b
@@ -64,7 +64,7 @@ module _ {O : Type 0} {faults : O → ℕ} {told : O → Option (List ℕ)} {asi
     whole = tt;
     front = record { front = front; back = back; parts = e; grown = subst (λ (l : List ℕ). Appends (told a) (told c) l) (append-nil front) (appends_then (told a) (told b) (told c) front [] g (keeps_appends (told b) (told c) kept)) };
     kept = j ∙ i;
-    cause = record { later = omega (arith, later, k); failed = omega (arith, rose, k); fine = tt };
+    cause = record { later = omega (arith, later, k); failed = subst (λ (n : ℕ). Rose n (faults c)) k rose; fine = tt };
   }
 
 module _ {O : Type 0} {faults : O → ℕ} {told : O → Option (List ℕ)} {aside : O → Aside} where

@@ -53,7 +53,7 @@ impl<O: Sink> BufferedSink<O> {
         }
     }
 
-    /// Hands what is held to the sink below. Where a write fails, the rest is still held.
+    /// Hands what is held to the sink below. A write that fails ends the call; the rest is then still held.
     pub fn flush(&mut self) -> Result<(), Failed>
         ensures empty { OnOk result ((self.new.held ≡ []) × (self.new.used ≡ 0)) }
         ensures first { self.new.first ≡ self.old.first }
@@ -144,7 +144,8 @@ fn put(bytes: &mut [u8], at: usize, piece: &[u8])
     bytes[at..at + piece.len()].copy_from_slice(piece);
 }
 
-/// Writes the pieces, one after another, through a buffer, which is flushed at the end. It takes no memory.
+/// Writes the pieces, one after another, through a buffer, which is flushed at the end. A write that
+/// fails ends the call. It takes no memory.
 pub fn write_buffered<O: Sink>(out: &mut O, pieces: &[&[u8]]) -> Result<(), Failed>
     ensures { Writes O.faults O.told O.aside out.old (joined pieces.now) result out.new }
 {
