@@ -3,14 +3,17 @@ ghost use Rattle.wire_io.specs.declared.fault.BodyFault.TheVariants.{NoMemory as
 
 use crate::{NoMemory, Unplaced};
 use std::alloc::{AllocError, AllocFailed};
+use thiserror::Error;
 
 /// Why a part of a message was not read. Each reader says of which grammar its part is.
-#[derive(Clone, Copy, Debug, PartialEq, Eq)]
+#[derive(Clone, Copy, Debug, PartialEq, Eq, Error)]
 pub enum BodyFault {
     /// The bytes aren't in the grammar of the part.
+    #[error("the bytes aren't in the grammar")]
     Broken,
 
-    /// Want of memory.
+    /// Out of memory.
+    #[error("out of memory")]
     NoMemory,
 }
 
