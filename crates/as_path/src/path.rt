@@ -55,7 +55,7 @@ impl AsPath {
         }
     }
 
-    /// Appends the segment. After want of memory the path is as before.
+    /// Appends the segment. Out of memory, the path is as before.
     pub fn push(&mut self, item: Segment) -> Result<(), Unplaced<Segment>>
         ensures ok { OnOk result (self.new ≡ self.old ++ item ∷ []) }
         ensures err { OnErr result (self.new ≡ self.old) }

@@ -34,7 +34,7 @@ pub trait BodyReading {
         ensures broken { IsErrOf result BodyFault.Broken → MeansNoEntry (meaning.Means (state self.old) kind body.now) }
         ensures unchanged { OnErr result (self.new ≡ self.old) };
 
-    /// Judges the message: `Ok` exactly where `entry` gives its entry, want of memory aside, and then the same is known
+    /// Judges the message: `Ok` exactly where `entry` gives its entry, out of memory aside, and then the same is known
     /// as after that. A refusal leaves what was read as it was.
     fn judge(&mut self, kind: u8, body: &[u8]) -> Result<(), BodyFault>
         requires { length body.now ≤ most_body }

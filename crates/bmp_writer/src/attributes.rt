@@ -59,7 +59,7 @@ pub(crate) fn put_head(out: &mut ByteList, flags: u8, code: u8, size: usize) -> 
     out.extend(&[flags, code, size as u8])
 }
 
-/// Appends an attribute. For want of memory fewer bytes stand behind those of before.
+/// Appends an attribute. Out of memory, fewer bytes stand behind those of before.
 pub(crate) fn put_attribute(
     out: &mut ByteList,
     flags: u8,

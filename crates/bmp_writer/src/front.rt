@@ -53,7 +53,7 @@ fn put_second(out: &mut ByteList, attrs: &Attrs) -> Result<(), NoMemory>
     put_communities(out, attrs.communities.as_slice())
 }
 
-/// Appends them, each where the route has it; NEXT_HOP only where it is told. For want of memory fewer bytes stand
+/// Appends them, each where the route has it; NEXT_HOP only where it is told. Out of memory, fewer bytes stand
 /// behind those of before.
 pub(crate) fn put_front(out: &mut ByteList, attrs: &Attrs, plain: bool) -> Result<(), NoMemory>
     requires path { HasPath attrs.now.path }

@@ -1,6 +1,6 @@
 //! BMP messages, written: the reverse of reading.
 //!
-//! Each call appends one whole message to a list of bytes (RFC 7854, section 4), or for want of memory
+//! Each call appends one whole message to a list of bytes (RFC 7854, section 4), or, out of memory,
 //! leaves it as it was.
 //!
 //! Proved: whoever reads the message under the definitions of `bmp_specs` reads the effects that the call

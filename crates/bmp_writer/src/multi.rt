@@ -45,7 +45,7 @@ fn put_reach_value(
     put_nlris(out, list)
 }
 
-/// MP_REACH_NLRI, where there are prefixes. For want of memory fewer bytes stand behind those of before.
+/// MP_REACH_NLRI, where there are prefixes. Out of memory, fewer bytes stand behind those of before.
 pub(crate) fn put_reach(
     out: &mut ByteList,
     family: Family,
@@ -74,7 +74,7 @@ fn put_unreach_value(out: &mut ByteList, family: Family, list: &[Nlri]) -> Resul
     put_nlris(out, list)
 }
 
-/// MP_UNREACH_NLRI, where there are prefixes. For want of memory fewer bytes stand behind those of before.
+/// MP_UNREACH_NLRI, where there are prefixes. Out of memory, fewer bytes stand behind those of before.
 pub(crate) fn put_unreach(out: &mut ByteList, family: Family, list: &[Nlri]) -> Result<(), NoMemory>
     requires { unreach_size list.now ≤ 65535 }
     ensures ok { OnOk result (Appends (IsUnreach family list.now) out.old out.new) }

@@ -54,7 +54,7 @@ fn put_nlri(out: &mut ByteList, nlri: &Nlri) -> Result<(), NoMemory>
     put_prefix(out, &nlri.prefix)
 }
 
-/// Appends the prefixes. For want of memory fewer bytes stand behind those of before.
+/// Appends the prefixes. Out of memory, fewer bytes stand behind those of before.
 pub(crate) fn put_nlris(out: &mut ByteList, list: &[Nlri]) -> Result<(), NoMemory>
     ensures ok { OnOk result (Appends (AreOwnNlri list.now) out.old out.new) }
     ensures err { OnErr result (Keeps out.old out.new) }

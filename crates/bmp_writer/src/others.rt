@@ -17,7 +17,7 @@ fn put_other(out: &mut ByteList, other: &Other) -> Result<(), NoMemory>
     put_attribute(out, other.flags, other.code, other.value.as_slice())
 }
 
-/// Appends them, in their order. For want of memory fewer bytes stand behind those of before.
+/// Appends them, in their order. Out of memory, fewer bytes stand behind those of before.
 pub(crate) fn put_others(out: &mut ByteList, others: &[Other]) -> Result<(), NoMemory>
     requires { others_size others.now ≤ 65535 }
     ensures ok { OnOk result (Appends (AreOthers others.now) out.old out.new) }

@@ -50,7 +50,7 @@ fn put_headers(out: &mut ByteList, key: &PeerKey, view: View, size: usize) -> Re
     out.extend(&frame[..at])
 }
 
-// Appends the message. For want of memory fewer bytes stand behind those of before.
+// Appends the message. Out of memory, fewer bytes stand behind those of before.
 fn put_message(
     out: &mut ByteList,
     key: &PeerKey,

@@ -252,7 +252,7 @@ fn header(size: u16) -> [u8; 19]
     ]
 }
 
-/// Appends the message, which has these sizes. For want of memory fewer bytes stand behind those of before.
+/// Appends the message, which has these sizes. Out of memory, fewer bytes stand behind those of before.
 pub(crate) fn put_update(
     out: &mut ByteList,
     family: Family,

@@ -46,7 +46,7 @@ fn put_drawn(
 }
 
 /// The stream of a lane of a drill, with the messages of so many words behind its opening. It follows from the seed, the
-/// lane's number and the number of messages alone. `NoMemory` for want of memory. Time and memory are linear in the
+/// lane's number and the number of messages alone. `NoMemory` where it ran out of memory. Time and memory are linear in the
 /// messages.
 pub fn drill_stream(
     alloc: Global,

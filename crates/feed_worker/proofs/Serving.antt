@@ -74,7 +74,7 @@ module _ (meaning : Meaning) (a b : Aside) (pass0 pass : Fed Entry) (n : ℕ) (s
           grows = subst (λ (l : List EntryValue). Grows pass0 new l) (sym (lives_push s.connections one)) (grows_then pass0 pass new (lives_of s.connections) t.entries s.grows t.grows);
         }
 
-    -- and want of memory came
+    -- and memory ran out
     pub serves_some : (rounds : ℕ) → n < rounds → Concludes meaning (IsBegunOf meaning) c d pass new → ServesSome meaning rounds a d pass0 new
     serves_some rounds few t = record {
       connections = s.connections;

@@ -64,7 +64,7 @@ pub record IsLifeOfFront (meaning : Meaning) (bytes : List ℕ) (entries : List 
 abbrev pub IsBegun : Meaning → List ℕ → List EntryValue → Type 0
 IsBegun meaning bytes entries = ((bytes ≡ []) × (entries ≡ [])) ⊎ IsLifeOfFront meaning bytes entries
 
--- Want of memory came as the present connection was taken: a beginning of its opening and messages was published. No
+-- Memory ran out as the present connection was taken: a beginning of its opening and messages was published. No
 -- read had failed or told the end.
 pub record BreaksConnection (meaning : Meaning) (old new : Aside) (pass pass' : Fed Entry) : Type 0 where
   pub input : Given

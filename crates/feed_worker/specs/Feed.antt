@@ -89,7 +89,7 @@ pub record ServesAll (meaning : Meaning) (rounds : ℕ) (old new : Aside) (pass 
   pub grows : Grows pass pass' (lives_of connections)
   pub stop : MatchBool (nat_lt (length connections) rounds) (Stops after new pass') ((length connections ≡ rounds) × (new ≡ after))
 
--- Want of memory came in the last of the connections, of whose life a beginning was published. It was closed, and no
+-- Memory ran out in the last of the connections, of whose life a beginning was published. It was closed, and no
 -- further one was opened.
 pub record ServesSome (meaning : Meaning) (rounds : ℕ) (old new : Aside) (pass pass' : Fed Entry) : Type 0 where
   pub connections : List Connection

@@ -32,7 +32,7 @@ use wire_io::NoMemory;
 /// | `ReadFault` | a read failed; the offset is the number of bytes taken |
 ///
 /// Where several fit, it is the first. A connection that ends for one of the first two reasons is read no further than
-/// the read that brought it. After want of memory the connection is still open, and the pass published the opening and
+/// the read that brought it. Out of memory, the connection is still open, and the pass published the opening and
 /// the messages of all reads but the last, or of all; or nothing, and then nothing was read.
 pub fn take_connection<B: BodyReading + Drop, J: Naming, P: FeedPort<B, J>, R: Wait>(
     rt: &R,
@@ -80,7 +80,7 @@ fn cause_of_end<B: BodyReading>(walk: &StreamWalk<B>) -> Cause
     }
 }
 
-/// Closes the present connection, and publishes that it closed and why. After want of memory it is closed, and the pass
+/// Closes the present connection, and publishes that it closed and why. Out of memory, it is closed, and the pass
 /// is as before.
 pub fn close_connection<B: BodyReading, J: Naming, P: FeedPort<B, J>, R: Wait>(
     rt: &R,

@@ -22,7 +22,7 @@ pub enum LaneEnd {
     /// As many connections were served as it was to serve, or no further one was opened.
     Over,
 
-    /// Want of memory.
+    /// Out of memory.
     NoMemory,
 }
 
@@ -62,7 +62,7 @@ fn serve_connection<B: BodyReading + Drop, J: Naming, P: FeedPort<B, J>, R: Wait
 /// Serves up to so many connections of the port, one after another: takes each as `B` reads it, publishes its opening,
 /// its messages and its closing, and closes it. `Over` exactly where as many were served, or no further one was opened:
 /// there was none, or it failed, or the pass has more than 2^56 entries, which up to 4,096 rounds of a pass that had none
-/// don't come to. After want of memory the pass published the opening of the last connection and the messages of all its
+/// don't come to. Out of memory, the pass published the opening of the last connection and the messages of all its
 /// reads but the last, or of all; or nothing of it, and then nothing was read. It is closed too, and no further one is
 /// opened.
 pub fn serve_feed<B: BodyReading + Drop, J: Naming, P: FeedPort<B, J>, R: Wait>(

@@ -44,7 +44,7 @@ impl PeerBook {
         }
     }
 
-    /// Sets a peer up, without marks. After want of memory the book is as before.
+    /// Sets a peer up, without marks. Out of memory, the book is as before.
     pub fn up(&mut self, key: PeerKey, info: Arc<PeerInfo>) -> Result<(), NoMemory>
         ensures ok { OnOk result (self.new ≡ with_peer self.old key (up_peer (arc_value info) no_marks)) }
         ensures err { OnErr result (self.new ≡ self.old) }
@@ -55,7 +55,7 @@ impl PeerBook {
         Ok(())
     }
 
-    /// Sets a peer down. After want of memory the book is as before.
+    /// Sets a peer down. Out of memory, the book is as before.
     pub fn down(&mut self, key: PeerKey, info: DownInfo) -> Result<(), NoMemory>
         ensures ok { OnOk result (self.new ≡ with_peer self.old key (down_peer info)) }
         ensures err { OnErr result (self.new ≡ self.old) }

@@ -6,7 +6,7 @@ ghost use Rattle.prefix_trie.specs.Sharing.{IsAlike};
 use crate::trie::Trie;
 use std::sync::Arc;
 
-/// Want of memory.
+/// Out of memory.
 #[derive(Clone, Copy, Debug, PartialEq, Eq)]
 pub struct NoMemory;
 

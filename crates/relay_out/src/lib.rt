@@ -9,7 +9,7 @@
 //!
 //! Proved: what was written is the whole stream, which follows from the entries that the tables stand for; whoever reads it
 //! by the RFCs alone is left with the same name, description, rows, complete tables and peers that are up; nothing is
-//! written exactly where some message can't be; and after a failed write, or want of memory, a front of the stream's first
+//! written exactly where some message can't be; and after a failed write, or out of memory, a front of the stream's first
 //! messages was written. `sessions_have_one_stream` says that of lists of octets one alone is the stream.
 //! Begin with `specs/Told.antt` and `specs/Messages.antt`, then `src/relay.rt`.
 #![tactic(auto)]

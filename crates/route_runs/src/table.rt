@@ -66,8 +66,8 @@ impl RouteTable {
         }
     }
 
-    /// The table with these changes made, one after another; they are taken out of the list, after want of memory
-    /// too. This table stays as it is.
+    /// The table with these changes made, one after another; they are taken out of the list, also where
+    /// memory runs out. This table stays as it is.
     pub fn with(&self, changes: &mut Changes) -> Result<RouteTable, NoMemory>
         ensures table { IfOk result (IsChanged nlri_cmp self.now changes.old) }
         ensures emptied { changes.new ≡ [] }

@@ -83,7 +83,7 @@ impl Books {
         &self.stats
     }
 
-    // Takes one effect, or those on many routes. After want of memory the books may only be dropped.
+    // Takes one effect, or those on many routes. Out of memory, the books may only be dropped.
     pub(crate) fn take(&mut self, effect: &Effect) -> Result<(), NoMemory>
         ensures { OnOk result ((effects : List EffectValue) → StandsForBooks self.old effects → StandsForBooks self.new (effects ++ item_values effect.now)) }
     {

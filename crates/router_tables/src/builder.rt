@@ -55,7 +55,7 @@ impl TablesBuilder {
         })
     }
 
-    /// Takes entries, in order. After want of memory the builder may only be dropped.
+    /// Takes entries, in order. Out of memory, the builder may only be dropped.
     pub fn take(&mut self, entries: List<Entry>) -> Result<(), NoMemory>
         ensures { OnOk result ((so_far : List EntryValue) → Builds self.old so_far → Builds self.new (so_far ++ entry_values entries)) }
     {

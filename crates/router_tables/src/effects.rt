@@ -9,7 +9,7 @@ use crate::rows::Rows;
 use rib_model::Effect;
 use wire_io::NoMemory;
 
-// Takes the effects of a message, in order; of a peer that isn't up no route is taken. After want of memory books and
+// Takes the effects of a message, in order; of a peer that isn't up no route is taken. Out of memory, books and
 // rows may only be dropped.
 pub(crate) fn take_effects(
     books: &mut Books,

@@ -10,7 +10,7 @@
 //! them over many calls, for tables that are read only once all entries are taken.
 //!
 //! Proved: new tables stand for no entries; tables that stand for some entries stand for them with any others behind
-//! them after `with`, `extend` and `apply`, and after want of memory they are as before; equal tables have the same
+//! them after `with`, `extend` and `apply`, and out of memory they are as before; equal tables have the same
 //! parts. That a table takes one run for all its changes is in no contract.
 //! Begin with `specs/Tables.antt` and `specs/Session.antt`, then `src/tables.rt` and `src/taken.rt`; routes are
 //! gathered in `src/rows.rt` and `src/pending.rt`, and changed in `src/changed.rt`. Tables in the making are in

@@ -48,7 +48,7 @@ impl Rows {
         }
     }
 
-    // Makes all changes that are gathered. After want of memory the rows may only be dropped.
+    // Makes all changes that are gathered. Out of memory, the rows may only be dropped.
     pub(crate) fn settle(&mut self) -> Result<(), NoMemory>
         ensures { OnOk result ((effects : List EffectValue) → StandsForRows self.old effects → StandsForRows self.new effects) }
     {
@@ -56,7 +56,7 @@ impl Rows {
         make_changes(self.alloc, pending, &mut self.tables)
     }
 
-    // The tables with all changes made. After want of memory nothing is left.
+    // The tables with all changes made. Out of memory, nothing is left.
     pub(crate) fn into_tables(self) -> Result<BTreeMap<PeerKey, Views>, NoMemory>
         ensures { IfOk result (λ tables. (effects : List EffectValue) → StandsForRows self effects → AreRowsOf tables.entries effects) }
     {
@@ -73,7 +73,7 @@ impl Rows {
         self.pending = BTreeMap::new(self.alloc);
     }
 
-    // Takes one effect, or those on many routes, of a session with these peers. After want of memory the rows may
+    // Takes one effect, or those on many routes, of a session with these peers. Out of memory, the rows may
     // only be dropped.
     pub(crate) fn take(&mut self, peers: &PeerBook, effect: &Effect) -> Result<(), NoMemory>
         ensures { OnOk result ((effects : List EffectValue) → StandsForPeers peers.now effects → StandsForRows self.old effects

@@ -77,7 +77,7 @@ impl Session {
         &self.books
     }
 
-    // Takes one entry. After want of memory the session and its rows may only be dropped.
+    // Takes one entry. Out of memory, the session and its rows may only be dropped.
     pub(crate) fn take(
         &mut self,
         alloc: Global,

@@ -111,7 +111,7 @@ fn keep_effects(steps: &mut Recent<Step>, effects: &[Effect]) -> Result<(), NoMe
     Ok(())
 }
 
-// Keeps the steps of an entry. After want of memory the steps may only be dropped.
+// Keeps the steps of an entry. Out of memory, the steps may only be dropped.
 pub(crate) fn keep_steps(steps: &mut Recent<Step>, entry: &Entry) -> Result<(), NoMemory>
     ensures { OnOk result ((entries : List EntryValue) → steps_told steps.old ≡ recent (steps_of entries)
         → steps_told steps.new ≡ recent (steps_of (entries ++ entry_value entry.now ∷ []))) }

@@ -74,7 +74,7 @@ impl RouterTables {
         })
     }
 
-    /// Takes entries, in order, as `with` does. After want of memory the tables are as before.
+    /// Takes entries, in order, as `with` does. Out of memory, the tables are as before.
     pub fn extend(&mut self, entries: &[Entry]) -> Result<(), NoMemory>
         ensures ok { OnOk result ((so_far : List EntryValue) → StandsFor self.old so_far → StandsFor self.new (so_far ++ entry_values entries.now)) }
         ensures err { OnErr result (self.new ≡ self.old) }
@@ -83,7 +83,7 @@ impl RouterTables {
         Ok(())
     }
 
-    /// Takes one entry. After want of memory the tables are as before.
+    /// Takes one entry. Out of memory, the tables are as before.
     pub fn apply(&mut self, entry: &Entry) -> Result<(), NoMemory>
         ensures ok { OnOk result ((so_far : List EntryValue) → StandsFor self.old so_far → StandsFor self.new (so_far ++ entry_value entry.now ∷ [])) }
         ensures err { OnErr result (self.new ≡ self.old) }

@@ -9,7 +9,7 @@ use rib_model::Entry;
 use std::alloc::Global;
 use wire_io::NoMemory;
 
-// Takes entries, in order. After want of memory the session and its rows may only be dropped.
+// Takes entries, in order. Out of memory, the session and its rows may only be dropped.
 pub(crate) fn take_entries(
     alloc: Global,
     session: &mut Session,

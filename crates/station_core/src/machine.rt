@@ -221,7 +221,7 @@ pub(crate) struct Machine<B> {
     finished: bool,
 }
 
-// Want of memory, as a schedule tells it.
+// Out of memory, as a schedule tells it.
 fn as_schedule_fault(done: Result<(), NoMemory>) -> Result<(), ScheduleFault>
     ensures { result ≡ as_fault done }
 {

@@ -62,17 +62,17 @@ pub record ArePaired {B P K : Type 0} (feeds : List (Fed Entry)) (doors : List P
   pub lanes : LanesArePaired feeds doors rounds tasks
   pub askers : AsksArePaired asks ask_doors rounds tasks
 
--- whether it is the work of a lane that ended for want of memory
+-- whether it is the work of a lane that ended out of memory
 abbrev pub starved : {B P K : Type 0} → Task B P K → Bool
 starved (Lane w) = is_want w.end
 starved (Ask w) = false
 
--- what is answered after one more work, which ended for want of memory or not
+-- what is answered after one more work, which ended out of memory or not
 abbrev pub after_one : Bool → Outcome → Outcome
 after_one true o = outcome.NoMemory
 after_one false o = o
 
--- what a station answers whose lanes ended so: whether one of them ended for want of memory
+-- what a station answers whose lanes ended so: whether one of them ended out of memory
 abbrev pub outcome_of : List LaneEnd → Outcome
 outcome_of [] = outcome.Done
 outcome_of (end.Over ∷ ends) = outcome_of ends

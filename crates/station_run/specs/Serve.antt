@@ -79,7 +79,7 @@ pub record Ends {E : Type 0} (Shows : E → List (TablesValue × ℕ) → List (
 
 -- What a run comes to, by its outcome: what the yard sees of it, and what is written.
 pub data Comes {E : Type 0} (Shows : E → List (TablesValue × ℕ) → List (Fed Entry) → List (Asker Entry) → Type 0) (meaning : Meaning) (at : Listening) (rounds : ℕ) (old new : YardSeen E) (told told' : Option (List ℕ)) (outcome : Outcome) : Type 0 where
-  -- want of memory before anything was asked of the yard
+  -- out of memory before anything was asked of the yard
   starved : outcome ≡ NoMemory → new ≡ old → Keeps told told' → Comes Shows meaning at rounds old new told told' outcome
   -- the yard refused a call, and all that it had handed out came back
   refused : (before : ℕ) → outcome ≡ YardFault → Refuses at old.told new.told old.calls before → new.calls ≡ call_after old.calls (before + 1) → new.listened ≡ Some at → TakesNone old new → Keeps told told'
@@ -89,7 +89,7 @@ pub data Comes {E : Type 0} (Shows : E → List (TablesValue × ℕ) → List (F
       → Comes Shows meaning at rounds old new told told' outcome
   -- out of memory once all had been served, so that the history wasn't ended
   unfinished : outcome ≡ NoMemory → ServesAll meaning at rounds old new → TakesNone old new → Appends told told' ready_line → Comes Shows meaning at rounds old new told told' outcome
-  -- all was served; a lane may have ended for want of memory
+  -- all was served; a lane may have ended out of memory
   finished : (rev : ℕ) → Ends Shows meaning at rounds old new outcome rev → Appends told told' (ready_line ++ done_line rev) → Comes Shows meaning at rounds old new told told' outcome
   -- the same, and the last line couldn't be written
   undone : (rev : ℕ) (meant : Outcome) → outcome ≡ WriteFault → Ends Shows meaning at rounds old new meant rev → AppendsFront told (ready_line ++ done_line rev) told' → Comes Shows meaning at rounds old new told told' outcome

@@ -100,7 +100,7 @@ AreAskRuns rounds site history [] = Unit {0}
 AreAskRuns rounds site history (r ∷ rs) = IsAskRun rounds site history r × AreAskRuns rounds site history rs
 
 -- All lanes and askers have served: what their ports and links showed before and show now, whether their passes were kept,
--- and whether a lane ended for want of memory.
+-- and whether a lane ended out of memory.
 pub record HaveServed (meaning : Meaning) (rounds : ℕ) (site : Site) (first last : List Returned) (first_links last_links : List ReturnedLink) (kept : Bool) (feeds : List (Fed Entry)) (asks : List (Asker Entry)) (outcome : Outcome) : Type 0 where
   pub runs : List LaneRun
   pub ask_runs : List AskRun

@@ -32,7 +32,7 @@ const ASKERS: u32 = 4;
 /// How often each of them asks.
 const ASKED: u32 = 16;
 
-// The stream of a lane. One that is too long to be taken whole counts as want of memory.
+// The stream of a lane. One that is too long to be taken whole counts as out of memory.
 fn short_stream(alloc: Global, seed: u32, lane: u32, messages: u32) -> Result<ByteList, NoMemory>
     ensures stream { IfOk result (λ bytes. IsDrillStream seed lane messages bytes) }
     ensures short { IfOk result (λ bytes. length bytes < most_taken) }

@@ -4,7 +4,7 @@ pub enum Outcome {
     /// All connections were served, as many as were to be.
     Done,
 
-    /// Want of memory ended the call, or a lane.
+    /// The call, or a lane, ran out of memory.
     NoMemory,
 
     /// The yard failed.

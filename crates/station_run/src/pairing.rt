@@ -170,7 +170,7 @@ pub fn part<B: BodyReading + Drop, P: Drop, K: Link + Drop>(
     kept
 }
 
-/// What a station answers that did these works: whether one of its lanes ended for want of memory.
+/// What a station answers that did these works: whether one of its lanes ended out of memory.
 pub fn outcome_after<B: BodyReading + Drop, P: Drop, K: Link + Drop>(
     tasks: &[Task<B, P, K>],
 ) -> Outcome

@@ -13,7 +13,7 @@ pub enum Status {
     ReadFault,
     /// A write failed. It takes the place of every other status.
     WriteFault,
-    /// Want of memory ended the call.
+    /// The call ran out of memory.
     NoMemory,
     /// The yard failed.
     YardFault,

@@ -39,7 +39,7 @@ impl<T> Model for List<T> {
 // For how many items a list takes memory as the second comes.
 const FIRST_ROOM: usize = 4;
 
-// The two items in memory of their own, or want of memory and the second handed back, with the first as it was.
+// The two items in memory of their own, or out of memory and the second handed back, with the first as it was.
 #[cold]
 fn spill<T: Drop>(alloc: Global, items: &mut Items<T>, item: T) -> Result<(), Unplaced<T>>
     ensures ok { OnOk result (items_of items.new ≡ items_of items.old ++ item ∷ []) }
@@ -174,7 +174,7 @@ impl<T> List<T> {
 }
 
 impl<T: Drop> List<T> {
-    /// Appends the item. After want of memory the list is as before.
+    /// Appends the item. Out of memory, the list is as before.
     #[inline]
     pub fn push(&mut self, item: T) -> Result<(), Unplaced<T>>
         ensures ok { OnOk result (self.new ≡ self.old ++ item ∷ []) }
@@ -214,7 +214,7 @@ impl<T: Drop> List<T> {
         self.items = kept(self.alloc, items, keep);
     }
 
-    /// The items as a vector. On want of memory they are dropped.
+    /// The items as a vector. Out of memory, they are dropped.
     pub fn into_vec(self) -> Result<Vec<T>, NoMemory>
         ensures { IfOk result (λ vec. vec.items ≡ self) }
     {

@@ -12,7 +12,7 @@ use wire_io::BodyFault;
 
 impl LenientReading {
     /// Judges the message of this "Message Type" with this body, which follows the common header (RFC 7854, section
-    /// 4.1): `Ok` exactly where `entry` gives its entry, want of memory aside, and then the reading is as after that.
+    /// 4.1): `Ok` exactly where `entry` gives its entry, out of memory aside, and then the reading is as after that.
     ///
     /// `BodyFault::Broken` only where the body has no such entry after the messages before it. A refusal leaves the
     /// reading as it was. Of a Route Monitoring message nothing is made, and it takes no memory but for the first

@@ -12,7 +12,7 @@ use wire_io::BodyFault;
 
 impl Reading {
     /// Judges the message of this "Message Type" with this body, which follows the common header (RFC 7854,
-    /// section 4.1): `Ok` exactly where `entry` gives its entry, want of memory aside, and then the same peers
+    /// section 4.1): `Ok` exactly where `entry` gives its entry, out of memory aside, and then the same peers
     /// are up as after that.
     ///
     /// `BodyFault::Broken` only where the body is none of its type while these peers are up. After a refusal
