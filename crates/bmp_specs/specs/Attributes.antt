@@ -11,6 +11,7 @@ use Rattle.bmp_specs.specs.MpNlri.{IsMpReach, IsMpUnreach}
 use Rattle.bmp_specs.specs.Number.{IsNumber}
 use Rattle.bmp_specs.specs.Parts.{AreParts}
 use Rattle.bmp_specs.specs.PeerHeader.{is_set}
+use Rattle.bmp_specs.specs.Registries.{attribute_types}
 use Rattle.bmp_specs.specs.Sequence.{IsField}
 use Rattle.bmp_specs.specs.Values.{AggregatorValue, AttrsReadValue, OtherValue}
 
@@ -51,9 +52,9 @@ as4_path = 17
 abbrev pub as4_aggregator : ℕ
 as4_aggregator = 18
 
--- the types that are read; attributes of all others are kept as they came
+-- the types that are read, those of the registry; attributes of all others are kept as they came
 abbrev pub read_types : List ℕ
-read_types = origin ∷ as_path ∷ next_hop ∷ multi_exit_disc ∷ local_pref ∷ atomic_aggregate ∷ aggregator ∷ communities ∷ mp_reach_nlri ∷ mp_unreach_nlri ∷ as4_path ∷ as4_aggregator ∷ []
+read_types = map (λ r. r.code) attribute_types
 
 abbrev pub is_read : OtherValue → Bool
 is_read a = list_any (λ code. code == a.code) read_types
