@@ -37,9 +37,10 @@ fn has_form(code: u8, value: &[u8], width: Width) -> bool
     }
 }
 
-// Reads the header of each attribute of the field, once (RFC 4271, section 4.3), and tests the form of its value.
-// `None` only where the field has no value in the grammar.
-pub(crate) fn find_multi(field: &[u8], width: Width) -> Option<Found<'_>>
+// Judges each attribute of the field by the form of its type (RFC 4271, section 4.3), and lends the values of
+// MP_REACH_NLRI and MP_UNREACH_NLRI. The header of each is read once. `None` only where the field has no value in the
+// grammar.
+pub(crate) fn judge_forms(field: &[u8], width: Width) -> Option<Found<'_>>
     ensures some { IfSome result (λ f. IsFound width field.now f.count (option_copied f.reach) (option_copied f.unreach)) }
     ensures none { IfNone result ((read : AttrsReadValue) → AreAttributes width field.now read → ⊥) }
 {

@@ -3,7 +3,7 @@ ghost use Rattle.bmp_specs.specs.Attributes.{AreAttributes};
 ghost use Rattle.bmp_specs.specs.Values.{AttrsReadValue};
 ghost use Rattle.path_attrs.specs.Judged.{IsJudged};
 
-use crate::found::find_multi;
+use crate::found::judge_forms;
 use crate::mp::{MpSlice, slice_reach, slice_unreach};
 use as_path::Width;
 
@@ -31,7 +31,7 @@ pub fn judge_attrs(field: &[u8], width: Width) -> Option<Judged<'_>>
     ensures some { IfSome result (IsJudged width field.now) }
     ensures none { IfNone result ((read : AttrsReadValue) → AreAttributes width field.now read → ⊥) }
 {
-    let Some(found) = find_multi(field, width) else {
+    let Some(found) = judge_forms(field, width) else {
         return None;
     };
     let Ok(reach) = slice_reach(found.reach) else {

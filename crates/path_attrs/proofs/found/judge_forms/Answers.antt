@@ -3,8 +3,8 @@ use Rattle.std.proofs.lemmas.Bool.{iff_false}
 use Rattle.path_attrs.proofs.Counting.{counts_most}
 use Rattle.path_attrs.proofs.Gathering.{judges_first, judges_reach, judges_unreach, judges_other, judges_end}
 use Rattle.path_attrs.proofs.Judging.{judges_stuck, judges_twice, judges_unfit}
-use Rattle.path_attrs.proofs.found.find_multi.Goals as goal
-use Rattle.path_attrs.proofs.found.find_multi.Goals.{then-part-eq-MP_REACH_NLRI, else-part-eq-MP_REACH_NLRI+then-part-eq-MP_UNREACH_NLRI, else-part-eq-MP_REACH_NLRI+else-part-eq-MP_UNREACH_NLRI}
+use Rattle.path_attrs.proofs.found.judge_forms.Goals as goal
+use Rattle.path_attrs.proofs.found.judge_forms.Goals.{then-part-eq-MP_REACH_NLRI, else-part-eq-MP_REACH_NLRI+then-part-eq-MP_UNREACH_NLRI, else-part-eq-MP_REACH_NLRI+else-part-eq-MP_UNREACH_NLRI}
 
 pub loop-rest-init : goal.loop-rest-init
 loop-rest-init c = judges_first _ _
