@@ -14,6 +14,37 @@ macro_rules! table {
     };
 }
 
+/// The rows of `attribute_table`, for a macro of the caller's: `attribute_rows!(name given)` is
+/// `name! { [given] rows }`. A row is a code, its shape and its name. A reader makes a `match` of them, which
+/// takes no search.
+#[macro_export]
+macro_rules! attribute_rows {
+    ($name:ident $($given:tt)*) => {
+        $name! {
+            [$($given)*]
+            1, Shape::Exact(1), "origin";
+            2, Shape::Free, "as-path";
+            3, Shape::Exact(4), "next-hop";
+            4, Shape::Exact(4), "multi-exit-disc";
+            5, Shape::Exact(4), "local-pref";
+            6, Shape::Exact(0), "atomic-aggregate";
+            7, Shape::Free, "aggregator";
+            8, Shape::Multiple(4), "communities";
+            14, Shape::Free, "mp-reach-nlri";
+            15, Shape::Free, "mp-unreach-nlri";
+            17, Shape::Free, "as4-path";
+            18, Shape::Free, "as4-aggregator";
+        }
+    };
+}
+
+// The table of the rows that `attribute_rows` hands on.
+macro_rules! attributes {
+    ([] $($rows:tt)*) => {
+        table! { $($rows)* }
+    };
+}
+
 /// BMP message types (RFC 7854, sections 4.1 and 10.1).
 pub fn message_table() -> CodeTable<7>
     ensures { row_values result.rows ≡ message_types }
@@ -72,26 +103,21 @@ pub fn statistic_table() -> CodeTable<18>
 
 /// Path attribute type codes (RFC 4271, section 5, to 7; RFC 1997 for 8; RFC 4760, sections 3 and 4,
 /// for 14 and 15; RFC 6793, section 3, for 17 and 18).
+///
+/// The reader of path attributes reads exactly these types, and takes their shapes, by `attribute_rows`, which has
+/// the rows. Only who lists the registry takes the table, since the line of a route has words of its own for its
+/// attributes.
 pub fn attribute_table() -> CodeTable<12>
     ensures { row_values result.rows ≡ attribute_types }
 {
-    table! {
-        1, Shape::Exact(1), "origin";
-        2, Shape::Free, "as-path";
-        3, Shape::Exact(4), "next-hop";
-        4, Shape::Exact(4), "multi-exit-disc";
-        5, Shape::Exact(4), "local-pref";
-        6, Shape::Exact(0), "atomic-aggregate";
-        7, Shape::Free, "aggregator";
-        8, Shape::Multiple(4), "communities";
-        14, Shape::Free, "mp-reach-nlri";
-        15, Shape::Free, "mp-unreach-nlri";
-        17, Shape::Free, "as4-path";
-        18, Shape::Free, "as4-aggregator";
-    }
+    attribute_rows!(attributes)
 }
 
 /// Types of Information TLVs (RFC 7854, section 4.4; for 3 RFC 9069, section 5.2.1).
+///
+/// It stands so that the names of the types are stated with their codes, as those of the other registries are. Only
+/// who lists the registry takes it: the readers of Initiation and Peer Up have the codes that they tell apart as
+/// constants, and replies have words of their own for what these TLVs tell.
 pub fn tlv_table() -> CodeTable<4>
     ensures { row_values result.rows ≡ information_types }
 {
@@ -104,6 +130,10 @@ pub fn tlv_table() -> CodeTable<4>
 }
 
 /// Capability codes (RFC 4760, section 8; RFC 6793, section 3; RFC 7911, section 4).
+///
+/// It stands so that the names of the codes are stated with them, as those of the other registries are. Only who lists
+/// the registry takes it: the reader of an OPEN has the three lengths in its own definitions, since they are words of
+/// three RFCs.
 pub fn capability_table() -> CodeTable<3>
     ensures { row_values result.rows ≡ capability_codes }
 {
