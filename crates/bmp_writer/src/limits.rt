@@ -1,8 +1,7 @@
 //! Whether a Route Monitoring message can carry routes.
 ghost use Rattle.std.specs.Prelude.{◌≡◌, ◌≤◌, ◌<◌, ◌+◌, ◌*◌, ◌==◌, ◌↔◌, true, false, not, [], length, map, IsTrue, ◌++◌};
-ghost use Rattle.std.specs.List.{AllByRecursion, IsDistinct, list_any};
+ghost use Rattle.std.specs.List.{AllByRecursion, IsDistinct};
 ghost use Rattle.std.specs.Option.{is_some as some_of};
-ghost use Rattle.bmp_specs.specs.Attributes.{read_types};
 ghost use Rattle.bmp_specs.specs.PeerHeader.{IsViewOf, loc_rib};
 ghost use Rattle.bmp_specs.specs.declared.wire.Family.{Family};
 ghost use Rattle.bmp_writer.specs.WrittenAttributes.{front_size, others_size, with_hop};
@@ -19,7 +18,7 @@ use crate::update::{hop_octets, is_plain, left_by_update, where_there};
 use bgp_update::NlriList;
 use bmp_frames::{LOC_RIB, PeerKey, View};
 use ip_prefix::{Family, Nlri};
-use path_attrs::{Aggregator, AsPath, Attrs, Other};
+use path_attrs::{Aggregator, AsPath, Attrs, Other, is_read_type};
 use wire_io::ByteList;
 
 // Whether the view is one of the peer's.
@@ -145,13 +144,6 @@ fn can_carry(
         return false;
     }
     fits(family, withdrawn, announced, attrs)
-}
-
-// Whether attributes of the type are read.
-fn is_read_type(code: u8) -> bool
-    ensures { result ≡ list_any (λ c. c == code) read_types }
-{
-    matches!(code, 1..=8 | 14 | 15 | 17 | 18)
 }
 
 // Whether an attribute is one that is kept as it came.

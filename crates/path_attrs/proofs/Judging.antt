@@ -264,8 +264,27 @@ pub unreach_broken : (width : Width) (field : List ℕ) (count : ℕ) (reach unr
 unreach_broken width field count reach unreach f none read p =
     none read.unreach (subst (λ (o : Option (List ℕ)). Optional IsMpUnreach o read.unreach) (same_value width field count f.forms read p mp_unreach_nlri ∙ sym f.unreach_is) p.unreach_is)
 
--- attributes of the other types have any octets
-pub other_form : (width : Width) (code : ℕ) (value : List ℕ) → (code ≡ origin → ⊥) → (code ≡ as_path → ⊥) → (code ≡ next_hop → ⊥) → (code ≡ multi_exit_disc → ⊥) → (code ≡ local_pref → ⊥) → (code ≡ atomic_aggregate → ⊥)
-    → (code ≡ aggregator → ⊥) → (code ≡ communities → ⊥) → FitsType width code value
-other_form width code value n1 n2 n3 n4 n5 n6 n7 n8 = form_cases width code value
-    (λ e. absurd (n1 e)) (λ e. absurd (n2 e)) (λ e. absurd (n3 e)) (λ e. absurd (n4 e)) (λ e. absurd (n5 e)) (λ e. absurd (n6 e)) (λ e. absurd (n7 e)) (λ e. absurd (n8 e))
+-- The form of a type that is told by its row.
+
+unmatched : (P Q : Type 0) (b : Bool) → (b ≡ true → ⊥) → MatchBool b P Q → Q
+unmatched P Q true not_so p = absurd (not_so refl)
+unmatched P Q false not_so q = q
+
+-- a value of another type than AS_PATH and AGGREGATOR has the form of its type where it has the shape of its row
+pub other_form : (width : Width) (code : ℕ) (value : List ℕ) (told : Bool) → (code ≡ as_path → ⊥) → (code ≡ aggregator → ⊥) → IsTrue told ↔ HasShape code (length value) → IsTrue told ↔ FitsType width code value
+other_form width code value told not_path not_aggregator tells = (
+  λ yes. match_both (eqb code as_path) (λ e. absurd (no_path e)) (λ _. match_both (eqb code aggregator) (λ e. absurd (no_aggregator e)) (λ _. tells.0 yes)),
+  λ fits. tells.1 (unmatched HasAggregator (HasShape code (length value)) (eqb code aggregator) no_aggregator (unmatched HasSegments (MatchBool (eqb code aggregator) HasAggregator (HasShape code (length value))) (eqb code as_path) no_path fits)),
+)
+  where
+    HasSegments : Type 0
+    HasSegments = (path : List SegmentValue) × ArePath width value path
+
+    HasAggregator : Type 0
+    HasAggregator = (a : AggregatorValue) × IsAggregator width value a
+
+    no_path : eqb code as_path ≡ true → ⊥
+    no_path e = not_path (eqb-true code as_path e)
+
+    no_aggregator : eqb code aggregator ≡ true → ⊥
+    no_aggregator e = not_aggregator (eqb-true code aggregator e)

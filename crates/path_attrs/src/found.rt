@@ -4,11 +4,9 @@ ghost use Rattle.bmp_specs.specs.Values.{AttrsReadValue};
 ghost use Rattle.path_attrs.specs.Judged.{FitsType, IsFound};
 
 use crate::as_info::width_bytes;
-use crate::codes::{
-    AGGREGATOR, AS_PATH, ATOMIC_AGGREGATE, COMMUNITIES, LOCAL_PREF, MP_REACH_NLRI, MP_UNREACH_NLRI,
-    MULTI_EXIT_DISC, NEXT_HOP, ORIGIN,
-};
+use crate::codes::{AGGREGATOR, AS_PATH, MP_REACH_NLRI, MP_UNREACH_NLRI};
 use crate::part::read_part;
+use crate::registry::has_shape;
 use as_path::{AsPath, Width};
 
 // What judging the attributes of a field finds: how many they are, and the values of MP_REACH_NLRI and
@@ -20,20 +18,16 @@ pub(crate) struct Found<'a> {
     pub(crate) unreach: Option<&'a [u8]>,
 }
 
-// Whether the value has the form of its type. Any value has that of MP_REACH_NLRI and MP_UNREACH_NLRI here, whose
-// families and prefixes are found afterwards, and of AS4_PATH and AS4_AGGREGATOR, which break no field (RFC 6793,
-// section 6).
+// Whether the value has the form of its type: AS_PATH and AGGREGATOR in the width, and any other the shape of its row.
+// Any value has that of MP_REACH_NLRI and MP_UNREACH_NLRI here, whose families and prefixes are found afterwards, and of
+// AS4_PATH and AS4_AGGREGATOR, which break no field (RFC 6793, section 6).
 fn has_form(code: u8, value: &[u8], width: Width) -> bool
     ensures { IsTrue result ↔ FitsType width code value.now }
 {
     match code {
-        ORIGIN => value.len() == 1,
         AS_PATH => AsPath::is_path(value, width),
-        NEXT_HOP | MULTI_EXIT_DISC | LOCAL_PREF => value.len() == 4,
-        ATOMIC_AGGREGATE => value.len() == 0,
         AGGREGATOR => value.len() == width_bytes(width) + 4,
-        COMMUNITIES => value.len() % 4 == 0,
-        _ => true,
+        _ => has_shape(code, value.len()),
     }
 }
 

@@ -1,42 +1,19 @@
 ghost use Rattle.std.specs.Prelude.{◌≡◌, ◌≤◌, ◌++◌, ◌==◌, ℕ, List, map, [], ◌∷◌, IfOk, OnOk};
-ghost use Rattle.std.specs.List.{IsDistinct, list_any};
+ghost use Rattle.std.specs.List.{IsDistinct};
 ghost use Rattle.bmp_specs.specs.Attribute.{IsAttribute};
-ghost use Rattle.bmp_specs.specs.Attributes.{as4_aggregator, read_types, value_of};
+ghost use Rattle.bmp_specs.specs.Attributes.{as4_aggregator, value_of};
 ghost use Rattle.bmp_specs.specs.Parts.{AreParts};
 ghost use Rattle.bmp_specs.specs.Values.{OtherValue};
 ghost use Rattle.path_attrs.specs.Field.{value_at};
 ghost use Rattle.path_attrs.specs.Kept.{kept_of};
 
 use crate::bytes::bytes_of;
-use crate::codes::{
-    AGGREGATOR, AS_PATH, AS4_AGGREGATOR, AS4_PATH, ATOMIC_AGGREGATE, COMMUNITIES, LOCAL_PREF,
-    MP_REACH_NLRI, MP_UNREACH_NLRI, MULTI_EXIT_DISC, NEXT_HOP, ORIGIN, PLACES,
-};
+use crate::codes::PLACES;
 use crate::others::{Other, OtherList};
 use crate::part::{EXTENDED_LENGTH, Part, read_part};
+use crate::registry::is_read_type;
 use std::alloc::Global;
 use wire_io::NoMemory;
-
-// Whether attributes of the type are read.
-fn is_read_type(code: u8) -> bool
-    ensures { result ≡ list_any (λ c. c == code) read_types }
-{
-    matches!(
-        code,
-        ORIGIN
-            | AS_PATH
-            | NEXT_HOP
-            | MULTI_EXIT_DISC
-            | LOCAL_PREF
-            | ATOMIC_AGGREGATE
-            | AGGREGATOR
-            | COMMUNITIES
-            | MP_REACH_NLRI
-            | MP_UNREACH_NLRI
-            | AS4_PATH
-            | AS4_AGGREGATOR
-    )
-}
 
 // Keeps the attribute, where attributes of its type aren't read.
 fn keep(alloc: Global, others: &mut OtherList, part: &Part<'_>) -> Result<(), NoMemory>

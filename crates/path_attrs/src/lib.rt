@@ -9,8 +9,9 @@
 //! 1997). It makes none, and lends what it found. `make_attrs` makes the attributes of what was found, and
 //! `read_attrs` judges and makes. In two-octet form AS4_PATH and AS4_AGGREGATOR are put back (RFC 6793,
 //! section 4.2.3). A copy of attributes is equal to them. The words are in `bmp_specs`,
-//! `specs/Attributes.antt` and `specs/FourOctetAs.antt`. Begin with `src/judge.rt`; `src/found.rt` tests
-//! the form of each value in one pass, `src/keep.rt` gathers them, and `src/read.rt` makes the attributes.
+//! `specs/Attributes.antt` and `specs/FourOctetAs.antt`. Begin with `src/judge.rt`; `src/found.rt` judges
+//! the form of each value in one pass, `src/registry.rt` takes the shapes and the types that are read from the
+//! registry, `src/keep.rt` gathers them, and `src/read.rt` makes the attributes.
 #![tactic(auto)]
 
 mod as4;
@@ -27,6 +28,7 @@ mod mp;
 mod others;
 mod part;
 mod read;
+mod registry;
 mod values;
 mod width;
 
@@ -38,5 +40,6 @@ pub use judge::{Judged, judge_attrs};
 pub use mp::{MpPart, MpSlice};
 pub use others::{Other, OtherList};
 pub use read::{AttrsRead, make_attrs, read_attrs};
+pub use registry::is_read_type;
 pub use width::fits_width;
 pub use wire_io::{ByteList, NoMemory};
