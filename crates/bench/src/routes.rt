@@ -1,6 +1,6 @@
 use crate::tables::{Answers, Order, counted, numbers, prefix};
 use ip_prefix::Nlri;
-use path_attrs::{Attrs, Numbers, OtherList};
+use path_attrs::Attrs;
 use rib_model::Route;
 use route_runs::{Changes, RouteTable};
 use std::alloc::Global;
@@ -23,17 +23,9 @@ fn nlri(number: u32) -> Nlri {
 
 // A route that is told from others by its MULTI_EXIT_DISC.
 fn route(alloc: Global, med: u32) -> Option<Route> {
-    let attrs = Attrs {
-        origin: Some(0),
-        path: None,
-        hop: None,
-        med: Some(med),
-        pref: None,
-        atomic: false,
-        aggregator: None,
-        communities: Numbers::new(alloc),
-        others: OtherList::new(alloc),
-    };
+    let mut attrs = Attrs::none(alloc);
+    attrs.origin = Some(0);
+    attrs.med = Some(med);
     Arc::new(alloc, attrs).ok()
 }
 

@@ -1,7 +1,7 @@
 ghost use Rattle.std.specs.Prelude.{◌≡◌, ◌≤◌, IfOk};
 ghost use Rattle.std.specs.Option.{option_map};
 ghost use Rattle.bmp_specs.specs.FramedUpdate.{FitsFamily};
-ghost use Rattle.bmp_specs.specs.TreatAsWithdraw.{IsTreatedAsWithdraw, no_attributes};
+ghost use Rattle.bmp_specs.specs.TreatAsWithdraw.{IsTreatedAsWithdraw};
 ghost use Rattle.bmp_specs.specs.Update.{passed_over};
 ghost use Rattle.bmp_specs.specs.declared.wire.Family.TheVariants.{V4, V6};
 ghost use Rattle.path_attrs.specs.Judged.{mp_value};
@@ -12,7 +12,7 @@ use crate::list::NlriList;
 use crate::multi::unicast_family;
 use crate::update::Update;
 use bmp_specs::IdUse;
-use path_attrs::{Attrs, MpSlice, Numbers, OtherList};
+use path_attrs::{Attrs, MpSlice};
 use std::alloc::Global;
 use std::sync::Arc;
 use wire_io::NoMemory;
@@ -31,23 +31,6 @@ fn passed_over(part: &Option<MpSlice<'_>>) -> u32
     }
 }
 
-// The attributes of no route.
-fn no_attrs(alloc: Global) -> Attrs
-    ensures { result ≡ no_attributes }
-{
-    Attrs {
-        origin: None,
-        path: None,
-        hop: None,
-        med: None,
-        pref: None,
-        atomic: false,
-        aggregator: None,
-        communities: Numbers::new(alloc),
-        others: OtherList::new(alloc),
-    }
-}
-
 /// The UPDATE message "treated as though all contained routes had been withdrawn" (RFC 7606, section 2), place by
 /// place. Its attributes count as one part that wasn't read, and so does each multiprotocol attribute of a family that
 /// isn't read.
@@ -62,7 +45,7 @@ pub fn treat_as_withdraw(
 {
     let withdrawn = contained_routes(alloc, framed, ids)?;
     let unread = 1 + (passed_over(&framed.reach) + passed_over(&framed.unreach));
-    let plain_attrs = Arc::new(alloc, no_attrs(alloc))?;
+    let plain_attrs = Arc::new(alloc, Attrs::none(alloc))?;
     let multi_attrs = Arc::try_clone(&plain_attrs)?;
     Ok(Update {
         withdrawn,

@@ -8,10 +8,11 @@ ghost use Rattle.drill_streams.specs.Drawn.{attrs_of as attrs_at, peer_of as pee
 ghost use Rattle.drill_streams.specs.Peers.{peer_key};
 
 use crate::peers::key_of;
-use crate::words::{attrs_of, no_attrs, peer_of, prefix_of};
+use crate::words::{attrs_of, peer_of, prefix_of};
 use bgp_update::NlriList;
 use bmp_frames::View;
 use bmp_writer::put_routes;
+use path_attrs::Attrs;
 use std::alloc::Global;
 use wire_io::{ByteList, NoMemory};
 
@@ -32,7 +33,7 @@ pub(crate) fn put_withdrawal(out: &mut ByteList, alloc: Global, word: u32) -> Re
         View::InPre,
         &list_of(alloc, word)?,
         &NlriList::new(alloc),
-        &no_attrs(alloc),
+        &Attrs::none(alloc),
     )
 }
 

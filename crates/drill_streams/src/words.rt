@@ -2,7 +2,6 @@
 ghost use Rattle.std.specs.Prelude.{◌≡◌, ◌<◌, IfOk};
 ghost use Rattle.drill_streams.specs.Drawn.{attrs_of as attrs_at, choice_of as choice_at, peer_of as peer_at, path_of as path_at, prefix_of as prefix_at};
 ghost use Rattle.drill_streams.specs.Peers.{peer_octets};
-ghost use Rattle.bmp_writer.specs.WrittenUpdate.{no_attrs as nothing};
 
 use crate::peers::{as_of, octets_of};
 use as_path::{AsPath, Numbers, Segment, SegmentKind};
@@ -81,21 +80,4 @@ pub(crate) fn attrs_of(alloc: Global, word: u32) -> Result<Attrs, NoMemory>
         communities: Numbers::new(alloc),
         others: OtherList::new(alloc),
     })
-}
-
-/// No attributes. They take no memory.
-pub(crate) fn no_attrs(alloc: Global) -> Attrs
-    ensures { result ≡ nothing }
-{
-    Attrs {
-        origin: None,
-        path: None,
-        hop: None,
-        med: None,
-        pref: None,
-        atomic: false,
-        aggregator: None,
-        communities: Numbers::new(alloc),
-        others: OtherList::new(alloc),
-    }
 }

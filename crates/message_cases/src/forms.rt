@@ -1,5 +1,4 @@
 //! Which routes a message can carry. A prefix has its path identifier behind it; `-` is no prefix, and no identifier.
-use crate::routes::no_attrs;
 use crate::words::{nlri_of, number_of, octet_of};
 use as_path::Segment;
 use bgp_update::NlriList;
@@ -73,7 +72,7 @@ fn others_of(alloc: Global, code: u8, flags: u8, times: u32) -> Result<OtherList
 // Attributes with that.
 fn with_others(alloc: Global, code: u8, flags: u8, times: u32) -> Result<Attrs, NoMemory> {
     let others = others_of(alloc, code, flags, times)?;
-    let mut attrs = no_attrs(alloc);
+    let mut attrs = Attrs::none(alloc);
     attrs.others = others;
     Ok(attrs)
 }
@@ -105,7 +104,7 @@ fn with_path(alloc: Global, count: u32) -> Result<Attrs, NoMemory> {
         numbers: numbers_of(alloc, count)?,
     };
     let path = path_of(alloc, segment)?;
-    let mut attrs = no_attrs(alloc);
+    let mut attrs = Attrs::none(alloc);
     attrs.path = Some(path);
     Ok(attrs)
 }
@@ -122,7 +121,7 @@ fn hop_of(alloc: Global, count: u32) -> Result<ByteList, NoMemory> {
 // Attributes with a next hop of so many bytes.
 fn with_hop(alloc: Global, count: u32) -> Result<Attrs, NoMemory> {
     let hop = hop_of(alloc, count)?;
-    let mut attrs = no_attrs(alloc);
+    let mut attrs = Attrs::none(alloc);
     attrs.hop = Some(hop);
     Ok(attrs)
 }
@@ -138,7 +137,7 @@ fn attrs_of(alloc: Global, words: &[&str]) -> Result<Attrs, NoMemory> {
             octet_of(flags),
             number_of(times),
         ),
-        _ => Ok(no_attrs(alloc)),
+        _ => Ok(Attrs::none(alloc)),
     }
 }
 

@@ -4,25 +4,10 @@ use bgp_update::NlriList;
 use bmp_frames::{PeerKey, View};
 use bmp_message::Reading;
 use bmp_writer::{can_routes, put_routes};
-use path_attrs::{Attrs, Numbers, OtherList};
+use path_attrs::Attrs;
 use rib_model::{Effect, Entry};
 use std::alloc::{AllocError, Global};
 use wire_io::ByteList;
-
-// The attributes of nothing.
-pub(crate) fn no_attrs(alloc: Global) -> Attrs {
-    Attrs {
-        origin: None,
-        path: None,
-        hop: None,
-        med: None,
-        pref: None,
-        atomic: false,
-        aggregator: None,
-        communities: Numbers::new(alloc),
-        others: OtherList::new(alloc),
-    }
-}
 
 // Writes the message, where it can carry the routes.
 fn put(
@@ -47,7 +32,7 @@ fn put_one(alloc: Global, out: &mut String, effect: &Effect) -> Result<(), Alloc
     let none = NlriList::new(alloc);
     match effect {
         Effect::Withdraw { key, view, nlris } => {
-            put(alloc, out, (key, *view), nlris, &none, &no_attrs(alloc))
+            put(alloc, out, (key, *view), nlris, &none, &Attrs::none(alloc))
         }
         Effect::Announce {
             key,

@@ -1,9 +1,9 @@
 //! Steps that are kept.
-use crate::routes::no_attrs;
 use crate::words::{nlri_of, number_of, put_nlri};
 use bmp_frames::PeerKey;
 use bmp_specs::View;
 use ip_prefix::{Addr, Nlri};
+use path_attrs::Attrs;
 use recent_ring::Keep;
 use rib_model::{Route, Step};
 use std::alloc::{AllocError, Global};
@@ -21,7 +21,7 @@ fn peer() -> PeerKey {
 
 // A route that is told from others by its MULTI_EXIT_DISC.
 fn route(alloc: Global, med: u32) -> Result<Route, NoMemory> {
-    let mut attrs = no_attrs(alloc);
+    let mut attrs = Attrs::none(alloc);
     attrs.med = Some(med);
     Ok(Arc::new(alloc, attrs)?)
 }
@@ -35,7 +35,7 @@ fn announced(alloc: Global, nlri: Nlri, med: u32) -> Result<Step, NoMemory> {
     })
 }
 
-fn put_kept(out: &mut String, kept: &Result<Step, NoMemory>) -> Result<(), AllocError> {
+fn put_kept_step(out: &mut String, kept: &Result<Step, NoMemory>) -> Result<(), AllocError> {
     match kept {
         Ok(Step::Announce { nlri, route, .. }) => {
             let med = route.med;
@@ -50,7 +50,7 @@ fn put_kept(out: &mut String, kept: &Result<Step, NoMemory>) -> Result<(), Alloc
 // The step that is kept of an announcement.
 fn put_step(out: &mut String, step: &Result<Step, NoMemory>) -> Result<(), AllocError> {
     match step {
-        Ok(step) => put_kept(out, &step.keep()),
+        Ok(step) => put_kept_step(out, &step.keep()),
         Err(_) => Err(AllocError),
     }
 }

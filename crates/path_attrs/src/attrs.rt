@@ -1,7 +1,9 @@
 ghost use Rattle.std.specs.Prelude.{◌≡◌, IfOk};
+ghost use Rattle.bmp_specs.specs.TreatAsWithdraw.{no_attributes};
 
 use crate::others::{OtherList, copy_others};
 use as_path::{AsPath, Numbers};
+use std::alloc::Global;
 use std::marker::Model;
 use wire_io::{ByteList, NoMemory};
 
@@ -100,6 +102,23 @@ fn copy_bytes(bytes: &Option<ByteList>) -> Result<Option<ByteList>, NoMemory>
 }
 
 impl Attrs {
+    /// No attributes. They take no memory.
+    pub fn none(alloc: Global) -> Attrs
+        ensures { result ≡ no_attributes }
+    {
+        Attrs {
+            origin: None,
+            path: None,
+            hop: None,
+            med: None,
+            pref: None,
+            atomic: false,
+            aggregator: None,
+            communities: Numbers::new(alloc),
+            others: OtherList::new(alloc),
+        }
+    }
+
     /// Equal attributes. It copies each byte and each number.
     pub fn copy(&self) -> Result<Attrs, NoMemory>
         ensures { IfOk result (λ copy. copy ≡ self.now) }
