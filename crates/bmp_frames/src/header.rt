@@ -126,7 +126,7 @@ impl PeerHeader {
         !self.is_loc_rib() && self.has(A_FLAG)
     }
 
-    /// The address that stands in these 16 bytes, as the peer's and the local address do: IPv6 by the V
+    /// "Peer Address", and likewise "Local Address": the address that stands in these 16 bytes, IPv6 by the V
     /// flag, else IPv4 in the last four bytes, and always IPv4 for a Loc-RIB Instance Peer.
     pub fn place(&self, raw: &[u8; 16]) -> Addr
         ensures { result ≡ place_of self.now raw.now }

@@ -4,7 +4,8 @@ ghost use Rattle.bmp_specs.specs.Termination.{IsTermination};
 
 use crate::tlvs::are_tlvs;
 
-/// Whether the bytes are the body of a Termination Message (RFC 7854, section 4.5): TLVs fill them.
+/// Termination Message (RFC 7854, section 4.5): whether the bytes are the body of one, which TLVs fill. Nothing of
+/// them is kept.
 pub fn read_termination(body: &[u8]) -> bool
     requires { length body.now ≤ most_body }
     ensures yes { IsTrue result → IsTermination body.now }
