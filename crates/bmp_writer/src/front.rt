@@ -55,7 +55,11 @@ fn put_second(out: &mut ByteList, attrs: &Attrs) -> Result<(), NoMemory>
 
 /// Appends them, each where the route has it; NEXT_HOP only where it is told. Out of memory, fewer bytes stand
 /// behind those of before.
-pub(crate) fn put_front(out: &mut ByteList, attrs: &Attrs, plain: bool) -> Result<(), NoMemory>
+pub(crate) fn put_origin_to_communities(
+    out: &mut ByteList,
+    attrs: &Attrs,
+    plain: bool,
+) -> Result<(), NoMemory>
     requires path { HasPath attrs.now.path }
     requires hop { HasHop (if plain then attrs.now.hop else None) }
     requires communities { 4 * length attrs.now.communities ≤ 65535 }

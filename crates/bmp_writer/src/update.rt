@@ -7,7 +7,7 @@ ghost use Rattle.bmp_writer.specs.WrittenAttributes.{IsFront, front_size};
 ghost use Rattle.bmp_writer.specs.WrittenNlri.{AreOwnNlri, nlris_size};
 ghost use Rattle.bmp_writer.specs.WrittenUpdate.{CanPlace, CanTell, HasRoom, IsCountedOf, IsField, IsUpdateOf, field_size, hop_bytes, is_plain as plain_of, of_v4 as at_v4, of_v6 as at_v6, others_of as others_at, places, told_of, update_size, where_so};
 
-use crate::front::{left_by_front, put_front};
+use crate::front::{left_by_front, put_origin_to_communities};
 use crate::multi::{left_by_reach, left_by_unreach, put_reach, put_unreach};
 use crate::nlri::{left_by_nlris, put_nlris, size_of_nlris};
 use crate::others::{left_by_others, put_others};
@@ -98,7 +98,7 @@ fn put_told(
     if announced.is_empty() {
         return Ok(());
     }
-    put_front(out, attrs, plain)
+    put_origin_to_communities(out, attrs, plain)
 }
 
 // What is left of so many octets behind these. None exactly where they take more.
