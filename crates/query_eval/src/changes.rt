@@ -28,7 +28,7 @@ fn put_lost<O: Sink>(out: &mut O, recent: &Recent<Step>, from: u64) -> Result<u6
 }
 
 // Writes the lines of the changes that are kept. Each step is looked at once.
-fn put_kept<O: Sink>(
+fn put_kept_changes<O: Sink>(
     out: &mut O,
     lane: u32,
     recent: &Recent<Step>,
@@ -67,7 +67,7 @@ fn put_recent<O: Sink>(
     }
     let lost = put_lost(out, recent, from)?;
     let count = lost.saturating_add(1);
-    let kept = put_kept(out, lane, recent, from, prefix)?;
+    let kept = put_kept_changes(out, lane, recent, from, prefix)?;
     Ok(count.saturating_add(kept))
 }
 

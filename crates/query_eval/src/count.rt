@@ -6,7 +6,7 @@ ghost use Rattle.query_eval.specs.Puts.{CountsRows};
 ghost use Rattle.query_eval.specs.Rows.{asked_of, asks_run};
 ghost use Rattle.query_eval.specs.RowTables.{table_value};
 
-use crate::front::count_front;
+use crate::front::count_while_in_run;
 use crate::run::{Part, Run};
 use crate::tables::{AskedTables, PeerTable};
 use bmp_specs::Family;
@@ -20,7 +20,7 @@ fn count_run(table: &PeerTable<'_>, run: &Run) -> u64
     let routes = table.table;
     // for the proof: the pairs stand in the order of NLRI
     routes.see_order();
-    count_front(routes.walk(run.begin()), run)
+    count_while_in_run(routes.walk(run.begin()), run)
 }
 
 // How many routes a table has, or 2^64 - 1 where there are more.

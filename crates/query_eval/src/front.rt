@@ -13,7 +13,7 @@ use wire_io::{Failed, Sink};
 
 /// Writes the lines of a table's routes that a walk gives, up to the first that isn't in the run, and answers how
 /// many.
-pub(crate) fn put_front<'a, O: Sink, W: Pairs<'a> + Drop, T: TellsRow>(
+pub(crate) fn put_while_in_run<'a, O: Sink, W: Pairs<'a> + Drop, T: TellsRow>(
     out: &mut O,
     lane: u32,
     table: &PeerTable<'_>,
@@ -44,7 +44,7 @@ pub(crate) fn put_front<'a, O: Sink, W: Pairs<'a> + Drop, T: TellsRow>(
 }
 
 /// How many routes a walk gives, up to the first that isn't in the run.
-pub(crate) fn count_front<'a, W: Pairs<'a> + Drop>(walk: W, run: &Run) -> u64
+pub(crate) fn count_while_in_run<'a, W: Pairs<'a> + Drop>(walk: W, run: &Run) -> u64
     ensures { result ≡ told_count (length (front_of run.now (W.left walk))) }
 {
     let mut walk = walk;

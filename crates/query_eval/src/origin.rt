@@ -5,7 +5,7 @@ ghost use Rattle.query_eval.specs.Puts.{PutsLines};
 ghost use Rattle.query_eval.specs.Rows.{asks_origin};
 
 use crate::asks::{Asks, put_rows};
-use crate::front::put_front;
+use crate::front::put_while_in_run;
 use crate::run::{Part, Run};
 use crate::tables::PeerTable;
 use crate::tells::AsRoutes;
@@ -37,7 +37,7 @@ impl Asks for OriginRows {
         let routes = table.table;
         // for the proof: the pairs stand in the order of NLRI
         routes.see_order();
-        put_front(
+        put_while_in_run(
             out,
             lane,
             table,

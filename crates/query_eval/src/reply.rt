@@ -30,7 +30,7 @@ fn counted(query: &Query) -> Option<Select>
 }
 
 // Writes the number of rows of all lanes, and answers that it is one line.
-fn put_counted<O: Sink>(
+fn put_row_count<O: Sink>(
     out: &mut O,
     cut: &Cut<RouterTables>,
     select: &Select,
@@ -47,7 +47,7 @@ fn put_lines<O: Sink>(out: &mut O, cut: &Cut<RouterTables>, query: &Query) -> Re
     ensures { PutsLines O.faults O.told O.aside (StandForLanes cut.now) (AreReplyLines (query_value query.now)) out.old result out.new }
 {
     match counted(query) {
-        Some(select) => put_counted(out, cut, &select),
+        Some(select) => put_row_count(out, cut, &select),
         None => put_lanes(out, cut, query),
     }
 }

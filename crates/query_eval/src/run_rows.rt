@@ -4,7 +4,7 @@ ghost use Rattle.query_eval.specs.Rows.{asked_of, asks_run};
 ghost use Rattle.query_eval.specs.RowTables.{table_value};
 
 use crate::asks::Asks;
-use crate::front::put_front;
+use crate::front::put_while_in_run;
 use crate::run::Run;
 use crate::tables::PeerTable;
 use crate::tells::TellsRow;
@@ -24,7 +24,7 @@ pub(crate) fn put_run<O: Sink, T: TellsRow>(
     let routes = table.table;
     // for the proof: the pairs stand in the order of NLRI
     routes.see_order();
-    put_front(out, lane, table, routes.walk(run.begin()), run, tells)
+    put_while_in_run(out, lane, table, routes.walk(run.begin()), run, tells)
 }
 
 /// The rows of a run, each told in this way.

@@ -37,7 +37,7 @@ returns-in_err-kept g c =
     let less : c.args.recent.now.total < most_told = omega (arith, c.if-total.false, c.total-total.ensures.total) in
     let split = told_all ring c.args.lane c.args.from c.args.prefix.now less ∙ ap (λ (n : ℕ). steps_line c.args.lane n ∷ (lost ++ kept)) (sym c.total-total.ensures.total) in
     let count : c.saturating_add-count.result ≡ told_count (1 + c.in_ok-lost.lost) = omega (arith, c.saturating_add-count.ensures) in
-    leads_last_failed c.args.out.now c.put_lost.new.out c.put_kept.new.out c.saturating_add-count.result kept all _ c.from_residual-in_err-kept.result
+    leads_last_failed c.args.out.now c.put_lost.new.out c.put_kept_changes.new.out c.saturating_add-count.result kept all _ c.from_residual-in_err-kept.result
     (leads_on c.args.out.now c.put_steps.new.out c.put_lost.new.out 1 c.in_ok-lost.lost c.saturating_add-count.result lost kept (lost ++ kept) all
     (leads_on_line c.args.out.now c.args.out.now c.put_steps.new.out 0 1 _ (lost ++ kept) all all (leads_begin c.args.out.now all) c.in_ok-put_steps.ensures split (omega arith))
     c.in_ok-lost.ensures refl count)
@@ -52,7 +52,7 @@ returns g c =
     let less : c.args.recent.now.total < most_told = omega (arith, c.if-total.false, c.total-total.ensures.total) in
     let split = told_all ring c.args.lane c.args.from c.args.prefix.now less ∙ ap (λ (n : ℕ). steps_line c.args.lane n ∷ (lost ++ kept)) (sym c.total-total.ensures.total) in
     let count : c.saturating_add-count.result ≡ told_count (1 + c.in_ok-lost.lost) = omega (arith, c.saturating_add-count.ensures) in
-    leads_last c.args.out.now c.put_lost.new.out c.put_kept.new.out c.saturating_add-count.result c.in_ok-kept.kept c.saturating_add.result kept all
+    leads_last c.args.out.now c.put_lost.new.out c.put_kept_changes.new.out c.saturating_add-count.result c.in_ok-kept.kept c.saturating_add.result kept all
     (leads_on c.args.out.now c.put_steps.new.out c.put_lost.new.out 1 c.in_ok-lost.lost c.saturating_add-count.result lost kept (lost ++ kept) all
     (leads_on_line c.args.out.now c.args.out.now c.put_steps.new.out 0 1 _ (lost ++ kept) all all (leads_begin c.args.out.now all) c.in_ok-put_steps.ensures split (omega arith))
     c.in_ok-lost.ensures refl count)
@@ -61,5 +61,5 @@ returns g c =
 pub put_lost-requires : goal.put_lost-requires
 put_lost-requires g c = omega (arith, c.if-total.false, c.total-total.ensures.total)
 
-pub put_kept-requires : goal.put_kept-requires
-put_kept-requires g c = omega (arith, c.if-total.false, c.total-total.ensures.total)
+pub put_kept_changes-requires : goal.put_kept_changes-requires
+put_kept_changes-requires g c = omega (arith, c.if-total.false, c.total-total.ensures.total)

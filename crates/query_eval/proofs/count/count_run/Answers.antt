@@ -8,4 +8,4 @@ use Rattle.query_eval.proofs.count.count_run.Goals as goal
 pub returns : goal.returns
 returns c =
     let told = run_told c.args.table.now.table.now c.see_order.ensures.ordered c.see_order.ensures.nlri c.args.run.now c.begin.result c.walk.result c.begin.ensures.valid c.begin.ensures.place c.walk.ensures in
-    c.count_front.ensures ∙ ap told_count (ap length told ∙ sym (length-map _ (row_of c.args.table.now.key c.args.table.now.view)))
+    c.count_while_in_run.ensures ∙ ap told_count (ap length told ∙ sym (length-map _ (row_of c.args.table.now.key c.args.table.now.view)))

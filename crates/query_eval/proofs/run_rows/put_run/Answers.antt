@@ -7,7 +7,7 @@ use Rattle.query_eval.proofs.run_rows.put_run.Goals as goal
 
 pub returns : goal.returns
 returns g c =
-    lines_as c.args.out.now c.put_front.new.out _ _ c.put_front.result
+    lines_as c.args.out.now c.put_while_in_run.new.out _ _ c.put_while_in_run.result
     (ap (λ (l : Table). map (g.T.TellsRow.line c.args.tells.now c.args.lane) (map (row_of c.args.table.now.key c.args.table.now.view) l))
     (run_told c.args.table.now.table.now c.see_order.ensures.ordered c.see_order.ensures.nlri c.args.run.now c.begin.result c.walk.result c.begin.ensures.valid c.begin.ensures.place c.walk.ensures))
-    c.put_front.ensures
+    c.put_while_in_run.ensures

@@ -7,7 +7,7 @@ use Rattle.query_eval.proofs.origin.OriginRowsAsks.put_asked.Goals as goal
 
 pub returns : goal.returns
 returns g c =
-    lines_as c.args.out.now c.put_front.new.out _ _ c.put_front.result
+    lines_as c.args.out.now c.put_while_in_run.new.out _ _ c.put_while_in_run.result
     (ap (λ (l : Table). lines_of c.args.lane (map (row_of c.args.table.now.key c.args.table.now.view) l))
     (origin_told c.args.table.now.table.now c.see_order.ensures.ordered c.see_order.ensures.nlri c.args.self.now.asn c.args.self.now.family c.begin.result c.origin.result c.begin.ensures.place c.origin.ensures))
-    c.put_front.ensures
+    c.put_while_in_run.ensures

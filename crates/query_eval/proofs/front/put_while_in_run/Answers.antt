@@ -9,7 +9,7 @@ use Rattle.query_eval.specs.RowRuns.{front_of, shown_all}
 use Rattle.query_eval.specs.Rows.{row_of}
 use Rattle.query_eval.proofs.Leading.{leads_begin, leads_failed, leads_first, leads_last, leads_last_failed, leads_on, lines_as, no_lines}
 use Rattle.query_eval.proofs.RowLines.{front_more, front_none, pairs_told}
-use Rattle.query_eval.proofs.front.put_front.Goals as goal
+use Rattle.query_eval.proofs.front.put_while_in_run.Goals as goal
 
 -- the lines of the rows of pairs
 abbrev lines_in : (RowValue → List ℕ) → KeyValue → View → Table → List (List ℕ)

@@ -4,7 +4,7 @@ use Rattle.bmp_specs.specs.ChangeLines.{change_line}
 use Rattle.route_watch.specs.Watch.{change_of}
 use Rattle.query_eval.proofs.Leading.{leads_on_line, leads_failed_line, leads_end}
 use Rattle.query_eval.proofs.RowChangeLaws.{kept_below, next_kept, none_kept}
-use Rattle.query_eval.proofs.changes.put_kept.Goals as goal
+use Rattle.query_eval.proofs.changes.put_kept_changes.Goals as goal
 
 pub returns-in_err-put_change : goal.returns-in_err-put_change
 returns-in_err-put_change g c =

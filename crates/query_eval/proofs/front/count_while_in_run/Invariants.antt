@@ -1,7 +1,7 @@
 use Rattle.std.proofs.Common.{◌≡◌, ◌+◌, length}
 use Rattle.bmp_specs.specs.Reply.{told_count}
 use Rattle.query_eval.specs.RowRuns.{front_of}
-use Rattle.query_eval.proofs.front.count_front.Given as goal
+use Rattle.query_eval.proofs.front.count_while_in_run.Given as goal
 
 abbrev pub invariant-loop-found : goal.invariant-loop-found
 invariant-loop-found g l = record {

@@ -3,7 +3,7 @@ use Rattle.bmp_specs.specs.Values.{AttrsValue, NlriValue}
 use Rattle.query_eval.specs.RowRuns.{front_of}
 use Rattle.query_eval.specs.Rows.{row_of}
 use Rattle.query_eval.proofs.Leading.{LeadsTo}
-use Rattle.query_eval.proofs.front.put_front.Given as goal
+use Rattle.query_eval.proofs.front.put_while_in_run.Given as goal
 
 abbrev pub invariant-loop-lines : goal.invariant-loop-lines
 invariant-loop-lines g l = record {
