@@ -130,7 +130,7 @@ fn archive_from<R: BodyReading + Drop, Y: Yard>(
 }
 
 // Writes how many bytes were kept, and the stop line.
-fn put_kept<O: Sink>(out: &mut O, bytes: u64, cause: Cause) -> Result<(), Failed>
+fn put_kept_bytes<O: Sink>(out: &mut O, bytes: u64, cause: Cause) -> Result<(), Failed>
     ensures { Writes O.faults O.told O.aside out.old (kept_line bytes ++ stop_line cause) result out.new }
 {
     put_number(out, b"kept", bytes)?;
@@ -187,7 +187,7 @@ fn tell<O: Sink>(out: &mut O, kept: Kept) -> Status
         Kept::Unbegun { fault } => refuse(out, fault),
         Kept::Starved => Status::NoMemory,
         Kept::Whole { bytes, cause } => {
-            unless_failed(put_kept(out, bytes, cause), status_after(cause))
+            unless_failed(put_kept_bytes(out, bytes, cause), status_after(cause))
         }
         Kept::CutOff { bytes, fault } => tell_refused(out, bytes, fault),
     }
