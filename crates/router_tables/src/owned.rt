@@ -9,20 +9,20 @@ use wire_io::NoMemory;
 
 // A book of which an equal one can be had.
 pub(crate) trait Book {
-    fn again(&self) -> Result<Self, NoMemory>
+    fn copy(&self) -> Result<Self, NoMemory>
     where
         Self: Sized,
         ensures { IfOk result (λ copy. copy ≡ self.now) };
 }
 
 impl Book for PeerBook {
-    fn again(&self) -> Result<PeerBook, NoMemory> {
+    fn copy(&self) -> Result<PeerBook, NoMemory> {
         self.copy()
     }
 }
 
 impl Book for StatsBook {
-    fn again(&self) -> Result<StatsBook, NoMemory> {
+    fn copy(&self) -> Result<StatsBook, NoMemory> {
         self.copy()
     }
 }
@@ -32,7 +32,7 @@ pub(crate) fn own<B: Book + Drop>(book: &mut Arc<B>, alloc: Global) -> Result<()
     ensures { OnOk result (arc_value book.new ≡ arc_value book.old) }
 {
     if Arc::strong_count(book) > 1 {
-        let copy = book.again()?;
+        let copy = book.copy()?;
         *book = Arc::new(alloc, copy)?;
     }
     Ok(())
