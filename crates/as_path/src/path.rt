@@ -29,8 +29,8 @@ fn is_confederation(kind: SegmentKind) -> bool
     matches!(kind, SegmentKind::ConfedSequence | SegmentKind::ConfedSet)
 }
 
-/// An AS path: a list of path segments (RFC 4271, section 4.3). It keeps its allocator. A path of one segment takes
-/// memory for the segment's numbers alone.
+/// An AS path: a list of path segments (RFC 4271, section 4.3). It keeps its allocator. A path of one segment with up
+/// to six numbers takes no memory.
 #[derive(Debug, Drop)]
 pub struct AsPath {
     segments: List<Segment>,
