@@ -1,4 +1,4 @@
-ghost use Rattle.std.specs.Prelude.{◌≡◌, ℕ, ◌≤◌, ◌<◌, ◌+◌, ◌-◌, [], min, map, drop, take, length, unwrap_or, IfOk, IsTrue, Ok, Err, List};
+ghost use Rattle.std.specs.Prelude.{◌≡◌, ℕ, ◌≤◌, ◌<◌, ◌+◌, ◌-◌, [], ◌∷◌, min, map, drop, take, length, unwrap_or, IfOk, IsTrue, Ok, Err, List};
 ghost use Rattle.wire_io.specs.Aside.{Plan};
 ghost use Rattle.wire_io.specs.declared.sink.Failed.{Failed};
 ghost use Rattle.station_doors.specs.Doors.{Opens, Reads, Closes, read_of, noted_writes, untouched_link};
@@ -51,18 +51,25 @@ impl Model for Connections {
     ghost invariant = { λ c. (c.opened ≤ vec_len c.sessions) × (IsTrue c.is_open → 0 < c.opened) };
 }
 
+// A connection that wasn't opened.
+fn unopened(bytes: ByteList) -> Session
+    ensures { result ≡ record { bytes = bytes; count = 0; last = Gave; writes = 0 } }
+{
+    Session {
+        bytes,
+        count: 0,
+        last: Last::Gave,
+        writes: 0,
+    }
+}
+
 // The connections, of which none was opened.
 fn sessions_of(alloc: Global, connections: &[ByteList]) -> Result<Vec<Session>, NoMemory>
     ensures { IfOk result (λ v. map (λ s. s.bytes) v.items ≡ connections.now) }
 {
     let mut sessions = Vec::new(alloc);
     for connection in connections {
-        sessions.push(Session {
-            bytes: connection.copy()?,
-            count: 0,
-            last: Last::Gave,
-            writes: 0,
-        })?;
+        sessions.push(unopened(connection.copy()?))?;
     }
     Ok(sessions)
 }
@@ -112,21 +119,36 @@ fn fill(bytes: &[u8], at: usize, most: usize, buf: &mut [u8]) -> usize
     count
 }
 
+// Connections, of which none was opened.
+fn untouched(sessions: Vec<Session>) -> Connections
+    ensures { result ≡ untouched_link (record { connections = map (λ s. s.bytes) sessions.items; fails = [] }) }
+{
+    Connections {
+        sessions,
+        opened: 0,
+        closed: 0,
+        is_open: false,
+        taken: 0,
+        refused: false,
+        faults: 0,
+    }
+}
+
 impl Connections {
-    // These connections, of which none was opened.
+    // Copies of these connections, of which none was opened.
     pub(crate) fn new(alloc: Global, connections: &[ByteList]) -> Result<Connections, NoMemory>
         ensures { IfOk result (λ c. c ≡ untouched_link (record { connections = connections.now; fails = [] })) }
     {
-        let sessions = sessions_of(alloc, connections)?;
-        Ok(Connections {
-            sessions,
-            opened: 0,
-            closed: 0,
-            is_open: false,
-            taken: 0,
-            refused: false,
-            faults: 0,
-        })
+        Ok(untouched(sessions_of(alloc, connections)?))
+    }
+
+    // This one connection itself, which wasn't opened.
+    pub(crate) fn over(alloc: Global, connection: ByteList) -> Result<Connections, NoMemory>
+        ensures { IfOk result (λ c. c ≡ untouched_link (record { connections = connection ∷ []; fails = [] })) }
+    {
+        let mut sessions = Vec::new(alloc);
+        sessions.push(unopened(connection))?;
+        Ok(untouched(sessions))
     }
 
     // Opens the next connection, where there were so many faults in writes. False where there is none.

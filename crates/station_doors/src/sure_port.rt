@@ -1,4 +1,4 @@
-ghost use Rattle.std.specs.Prelude.{◌≡◌, ◌<◌, [], length, min, unwrap_or, IfOk, IsOk, IsTrue};
+ghost use Rattle.std.specs.Prelude.{◌≡◌, ◌<◌, [], ◌∷◌, length, min, unwrap_or, IfOk, IsOk, IsTrue};
 ghost use Rattle.std.specs.Io.{ReadsAtMost};
 ghost use Rattle.wire_io.specs.Aside.{Plan};
 ghost use Rattle.station_doors.specs.Doors.{Reads, AsPlanned, read_size, untouched};
@@ -31,13 +31,27 @@ impl Model for SurePort {
 }
 
 impl SurePort {
-    /// A port with these connections, of which none was opened, and of which each read gives at most `piece` bytes.
+    /// A port with copies of these connections, of which none was opened, and of which each read gives at most `piece`
+    /// bytes.
     pub fn new(alloc: Global, connections: &[ByteList], piece: u32) -> Result<SurePort, NoMemory>
         requires { 0 < piece }
         ensures { IfOk result (λ port. port ≡ record { shows = untouched (record { connections = connections.now; fails = [] }); piece = piece; reads = 0 }) }
     {
         Ok(SurePort {
             connections: Connections::new(alloc, connections)?,
+            reads: 0,
+            piece,
+        })
+    }
+
+    /// A port with this one connection, which wasn't opened, and of which each read gives at most `piece` bytes. Its bytes
+    /// aren't copied.
+    pub fn over(alloc: Global, connection: ByteList, piece: u32) -> Result<SurePort, NoMemory>
+        requires { 0 < piece }
+        ensures { IfOk result (λ port. port ≡ record { shows = untouched (record { connections = connection ∷ []; fails = [] }); piece = piece; reads = 0 }) }
+    {
+        Ok(SurePort {
+            connections: Connections::over(alloc, connection)?,
             reads: 0,
             piece,
         })
