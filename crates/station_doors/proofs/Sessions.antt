@@ -111,7 +111,7 @@ reads_fault xs i n taken faults now closed s d buf refused is_open f h e g rose 
   is_open = refl;
   taken = refl;
   refused = refl;
-  cause = record { later = omega (arith, rose, fits); failed = omega (arith, rose); fine = tt };
+  cause = record { later = omega (arith, rose, fits); failed = (omega (arith, rose), omega (arith, rose)); fine = tt };
   calm = refl;
   writes = ap (λ (l : List ℕ). Some l) (writes_set xs i s d h (ap writes_of g));
   laid = refl;

@@ -13,7 +13,7 @@ pub(crate) const MOST_FILE: usize = 67_108_864;
 /// Why a yard gave no file.
 #[derive(Clone, Copy, Debug, PartialEq, Eq)]
 pub enum FileFault {
-    /// There is no such file, or it couldn't be read. The yard's count of faults has risen.
+    /// There is no such file, or it couldn't be read. The yard's count of faults has risen by one.
     Failed,
 
     /// The file has more than 2^26 bytes.

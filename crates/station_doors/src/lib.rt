@@ -2,7 +2,8 @@
 //!
 //! A port is the place of one router, a link the place of one client; each gives one connection after
 //! another, and a link takes what is written to it. A yard hands them out by number and takes them back, does the same
-//! with disks by path, and gives whole files by path. Each counts its faults, and answers `Failed` only where its count rose in that call.
+//! with disks by path, and gives whole files by path. Each counts its faults, and answers `Failed` only where its
+//! count rose by one in that call.
 //!
 //! `MemPort`, `MemLink` and `MemYard` hold everything in memory and tell it to contracts: the plan, each byte
 //! that was given, how the last read went, what was written, what came back, the files and the disks. `SurePort` and
