@@ -42,7 +42,7 @@ SaysEnd Over ended rest input = ended ≡ true → ((input.last ≡ gave_none) �
 SaysEnd ReadFault ended rest input = (ended ≡ false) × (input.last ≡ failed)
 SaysEnd WriteFault ended rest input = ended ≡ true → ((input.last ≡ gave_none) × IsAtEnd rest) ⊎ (length input.bytes ≡ most_taken)
 
--- All replies were written and no write failed, or a write failed and a front of them was written.
+-- All replies were written and no write failed, or one write failed and a front of them was written.
 abbrev pub HasWritten : Close → List ℕ → Option (List ℕ) → Option (List ℕ) → ℕ → ℕ → Type 0
 HasWritten Ended text told told' writes writes' = Appends told told' text × (writes' ≡ writes)
 HasWritten Full text told told' writes writes' = Appends told told' text × (writes' ≡ writes)
@@ -50,7 +50,7 @@ HasWritten Over text told told' writes writes' = Appends told told' text × (wri
 HasWritten ReadFault text told told' writes writes' = Appends told told' text × (writes' ≡ writes)
 HasWritten WriteFault text told told' writes writes' = AppendsFront told text told' × Rose writes writes'
 
--- a failed read raises the count of faults of reads, and nothing else does
+-- a failed read raises the count of faults of reads by one, and nothing else does
 abbrev pub HasReadFault : Close → ℕ → ℕ → Type 0
 HasReadFault ReadFault reads reads' = Rose reads reads'
 HasReadFault Ended reads reads' = reads' ≡ reads

@@ -5,7 +5,7 @@ ghost use Rattle.disk_doors.specs.Disk.{DiskValue, Sizes, ReadsAt, WritesAt, Syn
 use wire_io::Failed;
 
 /// One file, of which a crash may leave any image of the moment. It counts its faults, and a call answers `Failed`
-/// only where the count rose in it.
+/// only where the count rose by one in it.
 pub trait Disk {
     ghost use Rattle.std.specs.Prelude.{ℕ};
 

@@ -33,7 +33,7 @@ AppendAnswers old new size (Err Failed) = (old.stopped ≡ false) × (old.place 
 AppendAnswers old new size (Err Full) = (old.stopped ≡ false) × (most_archive < old.place + 6 + size) × (new ≡ old)
 AppendAnswers old new size (Err Stopped) = (old.stopped ≡ true) × (new ≡ old)
 
--- `Failed` comes only where the count of faults rose; every other answer leaves it as it was.
+-- `Failed` comes only where the count of faults rose by one; every other answer leaves it as it was.
 abbrev pub AppendCause : ℕ → ℕ → Result (Unit {0}) AppendFault → Type 0
 AppendCause before now (Ok u) = now ≡ before
 AppendCause before now (Err Failed) = (before ≤ now) × Rose before now

@@ -31,7 +31,7 @@ abbrev pub Recovers : List ℕ → Result (List ℕ) RecoverFault → Type 0
 Recovers file (Ok content) = Holds file content
 Recovers file (Err fault) = FaultFits file fault
 
--- `Failed` comes only where the count of faults rose; every other answer leaves it as it was.
+-- `Failed` comes only where the count of faults rose by one; every other answer leaves it as it was.
 abbrev pub FaultCause : ℕ → ℕ → RecoverFault → Type 0
 FaultCause before now Failed = (before ≤ now) × Rose before now
 FaultCause before now (Damaged offset) = now ≡ before

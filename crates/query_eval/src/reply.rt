@@ -101,7 +101,8 @@ fn put_buffered<O: Sink>(out: &mut O, cut: &Cut<RouterTables>, query: &Query) ->
 
 /// Writes the reply of a query: the revision of the cut, the lines of the rows that are asked for, lane
 /// after lane, and their number, at most 2^64 - 1. It is the reply on every history that the cut stands
-/// for. The query isn't the end of a session. Where a write fails, a front of the reply was written.
+/// for. The query isn't the end of a session. A write that fails ends the call; a front of the reply was
+/// then written.
 ///
 /// The lines go through a buffer, which is handed on at the end. It takes no memory.
 pub fn answer<O: Sink>(cut: &Cut<RouterTables>, query: &Query, out: &mut O) -> Result<(), Failed>

@@ -38,7 +38,7 @@ pub trait TellsTable {
     fn look(&self, attrs: &Attrs) -> Found
         ensures { finds self.now attrs.now result };
 
-    /// Writes the line of a route of which this was found. Where a write fails, a front of the line was written.
+    /// Writes the line of a route of which this was found. A write that fails ends the call, after a front of the line.
     fn put_row<O: Sink>(
         &mut self,
         out: &mut O,

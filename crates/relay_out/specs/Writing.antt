@@ -26,7 +26,7 @@ pub record IsFront (items : List ItemValue) (bytes : List ℕ) : Type 0 where
   pub back : List ℕ
   pub are : AreParts IsItem (bytes ++ back) first
 
--- the count of faults rose exactly where a write failed
+-- the count of faults rose by one exactly where a write failed, which ended the call
 abbrev pub IsCounted : ℕ → ℕ → Result (Unit {0}) EmitFault → Type 0
 IsCounted before now (Ok v) = now ≡ before
 IsCounted before now (Err Failed) = Rose before now

@@ -6,7 +6,7 @@
 //! lay a `BufferedSink` over a sink that is slow.
 //!
 //! Proved: each call writes exactly the line that `bmp_specs` defines, the `rov` line that of `specs/Rov.antt`,
-//! and answers `Failed` only where a write failed, after a front of the line.
+//! and answers `Failed` only where a write failed, which ended the call after a front of the line.
 //! Begin with `specs/Lines.antt` and `specs/RouteLine.antt` of `bmp_specs`, then `src/lines.rt`.
 #![tactic(auto)]
 

@@ -14,7 +14,7 @@ use wire_io::{Failed, Sink};
 /// Writes the reply of `rov` on lane 0: the revision, the line of each row whose prefix is within this one, and their number,
 /// at most 2^64 - 1. The revision is the number of the lane's entries, and it is the reply on any entries that the tables
 /// stand for. A line has the row's peer, RIB and prefix, the AS that originated its route or `none`, and the verdict of the
-/// VRPs on them (RFC 6811, section 2). Where a write fails, a front of the reply was written.
+/// VRPs on them (RFC 6811, section 2). A write that fails ends the call; a front of the reply was then written.
 ///
 /// The lines go straight to the sink, one write each: lay a `BufferedSink` over one that is slow. It takes no memory.
 pub fn put_rov_reply<O: Sink>(

@@ -73,7 +73,8 @@ pub record HasRunSome {O : Type 0} (told : O → Option (List ℕ)) (meaning : M
   pub runs : Runs meaning done start end replies
   pub written : AppendsFront (told old) replies (told new)
 
--- What a call that runs a schedule leaves. It answers that a write failed only where the count of faults rose.
+-- What a call that runs a schedule leaves. It answers that a write failed only where the count of faults
+-- rose by one: it ends at that write.
 abbrev pub Leaves : {O : Type 0} → (O → ℕ) → (O → Option (List ℕ)) → Meaning → List Event → MachineValue → O → O → Result ℕ ScheduleFault → Type 0
 Leaves faults told meaning events start old new (Ok last) = HasRun told meaning events start old new last × (faults new ≡ faults old)
 Leaves faults told meaning events start old new (Err Failed) = HasRunSome told meaning events start old new × Rose (faults old) (faults new)

@@ -57,8 +57,8 @@ fn run<B: BodyReading + Drop, O: Sink>(
 /// connection is live until a cause of its end is there: a Termination Message (RFC 7854, section 4.5), what is no
 /// message, 2^46 bytes, or `End`.
 ///
-/// `Failed` only where a write failed. After a fault a front of the replies was written. It keeps all entries of the
-/// schedule, and a publication costs what `RouterTables::with` costs.
+/// `Failed` only where a write failed, which ended the call. After a fault a front of the replies was written. It keeps
+/// all entries of the schedule, and a publication costs what `RouterTables::with` costs.
 pub fn run_schedule<O: Sink>(
     alloc: Global,
     lanes: u32,

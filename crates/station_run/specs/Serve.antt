@@ -94,7 +94,7 @@ pub data Comes {E : Type 0} (Shows : E → List (TablesValue × ℕ) → List (F
   -- the same, and the last line couldn't be written
   undone : (rev : ℕ) (meant : Outcome) → outcome ≡ WriteFault → Ends Shows meaning at rounds old new meant rev → AppendsFront told (ready_line ++ done_line rev) told' → Comes Shows meaning at rounds old new told told' outcome
 
--- the outcome is this one exactly where the count rose
+-- the outcome is this one exactly where the count rose, by the one fault that ended the call
 pub record AnswersFault (before now : ℕ) (outcome fault : Outcome) : Type 0 where
   pub rose : outcome ≡ fault → Rose before now
   pub calm : (outcome ≡ fault → ⊥) → now ≡ before

@@ -171,8 +171,8 @@ where
 ///
 /// | Outcome | Where |
 /// |---|---|
-/// | `YardFault` | exactly where the yard's count of faults rose: a call failed, what had been handed out was given back, and nothing is written |
-/// | `WriteFault` | exactly where the sink's count of faults rose; after a failed `ready` nothing is served |
+/// | `YardFault` | exactly where the yard's count of faults rose, by one: a call failed, what had been handed out was given back, and nothing is written |
+/// | `WriteFault` | exactly where the sink's count of faults rose, by one: nothing is written after a write that failed, and after a failed `ready` nothing is served |
 /// | `NoMemory` | the call ran out of memory, before anything was asked for or, once all was served, as the history was to be finished; or it ended a lane, and `done` is still written |
 /// | `Done` | else |
 pub fn serve<B: BodyReading + Drop + Send, Y: Yard, O: Sink, R: Threads + Wait + Sync>(

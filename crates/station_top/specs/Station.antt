@@ -273,7 +273,7 @@ pub data Answers (Serves : Meaning → ServeWords → Outcome → Type 0) (words
   -- they ask for the help text or the version, and the yard is asked for nothing
   explained : (call : Call) (text : List ℕ) → IsCall call words → Explains call.command text → new ≡ old → calls ≡ number → IsWritten told0 told1 text Done status → Answers Serves words old new number calls told0 told1 status
 
--- the status is this one exactly where the count rose
+-- the status is this one exactly where the count rose, by the one fault that ended the call
 pub record AnswersFault (before now : ℕ) (status fault : Status) : Type 0 where
   pub rose : status ≡ fault → Rose before now
   pub calm : status ≢ fault → now ≡ before

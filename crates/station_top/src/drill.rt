@@ -51,8 +51,8 @@ fn write_replies<O: Sink>(out: &mut O, cut: &Cut<RouterTables>) -> Result<(), Fa
 
 /// Writes the replies of `cut`, `routers` and `count` on the cut of a drill, one after another.
 ///
-/// The lines go through one buffer, which is handed on once at the end. Where a write fails, a front of the replies was
-/// written.
+/// The lines go through one buffer, which is handed on once at the end. A write that fails ends the call; a front of
+/// the replies was then written.
 pub fn write_drill<O: Sink>(out: &mut O, cut: &Arc<Cut<RouterTables>>) -> Result<(), Failed>
     ensures { (seed lanes messages : ℕ) → IsDrillCut seed lanes messages (arc_value cut.now) → PutsReply O.faults O.told O.aside (IsDrillText seed lanes messages) out.old result out.new }
 {

@@ -11,7 +11,7 @@ pub enum Status {
     Usage,
     /// A read failed, or no connection could be opened.
     ReadFault,
-    /// A write failed. It takes the place of every other status.
+    /// A write failed, and nothing was written after it. It takes the place of every other status.
     WriteFault,
     /// The call ran out of memory.
     NoMemory,

@@ -402,7 +402,8 @@ where
     // Which status, by the words and what the yard tells; what was written; how many calls of the yard were made.
     ensures answers { Answers (λ meaning serve outcome. Comes Y.Ending.shows meaning serve.at serve.rounds (record { told = Y.told yard.old; calls = Y.calls yard.old; listened = Y.listened yard.old; endings = Y.endings yard.old; last_ending = Y.last_ending yard.old }) (record { told = Y.told yard.new; calls = Y.calls yard.new; listened = Y.listened yard.new; endings = Y.endings yard.new; last_ending = Y.last_ending yard.new }) (O.told out.old) (O.told out.new) outcome) (map string_bytes words.now) (Y.told yard.old) (Y.told yard.new) (Y.calls yard.old) (Y.calls yard.new) (O.told out.old) (O.told out.new) result }
 
-    // A write fault is answered exactly where a write failed, and a yard's fault exactly where the yard failed.
+    // A write fault is answered exactly where a write failed, and a yard's fault exactly where the yard failed. The fault
+    // ended the command: the count rose by one.
     ensures out { AnswersFault (O.faults out.old) (O.faults out.new) result Status.WriteFault }
     ensures yard { AnswersFault (Y.faults yard.old) (Y.faults yard.new) result Status.YardFault }
 
