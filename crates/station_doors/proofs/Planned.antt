@@ -147,7 +147,7 @@ module _ (plan : Plan) (a b : Aside) (calls : ℕ) (went : List LastRead) where
   unopened_by [] e f o =
       let coming = failed_to_open plan.connections b.coming b.rest e (subst (λ (c : Option (List (List ℕ))). OpensNext c b.coming b.rest (Err e)) f.coming o.coming) in
       record { coming = coming; opened = o.opened ∙ f.opened; is_closed = o.is_open ∙ f.is_closed; none = λ yes'. absurd (cc (o.refused, yes')); unread = f.unread; uncalled = f.uncalled }
-  unopened_by (g ∷ []) e f o = (o.opened ∙ f.0, λ fine calm. absurd (omega (arith, o.cause.failed, calm)))
+  unopened_by (g ∷ []) e f o = (o.opened ∙ f.0, λ fine calm. absurd (omega (arith, o.cause.failed.0, calm)))
   unopened_by (g ∷ h ∷ gs) e f o = subst (λ (n : ℕ). 1 < n) (sym o.opened) f
 
   closed_by : (gs : List Given) → FollowsBy plan a calls went gs → Closes a b → FollowsBy plan b calls went gs

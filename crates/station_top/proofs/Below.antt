@@ -101,11 +101,11 @@ module _ (meaning : Meaning) (plan : Plan) (now : Aside) (calls : ℕ) (went : L
     rest = first_of plan.connections;
     front = refl;
     whole = λ h. absurd (cc h);
-    steady = λ h. absurd (omega (arith, opening, calm h));
+    steady = λ h. absurd (omega (arith, opening.0, calm h));
     reads = 0;
     gives = gives_nothing plan;
     next = λ one. absurd (omega (arith, one));
-    opening = (λ _. omega (arith, opening), λ _. (refl, is));
+    opening = (λ _. omega (arith, opening.0), λ _. (refl, is));
     reading = (λ h. absurd (omega (arith, h.0)), λ one. absurd (omega (arith, one, faults)));
   }
 

@@ -49,7 +49,7 @@ none_failed plan reads gave_none goes none h = cc h
 pub failed_counted : (now : ℕ) (last : LastRead) → CountsLast 0 now last → (last ≡ failed) ↔ 0 < now
 failed_counted now gave same = (λ h. cc h, λ some. absurd (omega (arith, same, some)))
 failed_counted now gave_none same = (λ h. cc h, λ some. absurd (omega (arith, same, some)))
-failed_counted now failed rose = (λ _. omega (arith, rose), λ _. refl)
+failed_counted now failed rose = (λ _. omega (arith, rose.0), λ _. refl)
 
 -- the one input connection was opened, taken and closed
 comes : (meaning : Meaning) (Stands : List EntryValue → Type 0) (plan : Plan) (a b c d : Aside) (w0 w1 : Option (List LastRead)) (calls : ℕ) (taken : Taken) (t : Takes meaning Stands b c w0 w1 calls taken) → a ≡ untouched plan → calls ≡ 0 → Opens a b (Ok true) → Closes c d
@@ -304,6 +304,6 @@ takes_unopened meaning Stands a b calls0 e taken stands o fails is = rw is (reco
           reads = 0;
           gives = gives_nothing plan;
           next = λ one. absurd (omega (arith, one));
-          opening = (λ _. omega (arith, o1.cause.failed), λ _. (refl, o1.refused));
+          opening = (λ _. omega (arith, o1.cause.failed.0), λ _. (refl, o1.refused));
           reading = (λ h. absurd (omega (arith, h.0)), λ one. absurd (omega (arith, one, o1.calm)));
         }
