@@ -1,25 +1,20 @@
 -- Reading an archive, record by record.
-use Rattle.std.proofs.Common.{◌≡◌, ◌≢◌, ⊎_elim, ℕ, ◌+◌, ◌-◌, ◌<◌, ◌≤◌, min, List, [], ◌∷◌, ◌++◌, length, get_or, take, drop, refl, sym, ◌∙◌, ap, subst, arith, length-append, length-take, length-drop, take-append-drop, Ok}
-use mathlib.Core.Bool.{Bool, true, false, false≢true}
+use Rattle.std.proofs.Common.{◌≡◌, ◌≢◌, ⊎_elim, ℕ, ◌+◌, ◌-◌, ◌<◌, ◌≤◌, min, List, [], ◌∷◌, ◌++◌, length, get_or, take, drop, refl, sym, ◌∙◌, ap, subst, arith, length-append, length-take, length-drop, take-append-drop, Bool, true, Result, Ok}
 use Rattle.std.proofs.lemmas.Bool.{cases_lt}
-use Rattle.std.proofs.lemmas.List.{get_or-take, get_or-drop, drop-take, drop-drop, take-take, take_at, take_all, drop_all}
+use Rattle.std.proofs.lemmas.List.{get_or-take, get_or-drop, drop-take, drop-drop, take-take, take_at, take_all, drop_all, nil_from_length}
 use Rattle.std.proofs.Math.Seq.{take-add}
-use Rattle.byteorder.specs.Endian.{big_number}
-use Rattle.byteorder.specs.Numbers.{big_from-append}
-use Rattle.bmp_specs.specs.Frame.{stated}
 use Rattle.bmp_specs.specs.Parts.{AreParts}
-use Rattle.bmp_specs.specs.Sequence.{HasFront}
 use Rattle.feed_archive.specs.Archive.{IsRecord, IsArchive, BreaksRecord, IsDamagedAt, joined, most_archive}
 use Rattle.feed_archive.specs.Recovering.{FaultFits, FaultCause, FaultPlanned, seen}
 use Rattle.disk_doors.specs.Images.{Moment}
-use Rattle.disk_doors.specs.Disk.{DiskValue, Rests, Lasts}
+use Rattle.disk_doors.specs.Disk.{DiskValue, ReadsAt, Rests, Lasts}
 use Rattle.disk_doors.proofs.Passing.{sound_later}
 use Rattle.feed_archive.specs.declared.scanning.Found.{Found}
-use Rattle.feed_archive.specs.Scanning.{Fills, rest_of, Finds, FitsEnd, Takes, IsPlain, IsDamage, HasScanned}
+use Rattle.feed_archive.specs.Scanning.{WindowValue, IsPart, Covers, rest_of, Finds, FitsEnd, Takes, IsPlain, IsDamage, HasScanned}
 use Rattle.feed_archive.specs.declared.fault.RecoverFault.{RecoverFault}
 use Rattle.feed_archive.specs.declared.fault.RecoverFault.TheVariants.{Failed, Damaged, TooLong, NoMemory}
 use Rattle.feed_archive.specs.declared.scanning.Found.TheVariants.{Record, Closed, Broken}
-use Rattle.feed_archive.proofs.Records.{record_here, breaks_nil, parts_snoc, joined-snoc}
+use Rattle.feed_archive.proofs.Records.{record_here, stated_front, breaks_nil, breaks_longer, parts_snoc, joined-snoc}
 use Rattle.feed_archive.proofs.Windows.{at_place}
 use Rattle.feed_archive.proofs.OneContent.{damaged_none}
 
@@ -32,51 +27,80 @@ length-rest file end place l = omega (arith, length-drop place (take end file), 
 rest_front : (file : List ℕ) (end place k : ℕ) → place + k ≤ end → take k (rest_of file end place) ≡ take k (drop place file)
 rest_front file end place k l = ap (λ (x : List ℕ). take k x) (rest_is file end place (omega (arith, l))) ∙ take-take k (end - place) (drop place file) (omega (arith, l))
 
-rest_later : (file : List ℕ) (end place k : ℕ) → drop k (rest_of file end place) ≡ rest_of file end (place + k)
-rest_later file end place k = drop-drop k place (take end file)
+-- no bytes are the file's
+pub part_none : (file : List ℕ) (w : WindowValue) → length w.bytes ≡ 0 → IsPart file w
+part_none file w none = nil_from_length w.bytes none ∙ ap (λ (n : ℕ). take n (drop w.place file)) (sym none)
 
--- the byte at the front
-pub gate_of : (file : List ℕ) (end place : ℕ) (gate : List ℕ) → length gate ≡ 1 → gate ≡ take (length gate) (drop place file) → place < end → get_or (rest_of file end place) 0 0 ≡ get_or gate 0 0
-gate_of file end place gate one is l =
-    sym (get_or-take 1 (rest_of file end place) 0 0 (omega arith))
-    ∙ ap (λ (x : List ℕ). get_or x 0 0) (rest_front file end place 1 (omega (arith, l)) ∙ ap (λ (n : ℕ). take n (drop place file)) (sym one) ∙ sym is)
+-- bytes that were read are
+pub part_read : (old new : DiskValue) (place n : ℕ) (buf : List ℕ) → ReadsAt old new place (Ok n) buf → n ≤ length buf → IsPart new.now.file (record { place = place; bytes = take n buf })
+part_read old new place n buf r l =
+    let size : length (take n buf) ≡ n = omega (arith, length-take n buf, l) in
+    r.bytes
+    ∙ ap (λ (d : DiskValue). take n (drop place d.now.file)) (sym r.next)
+    ∙ ap (λ (k : ℕ). take k (drop place new.now.file)) (sym size)
 
--- the length that a record at the front states
-pub size_of : (file : List ℕ) (end place : ℕ) (size : List ℕ) → length size ≡ 4 → size ≡ take (length size) (drop (place + 1) file) → place + 5 ≤ end → stated (rest_of file end place) ≡ big_number 4 size
-size_of file end place size four is l =
-    let rest = rest_of file end (place + 1) in
-    let first : take 4 rest ≡ size = rest_front file end (place + 1) 4 (omega (arith, l)) ∙ ap (λ (n : ℕ). take n (drop (place + 1) file)) (sym four) ∙ sym is in
-    ap (λ (x : List ℕ). big_number 4 x) (rest_later file end place 1 ∙ sym (take-append-drop 4 rest) ∙ ap (λ (x : List ℕ). x ++ drop 4 rest) first)
-    ∙ big_from-append 4 size (drop 4 rest) (omega (arith, four))
+pub part_before : (a b : DiskValue) (w : WindowValue) → Rests a b → IsPart b.now.file w → IsPart a.now.file w
+part_before a b w r part = subst (λ (m : Moment). IsPart m.file w) r.now part
 
--- the piece of a record at the front
-pub takes_record : (file : List ℕ) (end place n : ℕ) (piece old new : List ℕ) → end ≤ length file → place + 5 + n ≤ end → Finds (rest_of file end place) (Record n) → length piece ≡ n
-    → piece ≡ take (length piece) (drop (place + 5) file) → new ≡ old ++ piece → Takes (rest_of file end place) old new (Record n)
-takes_record file end place n piece old new within l f size is grown =
-    let rest = rest_of file end place in
-    let here = record_here rest n f.0 f.1 f.2 f.3 in
-    let same : take n (drop 5 rest) ≡ piece =
-    ap (λ (x : List ℕ). take n x) (rest_later file end place 5) ∙ rest_front file end (place + 5) n l ∙ ap (λ (k : ℕ). take k (drop (place + 5) file)) (sym size) ∙ sym is in
-    (piece, subst (λ (p : List ℕ). HasFront IsRecord rest p (drop (5 + n) rest)) same here, grown)
+pub covered : {E : Type 0} (w : WindowValue) (place count : ℕ) (r : Result Bool E) (b : Bool) → b ≡ true → r ≡ Ok b → (r ≡ Ok true → Covers w place count) → Covers w place count
+covered w place count r b e is f = f (is ∙ ap (λ (x : Bool). Ok x) e)
 
--- a buffer that was filled
-filled : (d : DiskValue) (place : ℕ) (b : Bool) (buf : List ℕ) → b ≡ true → Fills d place (Ok b) buf → buf ≡ take (length buf) (drop place d.now.file)
-filled d place true buf e f = f.0
-filled d place false buf e f = absurd (false≢true e)
+-- the first bytes of a part of the file
+pub lent : (file : List ℕ) (w : WindowValue) (place count : ℕ) → IsPart file w → Covers w place count → take count (drop (place - w.place) w.bytes) ≡ take count (drop place file)
+lent file w place count is c =
+    let k = place - w.place in
+    let len = length w.bytes in
+    let whole : w.place + k ≡ place = omega (arith, c.0) in
+    ap (λ (x : List ℕ). take count (drop k x)) is
+    ∙ rest_front (drop w.place file) len k count (omega (arith, c.0, c.1))
+    ∙ ap (λ (x : List ℕ). take count x) (drop-drop k w.place file)
+    ∙ ap (λ (n : ℕ). take count (drop n file)) whole
 
-pub found_gate : (d : DiskValue) (end place : ℕ) (b : Bool) (buf : List ℕ) → length buf ≡ 1 → b ≡ true → Fills d place (Ok b) buf → place < end → get_or buf 0 0 ≡ 1 → get_or (rest_of d.now.file end place) 0 0 ≡ 1
-found_gate d end place b buf one e f l is = gate_of d.now.file end place buf one (filled d place b buf e f) l ∙ is
+-- what is found at the front of as many bytes as a record has, or of all there are, stands at the front of all
+finds_longer : (bytes : List ℕ) (count : ℕ) (found : Found) → 65541 ≤ count → count ≤ length bytes → Finds (take count bytes) found → Finds bytes found
+finds_longer bytes count (Record n) most l f =
+    (sym (get_or-take count bytes 0 0 (omega (arith, most))) ∙ f.0, sym (stated_front bytes count (omega (arith, most)) l) ∙ f.1, f.2, omega (arith, f.3, length-take count bytes))
+finds_longer bytes count Closed most l f = (omega (arith, f.0, length-take count bytes), λ e. f.1 (get_or-take count bytes 0 0 (omega (arith, most)) ∙ e))
+finds_longer bytes count Broken most l f = breaks_longer bytes count most l f
 
-pub found_size : (d e : DiskValue) (end place : ℕ) (b : Bool) (buf : List ℕ) → length buf ≡ 4 → b ≡ true → e.now ≡ d.now → Fills e (place + 1) (Ok b) buf → place + 5 ≤ end → stated (rest_of d.now.file end place) ≡ big_number 4 buf
-found_size d e end place b buf four is same f l =
-    size_of d.now.file end place buf four (filled e (place + 1) b buf is f ∙ ap (λ (m : Moment). take (length buf) (drop (place + 1) m.file)) same) l
+pub finds_all : (bytes : List ℕ) (count : ℕ) (found : Found) → count ≡ min (length bytes) 65541 → Finds (take count bytes) found → Finds bytes found
+finds_all bytes count found is f = ⊎_elim
+    (λ (l : length bytes < 65541). subst (λ (x : List ℕ). Finds x found) (take_all count bytes (omega (arith, is, l))) f)
+    (λ (l : 65541 ≤ length bytes). finds_longer bytes count found (omega (arith, is, l)) (omega (arith, is, l)) f)
+    (cases_lt (length bytes) 65541)
 
-pub found_piece : (d e : DiskValue) (end place n : ℕ) (found : Found) (b : Bool) (buf old new : List ℕ) → end ≤ length d.now.file → found ≡ Record n → FitsEnd end place found → Finds (rest_of d.now.file end place) found
-    → length buf ≡ n → b ≡ true → e.now ≡ d.now → Fills e (place + 5) (Ok b) buf → new ≡ old ++ buf → Takes (rest_of d.now.file end place) old new (Record n)
-found_piece d e end place n found b buf old new within is fits finds size done same f grown =
-    let fits_n = subst (λ (x : Found). FitsEnd end place x) is fits in
-    let finds_n = subst (λ (x : Found). Finds (rest_of d.now.file end place) x) is finds in
-    takes_record d.now.file end place n buf old new within fits_n.0 finds_n size (filled e (place + 5) b buf done f ∙ ap (λ (m : Moment). take (length buf) (drop (place + 5) m.file)) same) grown
+-- what was found in the bytes that a window lends
+module _ (file : List ℕ) (end place count : ℕ) (w : WindowValue) (bytes : List ℕ) (within : end ≤ length file) (before : place < end) (count_is : count ≡ min (end - place) 65541) (part : IsPart file w) (covers : Covers w place count)
+    (bytes_is : bytes ≡ take count (drop (place - w.place) w.bytes)) where
+  abbrev here : List ℕ
+  here = rest_of file end place
+
+  front : bytes ≡ take count here
+  front = bytes_is ∙ lent file w place count part covers ∙ sym (rest_front file end place count (omega (arith, count_is, before)))
+
+  finds : (found : Found) → Finds bytes found → Finds here found
+  finds found f = finds_all here count found (omega (arith, count_is, length-rest file end place within)) (subst (λ (x : List ℕ). Finds x found) front f)
+
+  -- the piece's end is reckoned from the front
+  pub takes_record : (n m : ℕ) (found : Found) (old new : List ℕ) → found ≡ Record n → Finds bytes found → new ≡ old ++ take m (drop 5 bytes) → m ≡ n → Takes here old new (Record n)
+  takes_record n m found old new is f grown size =
+      let g = subst (λ (x : Found). Finds bytes x) is f in
+      let h = finds (Record n) g in
+      let piece = take n (drop 5 here) in
+      let same : take m (drop 5 bytes) ≡ piece =
+      ap (λ (k : ℕ). take k (drop 5 bytes)) size ∙ ap (λ (x : List ℕ). take n (drop 5 x)) front ∙ rest_front here count 5 n (omega (arith, g.3, ap length front, length-take count here)) in
+      (piece, record_here here n h.0 h.1 h.2 h.3, grown ∙ ap (λ (x : List ℕ). old ++ x) same)
+
+  pub takes_none : (found : Found) (content : List ℕ) → ((n : ℕ) → found ≡ Record n → ⊥) → Finds bytes found → Takes here content content found
+  takes_none (Record n) content other f = absurd (other n refl)
+  takes_none Closed content other f = let h = finds Closed f in (h.0, h.1, refl)
+  takes_none Broken content other f = finds Broken f
+
+-- what is found in bytes before the end
+pub fits_end : (end place : ℕ) (bytes : List ℕ) (found : Found) → place < end → length bytes ≤ end - place → Finds bytes found → FitsEnd end place found
+fits_end end place bytes (Record n) before most f = (omega (arith, f.3, before, most), f.2)
+fits_end end place bytes Closed before most f = tt
+fits_end end place bytes Broken before most f = tt
 
 -- what is looked at ends at the file's end or at the most
 pub seen_end : (file : List ℕ) (end : ℕ) → end ≡ min (length file) most_archive → take end file ≡ seen file

@@ -1,6 +1,6 @@
 -- Records, one after another.
-use Rattle.std.proofs.Common.{◌≡◌, inl, inr, ℕ, ◌+◌, ◌<◌, ◌≤◌, List, [], ◌∷◌, ◌++◌, length, get_or, take, drop, refl, sym, ◌∙◌, ap, arith, append_assoc, append-nil, length-append, length-drop, length-take, take-append-drop}
-use Rattle.std.proofs.lemmas.List.{get_or_append_left, drop_at, drop-take}
+use Rattle.std.proofs.Common.{◌≡◌, inl, inr, ⊎_elim, ℕ, ◌+◌, ◌<◌, ◌≤◌, List, [], ◌∷◌, ◌++◌, length, get_or, take, drop, refl, sym, ◌∙◌, ap, arith, append_assoc, append-nil, length-append, length-drop, length-take, take-append-drop}
+use Rattle.std.proofs.lemmas.List.{get_or_append_left, get_or-take, drop_at, drop-take, take-take, take_at}
 use Rattle.byteorder.specs.Endian.{big_bytes}
 use Rattle.byteorder.specs.Numbers.{big_number-reads_back, length-bytes_high_first}
 use Rattle.bmp_specs.specs.Parts.{AreParts, IsCode}
@@ -88,3 +88,25 @@ breaks_long bytes gate long = record { no_record = λ piece rest h. omega (arith
 
 pub breaks_cut : (bytes : List ℕ) → get_or bytes 0 0 ≡ 1 → length bytes < 5 + stated bytes → BreaksRecord bytes
 breaks_cut bytes gate cut = record { no_record = λ piece rest h. omega (arith, (record_needs bytes piece rest h).0, (record_needs bytes piece rest h).1, cut); no_end = inr gate }
+
+-- as many bytes as a record has, or more, say what stands at the front
+pub stated_front : (bytes : List ℕ) (count : ℕ) → 5 ≤ count → count ≤ length bytes → stated (take count bytes) ≡ stated bytes
+stated_front bytes count least l =
+    sym (stated-append (take count bytes) (drop count bytes) (omega (arith, length-take count bytes, least, l))) ∙ ap (λ (x : List ℕ). stated x) (take-append-drop count bytes)
+
+front_within : (bytes piece rest : List ℕ) (count : ℕ) → 5 + most_record ≤ count → HasFront IsRecord bytes piece rest → (more : List ℕ) × HasFront IsRecord (take count bytes) piece more
+front_within bytes piece rest count most (front, split, is) =
+    let n = length front in
+    let within : n ≤ count = omega (arith, is.whole, is.size, most) in
+    let first : take n (take count bytes) ≡ front = take-take n count bytes within ∙ ap (λ (x : List ℕ). take n x) split.joined ∙ take_at front rest n refl in
+    let more = drop n (take count bytes) in
+    (more, (front, record { joined = sym (take-append-drop n (take count bytes)) ∙ ap (λ (x : List ℕ). x ++ more) first }, is))
+
+pub breaks_longer : (bytes : List ℕ) (count : ℕ) → 5 + most_record ≤ count → count ≤ length bytes → BreaksRecord (take count bytes) → BreaksRecord bytes
+breaks_longer bytes count most l b = record {
+  no_record = λ piece rest h. let w = front_within bytes piece rest count most h in b.no_record piece w.0 w.1;
+  no_end = ⊎_elim
+      (λ (e : take count bytes ≡ []). absurd (omega (arith, ap length e, length-take count bytes, most, l)))
+      (λ (e : get_or (take count bytes) 0 0 ≡ 1). inr (sym (get_or-take count bytes 0 0 (omega (arith, most))) ∙ e))
+      b.no_end;
+}

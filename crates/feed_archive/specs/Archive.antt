@@ -1,4 +1,4 @@
--- The archive file: a list of records and a byte other than 1. Whatever follows that byte isn't read.
+-- The archive file: a list of records and a byte other than 1. What follows that byte counts for nothing.
 use Rattle.std.specs.Prelude.{◌≡◌, ◌≢◌, ℕ, ◌+◌, ◌^◌, ◌≤◌, ◌⊎◌, List, [], ◌∷◌, ◌++◌, length, drop, slice_index}
 use Rattle.byteorder.specs.Endian.{big_number}
 use Rattle.bmp_specs.specs.Parts.{AreParts}

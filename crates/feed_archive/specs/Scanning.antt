@@ -1,10 +1,8 @@
 -- Reading an archive, record by record.
-use Rattle.std.specs.Prelude.{◌≡◌, ◌≢◌, ℕ, ◌+◌, ◌-◌, ◌<◌, ◌≤◌, Bool, true, false, List, ◌++◌, length, take, drop, slice_index, Result, Ok, Err}
-use Rattle.wire_io.specs.declared.sink.Failed.{Failed}
+use Rattle.std.specs.Prelude.{◌≡◌, ◌≢◌, ℕ, ◌+◌, ◌<◌, ◌≤◌, List, ◌++◌, length, take, drop, slice_index, Result, Ok, Err}
 use Rattle.bmp_specs.specs.Frame.{stated}
 use Rattle.bmp_specs.specs.Parts.{AreParts}
 use Rattle.bmp_specs.specs.Sequence.{HasFront}
-use Rattle.disk_doors.specs.Disk.{DiskValue}
 use Rattle.feed_archive.specs.Archive.{IsRecord, IsArchive, BreaksRecord, joined, most_record, most_archive}
 use Rattle.feed_archive.specs.Recovering.{FaultFits, seen}
 use Rattle.feed_archive.specs.declared.fault.RecoverFault.{RecoverFault}
@@ -13,11 +11,18 @@ use Rattle.feed_archive.specs.declared.scanning.Found.{Found}
 use Rattle.feed_archive.specs.declared.scanning.Found.TheVariants.{Record, Closed, Broken}
 use Rattle.feed_archive.specs.declared.scanning.Scanned.{Scanned}
 
--- a buffer was filled from this place on, or the file has fewer bytes there
-abbrev pub Fills : DiskValue → ℕ → Result Bool Failed → List ℕ → Type 0
-Fills d place (Ok true) buf = (buf ≡ take (length buf) (drop place d.now.file)) × (length buf ≤ length d.now.file - place)
-Fills d place (Ok false) buf = length d.now.file - place < length buf
-Fills d place (Err e) buf = Unit {0}
+-- bytes that stand at a place
+pub record WindowValue : Type 0 where
+  pub place : ℕ
+  pub bytes : List ℕ
+
+-- they are the file's
+abbrev pub IsPart : List ℕ → WindowValue → Type 0
+IsPart file w = w.bytes ≡ take (length w.bytes) (drop w.place file)
+
+-- so many bytes from this place on are among them
+abbrev pub Covers : WindowValue → ℕ → ℕ → Type 0
+Covers w place count = (w.place ≤ place) × (place + count ≤ w.place + length w.bytes)
 
 -- what stands from a place on, before the end
 abbrev pub rest_of : List ℕ → ℕ → ℕ → List ℕ

@@ -1,29 +1,23 @@
-use Rattle.std.proofs.Common.{sym, ◌∙◌, arith}
+use Rattle.std.proofs.Common.{ℕ, List, length, sym, ◌∙◌, ap, arith}
+use Rattle.std.proofs.lemmas.Slice.{between_to_end}
+use Rattle.byteorder.specs.Endian.{big_number}
 use Rattle.feed_archive.proofs.Records.{breaks_short, breaks_long, breaks_cut}
-use Rattle.feed_archive.proofs.Reading.{length-rest, found_gate, found_size}
-use Rattle.feed_archive.proofs.scanning.find.Goals.{then-length-gt-MOST_RECORD-via-then-length-gt-MOST_RECORD, then-length-gt-MOST_RECORD-via-else-length-gt-MOST_RECORD+then-left-length}
 use Rattle.feed_archive.proofs.scanning.find.Goals as goal
 
-pub returns-then-left-lt-HEADER-clause-told : goal.returns-then-left-lt-HEADER-clause-told
-returns-then-left-lt-HEADER-clause-told g c = λ t.
-    let file = (g.D.Disk.shows c.args.disk.now).now.file in
-    let gate = found_gate (g.D.Disk.shows c.args.disk.now) c.args.end c.args.place _ _ c.fill_from.auto.buf c.if-not-branch.false (c.in_ok-fill_from.ensures.told t) c.requires.before c.if-gate-ne1.false in
-    breaks_short _ (omega (arith, length-rest file c.args.end c.args.place (c.requires.within t), c.if-left-lt-HEADER.true)) gate
+pub returns-then-bytes-lt-HEADER : goal.returns-then-bytes-lt-HEADER
+returns-then-bytes-lt-HEADER c = breaks_short c.args.bytes.now (omega (arith, c.if-bytes-lt-HEADER.true)) c.if-bytes-ne1.false
 
-pub returns-then-length-gt-MOST_RECORD-clause-told : goal.returns-then-length-gt-MOST_RECORD-clause-told
-returns-then-length-gt-MOST_RECORD-clause-told g c = λ t.
-    let file = (g.D.Disk.shows c.args.disk.now).now.file in
-    let gate = found_gate (g.D.Disk.shows c.args.disk.now) c.args.end c.args.place _ _ c.fill_from.auto.buf c.if-not-branch.false (c.in_ok-fill_from.ensures.told t) c.requires.before c.if-gate-ne1.false in
-    let size = found_size (g.D.Disk.shows c.args.disk.now) (g.D.Disk.shows c.fill_from.new.disk) c.args.end c.args.place _ _ c.fill_from-2.auto.buf c.if-not-branch-2.false (c.in_ok-fill_from.ensures.rests t).now (c.in_ok-fill_from-2.ensures.told t) (omega (arith, c.if-left-lt-HEADER.false)) ∙ sym c.read_u32-length.ensures in
-    elim c.then-length-gt-MOST_RECORD.branch [
-      | then-length-gt-MOST_RECORD-via-then-length-gt-MOST_RECORD w ↦ breaks_long _ gate (omega (arith, size, w.if-length-gt-MOST_RECORD.true))
-      | then-length-gt-MOST_RECORD-via-else-length-gt-MOST_RECORD+then-left-length w ↦
-          breaks_cut _ gate (omega (arith, size, length-rest file c.args.end c.args.place (c.requires.within t), w.if-left-length.true, c.if-left-lt-HEADER.false))
-    ]
+pub returns-then-length-gt-MOST_RECORD : goal.returns-then-length-gt-MOST_RECORD
+returns-then-length-gt-MOST_RECORD c =
+    let size = c.read_u32-length.ensures ∙ ap (λ (x : List ℕ). big_number 4 x) (between_to_end c.args.bytes.now 1 (length c.args.bytes.now) (omega arith)) in
+    breaks_long c.args.bytes.now c.if-bytes-ne1.false (omega (arith, size, c.if-length-gt-MOST_RECORD.true))
 
-pub returns-clause-told : goal.returns-clause-told
-returns-clause-told g c = λ t.
-    let file = (g.D.Disk.shows c.args.disk.now).now.file in
-    let gate = found_gate (g.D.Disk.shows c.args.disk.now) c.args.end c.args.place _ _ c.fill_from.auto.buf c.if-not-branch.false (c.in_ok-fill_from.ensures.told t) c.requires.before c.if-gate-ne1.false in
-    let size = found_size (g.D.Disk.shows c.args.disk.now) (g.D.Disk.shows c.fill_from.new.disk) c.args.end c.args.place _ _ c.fill_from-2.auto.buf c.if-not-branch-2.false (c.in_ok-fill_from.ensures.rests t).now (c.in_ok-fill_from-2.ensures.told t) (omega (arith, c.if-left-lt-HEADER.false)) ∙ sym c.read_u32-length.ensures in
-    (gate, size, c.if-length-gt-MOST_RECORD.false, omega (arith, length-rest file c.args.end c.args.place (c.requires.within t), c.if-left-length.false, c.if-left-lt-HEADER.false))
+pub returns-then-bytes-length : goal.returns-then-bytes-length
+returns-then-bytes-length c =
+    let size = c.read_u32-length.ensures ∙ ap (λ (x : List ℕ). big_number 4 x) (between_to_end c.args.bytes.now 1 (length c.args.bytes.now) (omega arith)) in
+    breaks_cut c.args.bytes.now c.if-bytes-ne1.false (omega (arith, size, c.if-bytes-length.true, c.if-bytes-lt-HEADER.false))
+
+pub returns : goal.returns
+returns c =
+    let size = c.read_u32-length.ensures ∙ ap (λ (x : List ℕ). big_number 4 x) (between_to_end c.args.bytes.now 1 (length c.args.bytes.now) (omega arith)) in
+    (c.if-bytes-ne1.false, sym size, c.if-length-gt-MOST_RECORD.false, omega (arith, c.if-bytes-length.false, c.if-bytes-lt-HEADER.false))

@@ -2,7 +2,7 @@ use Rattle.std.proofs.Common.{ℕ, List, sym, ◌∙◌, subst, arith}
 use Rattle.disk_doors.proofs.Passing.{asked_rests, rests_then, not_planned}
 use Rattle.feed_archive.specs.declared.scanning.Found.{Found}
 use Rattle.feed_archive.specs.Scanning.{FitsEnd, HasScanned}
-use Rattle.feed_archive.proofs.Reading.{scan_starts, scan_on, scan_shut, scan_fault, scan_over, end_within, plain_fits, damage_calm, cause_from, damage_planned, planned_later}
+use Rattle.feed_archive.proofs.Reading.{part_none, scan_starts, scan_on, scan_shut, scan_fault, scan_over, end_within, plain_fits, damage_calm, cause_from, damage_planned, planned_later}
 use Rattle.feed_archive.proofs.scanning.scan.Goals as goal
 
 pub returns-in_default-size-clause-rests : goal.returns-in_default-size-clause-rests
@@ -11,8 +11,8 @@ returns-in_default-size-clause-rests g c = λ t. asked_rests _ _ (c.in_default-s
 pub loop-place-init : goal.loop-place-init
 loop-place-init g c = record {
   within = omega arith;
-  room = c.in-Ok.ensures.len;
   calm = c.in-Ok-size.ensures.cause.fine;
+  part = λ t. part_none _ c.in-Ok.window c.in-Ok.ensures;
   rests = λ t. asked_rests _ _ (c.in-Ok-size.ensures.told t).next;
   scanned = λ t. subst (λ (w : List ℕ). HasScanned (g.D.Disk.shows c.args.disk.now).now.file 0 w) (sym c.new-content.ensures) (scan_starts _);
 }
@@ -29,8 +29,8 @@ loop-place-preserved g c =
     let fits = subst (λ (x : Found). FitsEnd c.min-end.result c.loop-place.place x) c.in-Ok-Record.field-0-is e.fits in
     record {
       within = omega (arith, fits.0);
-      room = i.room;
       calm = e.cause ∙ i.calm;
+      part = e.part;
       rests = λ t. rests_then _ _ _ (i.rests t) (e.rests t);
       scanned = λ t.
           scan_on (g.D.Disk.shows c.args.disk.now) (g.D.Disk.shows c.loop-place.disk) _ _ c.loop-place.place _ (i.rests t) (c.in-Ok-size.ensures.told t).size c.min-end.ensures (i.scanned t) c.in-Ok-Record.length _ _ e.fits c.in-Ok-Record.field-0-is (e.told t);
