@@ -28,7 +28,7 @@ fn take_content<A: Account + Drop, R: BodyReading + Drop>(
 ) -> Result<(A, Taken), NoMemory>
     ensures { IfOk result (λ r. IsRecalled R.meaning (A.stands r.0) content r.1) }
 {
-    let mut port = SurePort::new(alloc, &[content], MOST_READ as u32)?;
+    let mut port = SurePort::over(alloc, content, MOST_READ as u32)?;
     take_input::<SurePort, A, R>(alloc, &mut port)
 }
 
