@@ -1,16 +1,16 @@
 -- The numbers of an NLRI stand for it.
-use Rattle.std.proofs.Common.{◌≡◌, ℕ, zero, suc, ◌+◌, ◌*◌, ◌/◌, ◌%◌, ◌<◌, List, [], ◌∷◌, ◌++◌, Option, Some, None, length, take, drop, get_or, sym, ap, ◌∙◌, subst, arith, length-take, length-drop, take-append-drop}
+use Rattle.std.proofs.Common.{◌≡◌, ℕ, zero, suc, ◌+◌, ◌*◌, ◌/◌, ◌%◌, ◌<◌, ◌≤◌, List, [], ◌∷◌, ◌++◌, Option, Some, None, length, take, drop, get_or, sym, ap, ◌∙◌, subst, arith, length-take, length-drop, take-append-drop}
 use Rattle.std.specs.Int.{w32, w64, to_be_bytes, from_be_bytes}
 use Rattle.std.proofs.lemmas.List.{get_or-take, get_or-drop}
 use Rattle.std.proofs.lemmas.Nat.{be_bytes_4, be_bytes_8}
 use Rattle.bmp_specs.specs.declared.wire.Family.{Family}
 use Rattle.bmp_specs.specs.declared.wire.Family.TheVariants.{V4, V6}
 use Rattle.bmp_specs.specs.Address.{FitsFamily, IsAddressPrefix, prefix_at}
-use Rattle.bmp_specs.specs.Prefix.{first_bits, padded}
+use Rattle.bmp_specs.specs.Prefix.{first_bits, padded, width_of}
 use Rattle.bmp_specs.specs.Values.{AddressValue, PrefixValue, NlriValue}
 use Rattle.bmp_specs.proofs.FirstBits.{AreBytes}
 use Rattle.route_runs.specs.Nlri.{IsNlri}
-use Rattle.route_runs.specs.NumberKeys.{octets4, octets6, mark_of, id_of, id_at, bits_of, address_of, high_of, low_of, nlri_of, IsKey4, IsKey6}
+use Rattle.route_runs.specs.NumberKeys.{octets4, octets6, mark_of, id_of, id_at, bits_of, nlri_of, IsKey}
 
 bytes_take : (n : ℕ) (xs : List ℕ) → AreBytes xs → AreBytes (take n xs)
 bytes_take zero xs bytes k = omega arith
@@ -39,7 +39,7 @@ pub octets4_of : (os : List ℕ) (n : ℕ) → length os ≡ 16 → AreBytes os 
 unfolding octets4
 octets4_of os n len bytes used is = ap padded (be_bytes_4 (take 4 os) n (omega (arith, length-take 4 os)) (bytes_take 4 os bytes) (is ∙ first4 os)) ∙ sym used
 
-pub octets6_of : (os : List ℕ) (high low : ℕ) → length os ≡ 16 → AreBytes os → high ≡ from_be_bytes w64 os → low ≡ from_be_bytes w64 (drop 8 os) → octets6 high low ≡ os
+pub octets6_of : (os : List ℕ) (high low : ℕ) → length os ≡ 16 → AreBytes os → high ≡ from_be_bytes w64 os → low ≡ from_be_bytes w64 (drop 8 os) → octets6 (high, low) ≡ os
 unfolding octets6
 octets6_of os high low len bytes is_high is_low =
     let front = be_bytes_8 (take 8 os) high (omega (arith, length-take 8 os)) (bytes_take 8 os bytes) (is_high ∙ first8 os) in
@@ -54,7 +54,7 @@ octets4_is bytes n e = ap padded e
 abbrev eight : List ℕ → List ℕ → List ℕ
 eight xs more = get_or xs 0 0 ∷ get_or xs 1 0 ∷ get_or xs 2 0 ∷ get_or xs 3 0 ∷ get_or xs 4 0 ∷ get_or xs 5 0 ∷ get_or xs 6 0 ∷ get_or xs 7 0 ∷ more
 
-pub octets6_is : (front back : List ℕ) (high low : ℕ) → front ≡ to_be_bytes w64 high → back ≡ to_be_bytes w64 low → eight front (eight back []) ≡ octets6 high low
+pub octets6_is : (front back : List ℕ) (high low : ℕ) → front ≡ to_be_bytes w64 high → back ≡ to_be_bytes w64 low → eight front (eight back []) ≡ octets6 (high, low)
 unfolding octets6
 octets6_is front back high low e f = λ i. eight (e i) (eight (f i) [])
 
@@ -104,33 +104,23 @@ nlri_kept family octets bits id prefix fits = record { prefix = prefix; id = few
     few zero i e = absurd cc
     few (suc r) i e = let same : id ≡ i = cc in omega arith
 
--- the numbers that are taken from an NLRI of IPv4
-module _ (v : NlriValue) (n bits id : ℕ) (family : v.prefix.address.family ≡ V4) (valid : IsAddressPrefix v.prefix) (is : n ≡ address_of v) (long : bits ≡ bits_of v) (own : id ≡ id_of v.id) where
-  pub key4_is : nlri_of V4 (octets4 n) bits id ≡ v
-  key4_is =
-      let octets = v.prefix.address.octets in
-      let used : FitsFamily V4 octets = subst (λ (f : Family). FitsFamily f octets) family valid.address.used in
-      nlri_from v V4 (octets4 n) bits id family (octets4_of octets n valid.address.len valid.address.bytes used is) long own
+few_bits : (family : Family) (bits : ℕ) → bits ≤ width_of family → bits < 256
+few_bits V4 bits l = omega (arith, l)
+few_bits V6 bits l = omega (arith, l)
 
-  pub key4_valid : n < 4294967296 → id < 4294967296 → IsKey4 n bits id
-  key4_valid fits few = record {
-    prefix = subst (λ (w : NlriValue). IsAddressPrefix w.prefix) (sym key4_is) valid;
-    address_fits = fits;
-    id_fits = few;
-    no_id = no_id_from v.prefix.bits v.id bits id long own;
-  }
+-- the numbers that are taken from an NLRI
+module _ {N : Type 0} (octets : N → List ℕ) (number : List ℕ → N) (v : NlriValue) (family : Family) (address : N) (bits id : ℕ) (is : v.prefix.address.family ≡ family) (same : octets address ≡ v.prefix.address.octets)
+    (long : bits ≡ bits_of v) (own : id ≡ id_of v.id) where
+  pub key_is : nlri_of family (octets address) bits id ≡ v
+  key_is = nlri_from v family (octets address) bits id is same long own
 
--- the numbers that are taken from an NLRI of IPv6
-module _ (v : NlriValue) (high low bits id : ℕ) (family : v.prefix.address.family ≡ V6) (valid : IsAddressPrefix v.prefix) (is_high : high ≡ high_of v) (is_low : low ≡ low_of v) (long : bits ≡ bits_of v)
-    (own : id ≡ id_of v.id) where
-  pub key6_is : nlri_of V6 (octets6 high low) bits id ≡ v
-  key6_is = nlri_from v V6 (octets6 high low) bits id family (octets6_of v.prefix.address.octets high low valid.address.len valid.address.bytes is_high is_low) long own
-
-  pub key6_valid : high < 18446744073709551616 → low < 18446744073709551616 → id < 4294967296 → IsKey6 high low bits id
-  key6_valid more less few = record {
-    prefix = subst (λ (w : NlriValue). IsAddressPrefix w.prefix) (sym key6_is) valid;
-    high_fits = more;
-    low_fits = less;
-    id_fits = few;
-    no_id = no_id_from v.prefix.bits v.id bits id long own;
-  }
+  pub key_valid : IsAddressPrefix v.prefix → number (octets address) ≡ address → id < 4294967296 → IsKey family octets number address bits id
+  key_valid valid back few =
+      let own_bits = length_from v.prefix.bits v.id bits id long own in
+      record {
+        prefix = subst (λ (w : NlriValue). IsAddressPrefix w.prefix) (sym key_is) valid;
+        bits_fit = subst (λ (n : ℕ). n < 256) (sym own_bits) (few_bits v.prefix.address.family v.prefix.bits valid.within);
+        address_back = back;
+        id_fits = few;
+        no_id = no_id_from v.prefix.bits v.id bits id long own;
+      }

@@ -14,4 +14,5 @@ pub mod Keys
 pub mod NumberKeys
 pub mod Origins
 pub mod Spots
+pub mod AddressOrder
 pub mod Sets

@@ -1,11 +1,9 @@
 -- An NLRI in a few numbers that stand in its order.
-use Rattle.std.specs.Prelude.{◌≡◌, ℕ, zero, suc, ◌+◌, ◌*◌, ◌/◌, ◌%◌, ◌<◌, List, ◌++◌, drop, Option, Some, None}
-use Rattle.std.specs.Int.{w32, w64, to_be_bytes, from_be_bytes}
+use Rattle.std.specs.Prelude.{◌≡◌, ℕ, zero, suc, ◌+◌, ◌*◌, ◌/◌, ◌%◌, ◌<◌, List, ◌++◌, Option, Some, None}
+use Rattle.std.specs.Int.{w32, w64, to_be_bytes}
 use Rattle.std.proofs.Common.{arith, refl, sym}
-use Rattle.std.proofs.lemmas.Nat.{from_be_bytes-to_be_bytes_4, from_be_bytes-to_be_bytes_8}
 use Rattle.bmp_specs.specs.declared.wire.Family.{Family}
-use Rattle.bmp_specs.specs.declared.wire.Family.TheVariants.{V4, V6}
-use Rattle.bmp_specs.specs.Address.{IsAddressPrefix}
+use Rattle.bmp_specs.specs.Address.{IsAddress, IsAddressPrefix}
 use Rattle.bmp_specs.specs.Prefix.{padded}
 use Rattle.bmp_specs.specs.Values.{NlriValue}
 
@@ -14,8 +12,12 @@ unfoldable pub octets4 : ℕ → List ℕ
 octets4 address = padded (to_be_bytes w32 address)
 
 -- the bytes of the IPv6 address whose halves are these numbers
-unfoldable pub octets6 : ℕ → ℕ → List ℕ
-octets6 high low = to_be_bytes w64 high ++ to_be_bytes w64 low
+unfoldable pub octets6 : ℕ × ℕ → List ℕ
+octets6 halves = to_be_bytes w64 halves.0 ++ to_be_bytes w64 halves.1
+
+-- the bytes are those of an address of this family
+abbrev pub AreOctets : Family → List ℕ → Type 0
+AreOctets family octets = IsAddress (record { family = family; octets = octets })
 
 -- the path identifier, where the mark isn't zero
 abbrev pub id_at : ℕ → ℕ → Option ℕ
@@ -38,27 +40,11 @@ id_of (Some id) = id
 abbrev pub bits_of : NlriValue → ℕ
 bits_of n = n.prefix.bits * 2 + mark_of n.id
 
-abbrev pub address_of : NlriValue → ℕ
-address_of n = from_be_bytes w32 n.prefix.address.octets
-
-abbrev pub high_of : NlriValue → ℕ
-high_of n = from_be_bytes w64 n.prefix.address.octets
-
-abbrev pub low_of : NlriValue → ℕ
-low_of n = from_be_bytes w64 (drop 8 n.prefix.address.octets)
-
--- the numbers are those of an NLRI of IPv4
-pub record IsKey4 (address bits id : ℕ) : Type 0 where
-  pub prefix : IsAddressPrefix (nlri_of V4 (octets4 address) bits id).prefix
-  pub address_fits : address < 4294967296
-  pub id_fits : id < 4294967296
-  pub no_id : bits % 2 ≡ 0 → id ≡ 0
-
--- the numbers are those of an NLRI of IPv6
-pub record IsKey6 (high low bits id : ℕ) : Type 0 where
-  pub prefix : IsAddressPrefix (nlri_of V6 (octets6 high low) bits id).prefix
-  pub high_fits : high < 18446744073709551616
-  pub low_fits : low < 18446744073709551616
+-- the numbers are those of an NLRI of this family
+pub record IsKey {N : Type 0} (family : Family) (octets : N → List ℕ) (number : List ℕ → N) (address : N) (bits id : ℕ) : Type 0 where
+  pub prefix : IsAddressPrefix (nlri_of family (octets address) bits id).prefix
+  pub bits_fit : bits / 2 < 256
+  pub address_back : number (octets address) ≡ address
   pub id_fits : id < 4294967296
   pub no_id : bits % 2 ≡ 0 → id ≡ 0
 
@@ -76,15 +62,3 @@ id_back bits id none = by (bits % 2) none
     by : (r : ℕ) → (r ≡ 0 → id ≡ 0) → id_of (id_at r id) ≡ id
     by zero none = sym (none refl)
     by (suc r) none = refl
-
-pub address_back : (address : ℕ) → address < 4294967296 → from_be_bytes w32 (octets4 address) ≡ address
-unfolding octets4
-address_back address fits = from_be_bytes-to_be_bytes_4 address fits
-
-pub high_back : (high low : ℕ) → high < 18446744073709551616 → from_be_bytes w64 (octets6 high low) ≡ high
-unfolding octets6
-high_back high low fits = from_be_bytes-to_be_bytes_8 high fits
-
-pub low_back : (high low : ℕ) → low < 18446744073709551616 → from_be_bytes w64 (drop 8 (octets6 high low)) ≡ low
-unfolding octets6
-low_back high low fits = from_be_bytes-to_be_bytes_8 low fits

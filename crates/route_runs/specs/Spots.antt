@@ -16,7 +16,10 @@ use Rattle.bmp_specs.specs.Prefix.{padded}
 use Rattle.bmp_specs.specs.Values.{NlriValue}
 use Rattle.ip_prefix.proofs.OctetsOrder.{by_front}
 use Rattle.route_runs.specs.Nlri.{IsNlriOf}
-use Rattle.route_runs.specs.NumberKeys.{address_of, high_of}
+
+-- the octets of an IPv4 address as one number
+abbrev address_of : NlriValue → ℕ
+address_of n = from_be_bytes w32 n.prefix.address.octets
 
 less_than : (a b : ℕ) → nat_cmp a b ≡ Less → a < b
 less_than a b e = by (nat_cmp a b) e (ranks a b)
@@ -33,7 +36,7 @@ first_octets x y same less =
     λ i. ordering_then (ordering_then (ordering_then (tied i) (less i)) (nat_cmp x.prefix.bits y.prefix.bits)) (option_cmp nat_cmp x.id y.id)
 
 -- the first eight octets as one number
-front_word : (os : List ℕ) → 8 ≤ length os → from_be_bytes w64 os ≡ big_endian 0 (take 8 os)
+pub front_word : (os : List ℕ) → 8 ≤ length os → from_be_bytes w64 os ≡ big_endian 0 (take 8 os)
 front_word [] many = absurd (omega arith)
 front_word (a ∷ []) many = absurd (omega arith)
 front_word (a ∷ b ∷ []) many = absurd (omega arith)
@@ -45,7 +48,7 @@ front_word (a ∷ b ∷ c ∷ d ∷ e ∷ f ∷ g ∷ []) many = absurd (omega a
 front_word (a ∷ b ∷ c ∷ d ∷ e ∷ f ∷ g ∷ h ∷ os) many = omega arith
 
 -- the octets of an IPv4 address as one number, before four zeros
-front_half : (os : List ℕ) → 8 ≤ length os → FitsFamily V4 os → from_be_bytes w32 os * 4294967296 ≡ big_endian 0 (take 8 os)
+pub front_half : (os : List ℕ) → 8 ≤ length os → FitsFamily V4 os → from_be_bytes w32 os * 4294967296 ≡ big_endian 0 (take 8 os)
 front_half [] many used = absurd (omega arith)
 front_half (a ∷ []) many used = absurd (omega arith)
 front_half (a ∷ b ∷ []) many used = absurd (omega arith)
@@ -62,23 +65,27 @@ front_half (a ∷ b ∷ c ∷ d ∷ e ∷ f ∷ g ∷ h ∷ os) many used =
     let s : h ≡ 0 = at 7 in
     omega (arith, p, q, r, s)
 
-pub spots6_rise : (x y : NlriValue) → IsNlriOf V6 x → IsNlriOf V6 y → nat_cmp (high_of x) (high_of y) ≡ Less → nlri_cmp x y ≡ Less
+-- the upper half of an IPv6 address
+abbrev pub spot6_of : NlriValue → ℕ
+spot6_of n = from_be_bytes w64 n.prefix.address.octets
+
+pub spots6_rise : (x y : NlriValue) → IsNlriOf V6 x → IsNlriOf V6 y → nat_cmp (spot6_of x) (spot6_of y) ≡ Less → nlri_cmp x y ≡ Less
 spots6_rise x y p q e =
-    let less : high_of x < high_of y = less_than (high_of x) (high_of y) e in
+    let less : spot6_of x < spot6_of y = less_than (spot6_of x) (spot6_of y) e in
     let os = x.prefix.address.octets in
     let ts = y.prefix.address.octets in
     let a = p.nlri.prefix.address in
     let b = q.nlri.prefix.address in
     first_octets x y (p.family ∙ sym q.family)
-    (sym (by_front os ts a.len b.len a.bytes b.bytes (high_of x) (high_of y) (front_word os (omega (arith, a.len))) (front_word ts (omega (arith, b.len))) (λ s. omega (arith, less, s))) ∙ e)
+    (sym (by_front os ts a.len b.len a.bytes b.bytes (spot6_of x) (spot6_of y) (front_word os (omega (arith, a.len))) (front_word ts (omega (arith, b.len))) (λ s. omega (arith, less, s))) ∙ e)
 
--- the first 20 bits of an address
+-- the first 20 bits of an IPv4 address
 abbrev pub spot4_of : NlriValue → ℕ
 spot4_of n = address_of n / 4096
 
 pub spots4_rise : (x y : NlriValue) → IsNlriOf V4 x → IsNlriOf V4 y → nat_cmp (spot4_of x) (spot4_of y) ≡ Less → nlri_cmp x y ≡ Less
 spots4_rise x y p q e =
-    let part : spot4_of x < spot4_of y = less_than (spot4_of x) (spot4_of y) e in
+    let part : spot4_of x < spot4_of y = less_than _ _ e in
     let less : address_of x < address_of y = omega (arith, part) in
     let os = x.prefix.address.octets in
     let ts = y.prefix.address.octets in

@@ -3,17 +3,16 @@ ghost use Rattle.std.specs.Arc.{arc_value};
 ghost use Rattle.std.specs.List.{All};
 ghost use Rattle.std.specs.Option.{option_map};
 ghost use Rattle.bmp_specs.specs.Orders.{nlri_cmp};
-ghost use Rattle.bmp_specs.specs.declared.wire.Family.TheVariants.{V4, V6};
 ghost use Rattle.route_runs.specs.Layers.{AreChangedTo};
 ghost use Rattle.route_runs.specs.Nlri.{of_family, AreHalves, AreKeys, IsNlri, IsNlriOf};
 ghost use Rattle.route_runs.specs.Runs.{shared};
 
-use crate::key4::Key4;
-use crate::key6::Key6;
+use crate::key_address::KeyAddress;
 use crate::listed::Listed;
 use crate::listed_nlri::has_family;
+use crate::nlri_key::{Key4, Key6, NlriKey};
 use crate::see::see_all;
-use ip_prefix::{Family, Nlri};
+use ip_prefix::Nlri;
 use path_attrs::Attrs;
 use rib_model::Route;
 use std::alloc::Global;
@@ -27,8 +26,8 @@ use wire_io::NoMemory;
 #[derive(Drop)]
 pub struct Changes {
     alloc: Global,
-    pub(crate) low: Listed<Key4, Attrs>,
-    pub(crate) high: Listed<Key6, Attrs>,
+    pub(crate) ipv4: Listed<Key4, Attrs>,
+    pub(crate) ipv6: Listed<Key6, Attrs>,
 }
 
 impl Model for Changes {
@@ -38,9 +37,9 @@ impl Model for Changes {
 
     ghost Value = { List (NlriValue × Option AttrsValue) };
 
-    ghost view = { λ c. c.low ++ c.high };
+    ghost view = { λ c. c.ipv4 ++ c.ipv6 };
 
-    ghost invariant = { λ c. AreHalves c.low c.high };
+    ghost invariant = { λ c. AreHalves c.ipv4 c.ipv6 };
 }
 
 impl Changes {
@@ -50,8 +49,8 @@ impl Changes {
     {
         Changes {
             alloc,
-            low: Listed::new(alloc),
-            high: Listed::new(alloc),
+            ipv4: Listed::new(alloc),
+            ipv6: Listed::new(alloc),
         }
     }
 
@@ -79,11 +78,11 @@ impl Changes {
         ensures err { OnErr result (self.new ≡ []) }
     {
         see_all(nlri);
-        match change_both(self.alloc, &mut self.low, &mut self.high, nlri, to) {
+        match change_both(self.alloc, &mut self.ipv4, &mut self.ipv6, nlri, to) {
             Ok(_) => Ok(()),
             Err(_) => {
-                self.low = Listed::new(self.alloc);
-                self.high = Listed::new(self.alloc);
+                self.ipv4 = Listed::new(self.alloc);
+                self.ipv6 = Listed::new(self.alloc);
                 Err(NoMemory)
             }
         }
@@ -93,62 +92,40 @@ impl Changes {
 // Changes each of these NLRI in the half of its family.
 fn change_both(
     alloc: Global,
-    low: &mut Listed<Key4, Attrs>,
-    high: &mut Listed<Key6, Attrs>,
+    ipv4: &mut Listed<Key4, Attrs>,
+    ipv6: &mut Listed<Key6, Attrs>,
     nlri: &[Nlri],
     to: Option<&Route>,
 ) -> Result<(), NoMemory>
     requires nlri { All IsNlri nlri.now }
-    requires halves { AreHalves low.old high.old }
-    ensures halves { OnOk result (AreHalves low.new high.new) }
-    ensures changed { OnOk result (AreChangedTo nlri_cmp nlri.now (option_map shared to.entry) (low.old ++ high.old) (low.new ++ high.new)) }
+    requires halves { AreHalves ipv4.old ipv6.old }
+    ensures halves { OnOk result (AreHalves ipv4.new ipv6.new) }
+    ensures changed { OnOk result (AreChangedTo nlri_cmp nlri.now (option_map shared to.entry) (ipv4.old ++ ipv6.old) (ipv4.new ++ ipv6.new)) }
 {
-    change4(alloc, low, nlri, to)?;
-    change6(alloc, high, nlri, to)?;
+    change_half(alloc, ipv4, nlri, to)?;
+    change_half(alloc, ipv6, nlri, to)?;
     Ok(())
 }
 
-// Changes the NLRI of IPv4.
-fn change4(
+// Changes the NLRI of one family.
+fn change_half<N: KeyAddress>(
     alloc: Global,
-    low: &mut Listed<Key4, Attrs>,
+    half: &mut Listed<NlriKey<N>, Attrs>,
     nlri: &[Nlri],
     to: Option<&Route>,
 ) -> Result<(), NoMemory>
     requires nlri { All IsNlri nlri.now }
-    requires keys { AreKeys (IsNlriOf V4) low.old }
-    ensures keys { OnOk result (AreKeys (IsNlriOf V4) low.new) }
-    ensures changed { OnOk result (AreChangedTo nlri_cmp (of_family V4 nlri.now) (option_map shared to.entry) low.old low.new) }
+    requires keys { AreKeys (IsNlriOf N.family) half.old }
+    ensures keys { OnOk result (AreKeys (IsNlriOf N.family) half.new) }
+    ensures changed { OnOk result (AreChangedTo nlri_cmp (of_family N.family nlri.now) (option_map shared to.entry) half.old half.new) }
 {
-    if !has_family(nlri, Family::V4) {
-        low.see_order();
+    if !has_family(nlri, N::its_family()) {
+        half.see_order();
         return Ok(());
     }
     let set = share(to)?;
-    let taken = std::mem::replace(low, Listed::new(alloc));
-    *low = taken.add4(alloc, nlri, set)?;
-    Ok(())
-}
-
-// Changes the NLRI of IPv6.
-fn change6(
-    alloc: Global,
-    high: &mut Listed<Key6, Attrs>,
-    nlri: &[Nlri],
-    to: Option<&Route>,
-) -> Result<(), NoMemory>
-    requires nlri { All IsNlri nlri.now }
-    requires keys { AreKeys (IsNlriOf V6) high.old }
-    ensures keys { OnOk result (AreKeys (IsNlriOf V6) high.new) }
-    ensures changed { OnOk result (AreChangedTo nlri_cmp (of_family V6 nlri.now) (option_map shared to.entry) high.old high.new) }
-{
-    if !has_family(nlri, Family::V6) {
-        high.see_order();
-        return Ok(());
-    }
-    let set = share(to)?;
-    let taken = std::mem::replace(high, Listed::new(alloc));
-    *high = taken.add6(alloc, nlri, set)?;
+    let taken = std::mem::replace(half, Listed::new(alloc));
+    *half = taken.add(alloc, nlri, set)?;
     Ok(())
 }
 

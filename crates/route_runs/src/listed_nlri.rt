@@ -3,13 +3,13 @@ ghost use Rattle.std.specs.Arc.{arc_value};
 ghost use Rattle.std.specs.Option.{option_map};
 ghost use Rattle.bmp_specs.specs.Orders.{nlri_cmp};
 ghost use Rattle.bmp_specs.specs.Values.{NlriValue};
-ghost use Rattle.bmp_specs.specs.declared.wire.Family.TheVariants.{V4, V6};
+ghost use Rattle.bmp_specs.specs.declared.wire.Family.TheVariants.{V4};
 ghost use Rattle.route_runs.specs.Layers.{all_to, IsLayered};
 ghost use Rattle.route_runs.specs.Nlri.{is_family, is_same, of_family};
 
-use crate::key4::Key4;
-use crate::key6::Key6;
+use crate::key_address::KeyAddress;
 use crate::listed::Listed;
+use crate::nlri_key::NlriKey;
 use crate::table_cursor::family_of;
 use crate::tidy::added;
 use ip_prefix::{Family, Nlri};
@@ -59,64 +59,36 @@ fn list_one<K: Copy>(rows: &mut Vec<(K, u32)>, key: K, handle: u32) -> Result<()
     }
 }
 
-// Lists the NLRI of IPv4 with one handle.
-fn list4(rows: &mut Vec<(Key4, u32)>, nlris: &[Nlri], handle: u32) -> Result<(), NoMemory>
-    ensures { OnOk result (rows.new.items ≡ rows.old.items ++ map (λ (n : NlriValue). (n, handle)) (of_family V4 nlris.now)) }
+// Lists the NLRI of one family with one handle.
+fn list<N: KeyAddress>(
+    rows: &mut Vec<(NlriKey<N>, u32)>,
+    nlris: &[Nlri],
+    handle: u32,
+) -> Result<(), NoMemory>
+    ensures { OnOk result (rows.new.items ≡ rows.old.items ++ map (λ (n : NlriValue). (n, handle)) (of_family N.family nlris.now)) }
 {
     for nlri in nlris {
-        match family_of(nlri) {
-            Family::V4 => list_one(rows, Key4::of(nlri), handle)?,
-            Family::V6 => (),
+        if is_of(nlri, N::its_family()) {
+            list_one(rows, NlriKey::of(nlri), handle)?;
         }
     }
     Ok(())
 }
 
-// Lists the NLRI of IPv6 with one handle.
-fn list6(rows: &mut Vec<(Key6, u32)>, nlris: &[Nlri], handle: u32) -> Result<(), NoMemory>
-    ensures { OnOk result (rows.new.items ≡ rows.old.items ++ map (λ (n : NlriValue). (n, handle)) (of_family V6 nlris.now)) }
-{
-    for nlri in nlris {
-        match family_of(nlri) {
-            Family::V4 => (),
-            Family::V6 => list_one(rows, Key6::of(nlri), handle)?,
-        }
-    }
-    Ok(())
-}
-
-impl<A: Drop> Listed<Key4, A> {
-    /// The changes, and after them those of one message: each of its NLRI of IPv4 has the one set, or is gone.
-    pub(crate) fn add4(
+impl<N: KeyAddress, A: Drop> Listed<NlriKey<N>, A> {
+    /// The changes, and after them those of one message: each of its NLRI of this family has the one set, or is gone.
+    pub(crate) fn add(
         self,
         alloc: Global,
         nlris: &[Nlri],
         set: Option<Arc<A>>,
-    ) -> Result<Listed<Key4, A>, NoMemory>
-        ensures { IfOk result (λ new. IsLayered nlri_cmp self (all_to (of_family V4 nlris.now) (option_map arc_value set)) new) }
+    ) -> Result<Listed<NlriKey<N>, A>, NoMemory>
+        ensures { IfOk result (λ new. IsLayered nlri_cmp self (all_to (of_family N.family nlris.now) (option_map arc_value set)) new) }
     {
         let mut rows = self.rows;
         let mut sets = self.sets;
         let handle = added(&mut sets, alloc, set)?;
-        list4(&mut rows, nlris, handle)?;
-        Ok(Listed { rows, sets })
-    }
-}
-
-impl<A: Drop> Listed<Key6, A> {
-    /// The changes, and after them those of one message: each of its NLRI of IPv6 has the one set, or is gone.
-    pub(crate) fn add6(
-        self,
-        alloc: Global,
-        nlris: &[Nlri],
-        set: Option<Arc<A>>,
-    ) -> Result<Listed<Key6, A>, NoMemory>
-        ensures { IfOk result (λ new. IsLayered nlri_cmp self (all_to (of_family V6 nlris.now) (option_map arc_value set)) new) }
-    {
-        let mut rows = self.rows;
-        let mut sets = self.sets;
-        let handle = added(&mut sets, alloc, set)?;
-        list6(&mut rows, nlris, handle)?;
+        list(&mut rows, nlris, handle)?;
         Ok(Listed { rows, sets })
     }
 }

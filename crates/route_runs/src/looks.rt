@@ -6,10 +6,9 @@ ghost use Rattle.route_runs.specs.Nlri.{AreNlri, AreHalves};
 ghost use Rattle.route_runs.specs.Override.{value_at};
 ghost use Rattle.route_runs.specs.Places.{shown, turned, is_after, is_from, IsFirst};
 
-use crate::key4::Key4;
-use crate::key6::Key6;
+use crate::nlri_key::{Key4, Key6};
 use crate::runs::Runs;
-use crate::table_cursor::{family_of, pair4, pair6};
+use crate::table_cursor::{family_of, pair};
 use ip_prefix::{Family, Nlri, Prefix};
 use path_attrs::Attrs;
 use prefix_trie::Steps;
@@ -22,8 +21,8 @@ use std::sync::ledger::Ledger;
 /// first.
 #[derive(Drop)]
 pub(crate) struct Looks<'a> {
-    low: &'a Runs<Key4, Attrs>,
-    high: &'a Runs<Key6, Attrs>,
+    ipv4: &'a Runs<Key4, Attrs>,
+    ipv6: &'a Runs<Key6, Attrs>,
 }
 
 impl<'a> Model for Looks<'a> {
@@ -33,9 +32,9 @@ impl<'a> Model for Looks<'a> {
 
     ghost Value = { List (NlriValue × AttrsValue) };
 
-    ghost view = { λ l. l.low.now ++ l.high.now };
+    ghost view = { λ l. l.ipv4.now ++ l.ipv6.now };
 
-    ghost invariant = { λ l. AreHalves l.low.now l.high.now };
+    ghost invariant = { λ l. AreHalves l.ipv4.now l.ipv6.now };
 }
 
 // The prefix of a row.
@@ -49,41 +48,41 @@ fn prefix_of(found: &Option<(Nlri, &Route)>) -> Option<Prefix>
 }
 
 // The pair of IPv6 that was found, or else the last one of IPv4.
-fn or_last_of_low<'a>(
+fn or_last_of_ipv4<'a>(
     found: &Option<(Key6, &'a Route)>,
-    low: &'a Runs<Key4, Attrs>,
+    ipv4: &'a Runs<Key4, Attrs>,
 ) -> Option<(Nlri, &'a Route)>
     ensures some { is_some found.now ≡ true → option_map shown result ≡ option_map shown found.now }
-    ensures none { is_some found.now ≡ false → IsFirst (turned nlri_cmp) (is_after (turned nlri_cmp) None) (λ q. value_at nlri_cmp q low.now) (option_map shown result) }
+    ensures none { is_some found.now ≡ false → IsFirst (turned nlri_cmp) (is_after (turned nlri_cmp) None) (λ q. value_at nlri_cmp q ipv4.now) (option_map shown result) }
 {
     if found.is_some() {
-        return pair6(found);
+        return pair(found);
     }
-    pair4(&low.last())
+    pair(&ipv4.last())
 }
 
 // The pair of an NLRI, or the last one of both families before it.
 fn last_in_both<'a>(
-    low: &'a Runs<Key4, Attrs>,
-    high: &'a Runs<Key6, Attrs>,
+    ipv4: &'a Runs<Key4, Attrs>,
+    ipv6: &'a Runs<Key6, Attrs>,
     nlri: &Nlri,
 ) -> Option<(Nlri, &'a Route)>
-    requires { AreHalves low.now high.now }
-    ensures { IsFirst (turned nlri_cmp) (is_from (turned nlri_cmp) nlri.now) (λ q. value_at nlri_cmp q (low.now ++ high.now)) (option_map shown result) }
+    requires { AreHalves ipv4.now ipv6.now }
+    ensures { IsFirst (turned nlri_cmp) (is_from (turned nlri_cmp) nlri.now) (λ q. value_at nlri_cmp q (ipv4.now ++ ipv6.now)) (option_map shown result) }
 {
     match family_of(nlri) {
-        Family::V4 => pair4(&low.at_or_before(&Key4::of(nlri))),
-        Family::V6 => or_last_of_low(&high.at_or_before(&Key6::of(nlri)), low),
+        Family::V4 => pair(&ipv4.at_or_before(&Key4::of(nlri))),
+        Family::V6 => or_last_of_ipv4(&ipv6.at_or_before(&Key6::of(nlri)), ipv4),
     }
 }
 
 impl<'a> Looks<'a> {
     /// The looks at a table of two families.
-    pub(crate) fn new(low: &'a Runs<Key4, Attrs>, high: &'a Runs<Key6, Attrs>) -> Looks<'a>
-        requires { AreHalves low.now high.now }
-        ensures { result ≡ low.now ++ high.now }
+    pub(crate) fn new(ipv4: &'a Runs<Key4, Attrs>, ipv6: &'a Runs<Key6, Attrs>) -> Looks<'a>
+        requires { AreHalves ipv4.now ipv6.now }
+        ensures { result ≡ ipv4.now ++ ipv6.now }
     {
-        Looks { low, high }
+        Looks { ipv4, ipv6 }
     }
 
     /// The last prefix at a place or before it, for one step.
@@ -101,7 +100,7 @@ impl<'a> Looks<'a> {
             prefix: *place,
             id: Some(u32::MAX),
         };
-        let found = last_in_both(self.low, self.high, &last);
+        let found = last_in_both(self.ipv4, self.ipv6, &last);
         prefix_of(&found)
     }
 }

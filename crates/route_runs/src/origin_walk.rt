@@ -8,10 +8,9 @@ ghost use Rattle.route_runs.specs.Origins.{least_nlri, least_high, passes, with_
 ghost use Rattle.route_runs.specs.Override.{value_at};
 ghost use Rattle.route_runs.specs.Places.{shown, IsFirst};
 
-use crate::key4::Key4;
-use crate::key6::Key6;
+use crate::nlri_key::{Key4, Key6};
 use crate::origin_cursor::OriginCursor;
-use crate::table_cursor::{family_of, pair4, pair6};
+use crate::table_cursor::{family_of, pair};
 use ip_prefix::{Addr, Family, Nlri, Prefix};
 use rib_model::Route;
 use std::marker::Model;
@@ -20,8 +19,8 @@ use std::marker::Model;
 /// that are left. It takes no memory.
 #[derive(Drop)]
 pub struct OriginWalk<'a> {
-    pub(crate) low: OriginCursor<'a, Key4>,
-    pub(crate) high: OriginCursor<'a, Key6>,
+    pub(crate) ipv4: OriginCursor<'a, Key4>,
+    pub(crate) ipv6: OriginCursor<'a, Key6>,
     pub(crate) asn: u32,
     pub(crate) place: Nlri,
     pub(crate) at: bool,
@@ -37,9 +36,9 @@ impl<'a> Model for OriginWalk<'a> {
 
     ghost Value = { List (NlriValue × AttrsValue) };
 
-    ghost view = { λ w. left nlri_cmp (when w.at w.place) (record { pairs = with_origin w.asn (w.low ++ w.high); place = Some w.place }) };
+    ghost view = { λ w. left nlri_cmp (when w.at w.place) (record { pairs = with_origin w.asn (w.ipv4 ++ w.ipv6); place = Some w.place }) };
 
-    ghost invariant = { λ w. AreHalves w.low w.high };
+    ghost invariant = { λ w. AreHalves w.ipv4 w.ipv6 };
 }
 
 /// The first NLRI in their order.
@@ -53,7 +52,7 @@ pub(crate) fn least() -> Nlri
 }
 
 // The first key of IPv6.
-fn least_of_high() -> Key6
+fn least_of_ipv6() -> Key6
     ensures { result ≡ least_high }
 {
     let nlri = Nlri {
@@ -64,41 +63,41 @@ fn least_of_high() -> Key6
 }
 
 // The pair of IPv4 that was found, or else the first one of IPv6 with this origin.
-fn or_first_of_high<'a>(
+fn or_first_of_ipv6<'a>(
     found: &Option<(Key4, &'a Route)>,
-    high: &mut OriginCursor<'a, Key6>,
+    ipv6: &mut OriginCursor<'a, Key6>,
     asn: u32,
 ) -> Option<(Nlri, &'a Route)>
-    requires { AreKeys (IsNlriOf V6) high.old }
+    requires { AreKeys (IsNlriOf V6) ipv6.old }
     ensures some { is_some found.now ≡ true → option_map shown result ≡ option_map shown found.now }
-    ensures none { is_some found.now ≡ false → IsFirst nlri_cmp (λ q. true) (λ q. value_at nlri_cmp q (with_origin asn high.old)) (option_map shown result) }
-    ensures same { high.new ≡ high.old }
+    ensures none { is_some found.now ≡ false → IsFirst nlri_cmp (λ q. true) (λ q. value_at nlri_cmp q (with_origin asn ipv6.old)) (option_map shown result) }
+    ensures same { ipv6.new ≡ ipv6.old }
 {
-    high.see_order();
+    ipv6.see_order();
     if found.is_some() {
-        return pair4(found);
+        return pair(found);
     }
-    pair6(&high.first(asn, &least_of_high(), true))
+    pair(&ipv6.first(asn, &least_of_ipv6(), true))
 }
 
 // The first pair of both families with this origin: after a place, or from it on.
 fn first_in_both<'a>(
-    low: &mut OriginCursor<'a, Key4>,
-    high: &mut OriginCursor<'a, Key6>,
+    ipv4: &mut OriginCursor<'a, Key4>,
+    ipv6: &mut OriginCursor<'a, Key6>,
     asn: u32,
     place: &Nlri,
     at: bool,
 ) -> Option<(Nlri, &'a Route)>
-    requires { AreHalves low.old high.old }
-    ensures first { IsFirst nlri_cmp (passes nlri_cmp at place.now) (λ q. value_at nlri_cmp q (with_origin asn (low.old ++ high.old))) (option_map shown result) }
-    ensures low { low.new ≡ low.old }
-    ensures high { high.new ≡ high.old }
+    requires { AreHalves ipv4.old ipv6.old }
+    ensures first { IsFirst nlri_cmp (passes nlri_cmp at place.now) (λ q. value_at nlri_cmp q (with_origin asn (ipv4.old ++ ipv6.old))) (option_map shown result) }
+    ensures ipv4 { ipv4.new ≡ ipv4.old }
+    ensures ipv6 { ipv6.new ≡ ipv6.old }
 {
-    low.see_order();
-    high.see_order();
+    ipv4.see_order();
+    ipv6.see_order();
     match family_of(place) {
-        Family::V4 => or_first_of_high(&low.first(asn, &Key4::of(place), at), high, asn),
-        Family::V6 => pair6(&high.first(asn, &Key6::of(place), at)),
+        Family::V4 => or_first_of_ipv6(&ipv4.first(asn, &Key4::of(place), at), ipv6, asn),
+        Family::V6 => pair(&ipv6.first(asn, &Key6::of(place), at)),
     }
 }
 
@@ -118,10 +117,10 @@ impl<'a> OriginWalk<'a> {
         ensures next { self.old ≡ option_to_list (option_map shown result) ++ self.new }
         ensures none { IsNone result ↔ (self.old ≡ []) }
     {
-        self.low.see_order();
-        self.high.see_order();
+        self.ipv4.see_order();
+        self.ipv6.see_order();
         let place = self.place;
-        let found = first_in_both(&mut self.low, &mut self.high, self.asn, &place, self.at);
+        let found = first_in_both(&mut self.ipv4, &mut self.ipv6, self.asn, &place, self.at);
         let last = place_after(place, &found);
         self.at = false;
         self.place = last;

@@ -16,11 +16,10 @@ ghost use Rattle.route_runs.specs.Walk.{left, pairs_from};
 
 use crate::changes::Changes;
 use crate::family::FamilyTable;
-use crate::key4::Key4;
-use crate::key6::Key6;
 use crate::listed::Listed;
 use crate::longest::longest_by_looks;
 use crate::looks::Looks;
+use crate::nlri_key::{Key4, Key6};
 use crate::origin_walk::{OriginWalk, least};
 use crate::sets::{SetTest, all_pass};
 use crate::table_cursor::{TableCursor, family_of};
@@ -38,8 +37,8 @@ use wire_io::NoMemory;
 #[derive(Drop)]
 pub struct RouteTable {
     alloc: Global,
-    low: FamilyTable<Key4>,
-    high: FamilyTable<Key6>,
+    ipv4: FamilyTable<Key4>,
+    ipv6: FamilyTable<Key6>,
 }
 
 impl Model for RouteTable {
@@ -49,9 +48,9 @@ impl Model for RouteTable {
 
     ghost Value = { List (NlriValue × AttrsValue) };
 
-    ghost view = { λ t. t.low ++ t.high };
+    ghost view = { λ t. t.ipv4 ++ t.ipv6 };
 
-    ghost invariant = { λ t. AreHalves t.low t.high };
+    ghost invariant = { λ t. AreHalves t.ipv4 t.ipv6 };
 }
 
 impl RouteTable {
@@ -61,8 +60,8 @@ impl RouteTable {
     {
         RouteTable {
             alloc,
-            low: FamilyTable::new(alloc),
-            high: FamilyTable::new(alloc),
+            ipv4: FamilyTable::new(alloc),
+            ipv6: FamilyTable::new(alloc),
         }
     }
 
@@ -72,14 +71,14 @@ impl RouteTable {
         ensures table { IfOk result (IsChanged nlri_cmp self.now changes.old) }
         ensures emptied { changes.new ≡ [] }
     {
-        let low = std::mem::replace(&mut changes.low, Listed::new(self.alloc));
-        let high = std::mem::replace(&mut changes.high, Listed::new(self.alloc));
-        let low = self.low.with(self.alloc, low)?;
-        let high = self.high.with(self.alloc, high)?;
+        let ipv4 = std::mem::replace(&mut changes.ipv4, Listed::new(self.alloc));
+        let ipv6 = std::mem::replace(&mut changes.ipv6, Listed::new(self.alloc));
+        let ipv4 = self.ipv4.with(self.alloc, ipv4)?;
+        let ipv6 = self.ipv6.with(self.alloc, ipv6)?;
         Ok(RouteTable {
             alloc: self.alloc,
-            low,
-            high,
+            ipv4,
+            ipv6,
         })
     }
 
@@ -89,8 +88,8 @@ impl RouteTable {
         ensures ordered { IsStrictlySortedBy nlri_cmp (keys_of self.now) }
         ensures nlri { AreNlri self.now }
     {
-        self.low.see_order();
-        self.high.see_order();
+        self.ipv4.see_order();
+        self.ipv6.see_order();
     }
 
     /// The route of this NLRI.
@@ -98,8 +97,8 @@ impl RouteTable {
         ensures { option_map shared result ≡ value_at nlri_cmp nlri.now self.now }
     {
         match family_of(nlri) {
-            Family::V4 => self.low.get(&Key4::of(nlri)),
-            Family::V6 => self.high.get(&Key6::of(nlri)),
+            Family::V4 => self.ipv4.get(&Key4::of(nlri)),
+            Family::V6 => self.ipv6.get(&Key6::of(nlri)),
         }
     }
 
@@ -111,7 +110,7 @@ impl RouteTable {
         ensures cost { steps.new ≤ steps.old + width_of addr.now.family + 1 }
     {
         self.see_order();
-        longest_by_looks(&Looks::new(self.low.rows(), self.high.rows()), addr, steps)
+        longest_by_looks(&Looks::new(self.ipv4.rows(), self.ipv6.rows()), addr, steps)
     }
 
     /// The routes from a place on, in the order of NLRI. It takes no memory.
@@ -150,8 +149,8 @@ impl RouteTable {
         ensures { result ≡ record { pairs = self.now; place = place } }
     {
         TableCursor {
-            low: self.low.rows().cursor(None),
-            high: self.high.rows().cursor(None),
+            ipv4: self.ipv4.rows().cursor(None),
+            ipv6: self.ipv6.rows().cursor(None),
             place,
         }
     }
@@ -175,8 +174,8 @@ impl RouteTable {
     {
         self.see_order();
         OriginWalk {
-            low: self.low.origins(),
-            high: self.high.origins(),
+            ipv4: self.ipv4.origins(),
+            ipv6: self.ipv6.origins(),
             asn,
             place,
             at,
@@ -188,7 +187,7 @@ impl RouteTable {
     pub fn count(&self) -> u64
         ensures { result ≡ min (length self.now) 18446744073709551615 }
     {
-        self.low.count().saturating_add(self.high.count())
+        self.ipv4.count().saturating_add(self.ipv6.count())
     }
 
     /// Whether it is known at once that each route passes a test: the IPv4 ones have a path identifier where `low` is so and
@@ -198,7 +197,7 @@ impl RouteTable {
     pub fn all_pass<T: SetTest>(&self, low: bool, high: bool) -> bool
         ensures { IsTrue result → AllByRecursion (RoutePasses low high T.passes) self.now }
     {
-        all_pass::<Key4, T>(self.low.rows(), low) && all_pass::<Key6, T>(self.high.rows(), high)
+        all_pass::<Key4, T>(self.ipv4.rows(), low) && all_pass::<Key6, T>(self.ipv6.rows(), high)
     }
 
     /// Whether it is known at once that there is no route. A table whose last route is withdrawn may still have runs,
@@ -206,19 +205,19 @@ impl RouteTable {
     pub fn is_bare(&self) -> bool
         ensures { IsTrue result → self.now ≡ [] }
     {
-        self.low.is_bare() && self.high.is_bare()
+        self.ipv4.is_bare() && self.ipv6.is_bare()
     }
 
     /// An equal table, for the price of a counter for each run.
     pub fn share(&self) -> Result<RouteTable, NoMemory>
         ensures { IfOk result (λ copy. copy ≡ self.now) }
     {
-        let low = self.low.share(self.alloc)?;
-        let high = self.high.share(self.alloc)?;
+        let ipv4 = self.ipv4.share(self.alloc)?;
+        let ipv6 = self.ipv6.share(self.alloc)?;
         Ok(RouteTable {
             alloc: self.alloc,
-            low,
-            high,
+            ipv4,
+            ipv6,
         })
     }
 }

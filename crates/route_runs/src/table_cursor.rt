@@ -9,8 +9,8 @@ ghost use Rattle.route_runs.specs.Override.{value_at};
 ghost use Rattle.route_runs.specs.Places.{shown, is_after, is_from, IsFirst};
 
 use crate::cursor::Cursor;
-use crate::key4::Key4;
-use crate::key6::Key6;
+use crate::key_address::KeyAddress;
+use crate::nlri_key::{Key4, Key6, NlriKey};
 use ip_prefix::{Family, Nlri};
 use path_attrs::Attrs;
 use rib_model::Route;
@@ -19,8 +19,8 @@ use std::marker::Model;
 /// A walk over the pairs of both families, those of IPv4 first.
 #[derive(Drop)]
 pub(crate) struct TableCursor<'a> {
-    pub(crate) low: Cursor<'a, Key4, Attrs>,
-    pub(crate) high: Cursor<'a, Key6, Attrs>,
+    pub(crate) ipv4: Cursor<'a, Key4, Attrs>,
+    pub(crate) ipv6: Cursor<'a, Key6, Attrs>,
     pub(crate) place: Option<Nlri>,
 }
 
@@ -32,9 +32,9 @@ impl<'a> Model for TableCursor<'a> {
 
     ghost Value = { Walking NlriValue AttrsValue };
 
-    ghost view = { λ w. record { pairs = w.low.pairs ++ w.high.pairs; place = w.place } };
+    ghost view = { λ w. record { pairs = w.ipv4.pairs ++ w.ipv6.pairs; place = w.place } };
 
-    ghost invariant = { λ w. AreHalves w.low.pairs w.high.pairs };
+    ghost invariant = { λ w. AreHalves w.ipv4.pairs w.ipv6.pairs };
 }
 
 // The family of an NLRI.
@@ -44,18 +44,10 @@ pub(crate) fn family_of(nlri: &Nlri) -> Family
     nlri.prefix.addr().family()
 }
 
-// A pair of IPv4.
-pub(crate) fn pair4<'a>(found: &Option<(Key4, &'a Route)>) -> Option<(Nlri, &'a Route)>
-    ensures { option_map shown result ≡ option_map shown found.now }
-{
-    match found {
-        Some((key, route)) => Some((key.nlri(), *route)),
-        None => None,
-    }
-}
-
-// A pair of IPv6.
-pub(crate) fn pair6<'a>(found: &Option<(Key6, &'a Route)>) -> Option<(Nlri, &'a Route)>
+// A pair of one family, with its NLRI.
+pub(crate) fn pair<'a, N: KeyAddress>(
+    found: &Option<(NlriKey<N>, &'a Route)>,
+) -> Option<(Nlri, &'a Route)>
     ensures { option_map shown result ≡ option_map shown found.now }
 {
     match found {
@@ -72,9 +64,9 @@ impl<'a> TableCursor<'a> {
         ensures pairs { self.new.pairs ≡ self.old.pairs }
         ensures ordered { IsStrictlySortedBy nlri_cmp (keys_of self.old.pairs) }
     {
-        self.low.see_order();
-        self.high.see_order();
-        let found = next_in_both(&mut self.low, &mut self.high, self.place);
+        self.ipv4.see_order();
+        self.ipv6.see_order();
+        let found = next_in_both(&mut self.ipv4, &mut self.ipv6, self.place);
         self.place = place_of_next(self.place, &found);
         found
     }
@@ -86,9 +78,9 @@ impl<'a> TableCursor<'a> {
         ensures pairs { self.new.pairs ≡ self.old.pairs }
         ensures ordered { IsStrictlySortedBy nlri_cmp (keys_of self.old.pairs) }
     {
-        self.low.see_order();
-        self.high.see_order();
-        let found = from_in_both(&mut self.low, &mut self.high, &nlri);
+        self.ipv4.see_order();
+        self.ipv6.see_order();
+        let found = from_in_both(&mut self.ipv4, &mut self.ipv6, &nlri);
         self.place = place_of_next(Some(nlri), &found);
         found
     }
@@ -105,53 +97,53 @@ fn place_of_next(place: Option<Nlri>, found: &Option<(Nlri, &Route)>) -> Option<
 }
 
 // The pair of IPv4 that was found, or else the first one of IPv6.
-pub(crate) fn or_first_of_high<'a>(
+pub(crate) fn or_first_of_ipv6<'a>(
     found: &Option<(Key4, &'a Route)>,
-    high: &mut Cursor<'a, Key6, Attrs>,
+    ipv6: &mut Cursor<'a, Key6, Attrs>,
 ) -> Option<(Nlri, &'a Route)>
     ensures some { is_some found.now ≡ true → option_map shown result ≡ option_map shown found.now }
-    ensures none { is_some found.now ≡ false → IsFirst nlri_cmp (is_after nlri_cmp None) (λ q. value_at nlri_cmp q high.old.pairs) (option_map shown result) }
-    ensures pairs { high.new.pairs ≡ high.old.pairs }
+    ensures none { is_some found.now ≡ false → IsFirst nlri_cmp (is_after nlri_cmp None) (λ q. value_at nlri_cmp q ipv6.old.pairs) (option_map shown result) }
+    ensures pairs { ipv6.new.pairs ≡ ipv6.old.pairs }
 {
     if found.is_some() {
-        return pair4(found);
+        return pair(found);
     }
-    pair6(&high.after(None))
+    pair(&ipv6.after(None))
 }
 
 // The first pair of both families after a place.
 fn next_in_both<'a>(
-    low: &mut Cursor<'a, Key4, Attrs>,
-    high: &mut Cursor<'a, Key6, Attrs>,
+    ipv4: &mut Cursor<'a, Key4, Attrs>,
+    ipv6: &mut Cursor<'a, Key6, Attrs>,
     place: Option<Nlri>,
 ) -> Option<(Nlri, &'a Route)>
-    requires { AreHalves low.old.pairs high.old.pairs }
-    ensures first { IsFirst nlri_cmp (is_after nlri_cmp place) (λ q. value_at nlri_cmp q (low.old.pairs ++ high.old.pairs)) (option_map shown result) }
-    ensures low { low.new.pairs ≡ low.old.pairs }
-    ensures high { high.new.pairs ≡ high.old.pairs }
+    requires { AreHalves ipv4.old.pairs ipv6.old.pairs }
+    ensures first { IsFirst nlri_cmp (is_after nlri_cmp place) (λ q. value_at nlri_cmp q (ipv4.old.pairs ++ ipv6.old.pairs)) (option_map shown result) }
+    ensures ipv4 { ipv4.new.pairs ≡ ipv4.old.pairs }
+    ensures ipv6 { ipv6.new.pairs ≡ ipv6.old.pairs }
 {
     let Some(nlri) = place else {
-        return or_first_of_high(&low.after(None), high);
+        return or_first_of_ipv6(&ipv4.after(None), ipv6);
     };
     match family_of(&nlri) {
-        Family::V4 => or_first_of_high(&low.after(Some(Key4::of(&nlri))), high),
-        Family::V6 => pair6(&high.after(Some(Key6::of(&nlri)))),
+        Family::V4 => or_first_of_ipv6(&ipv4.after(Some(Key4::of(&nlri))), ipv6),
+        Family::V6 => pair(&ipv6.after(Some(Key6::of(&nlri)))),
     }
 }
 
 // The pair of an NLRI, or the first one of both families after it.
 fn from_in_both<'a>(
-    low: &mut Cursor<'a, Key4, Attrs>,
-    high: &mut Cursor<'a, Key6, Attrs>,
+    ipv4: &mut Cursor<'a, Key4, Attrs>,
+    ipv6: &mut Cursor<'a, Key6, Attrs>,
     nlri: &Nlri,
 ) -> Option<(Nlri, &'a Route)>
-    requires { AreHalves low.old.pairs high.old.pairs }
-    ensures first { IsFirst nlri_cmp (is_from nlri_cmp nlri.now) (λ q. value_at nlri_cmp q (low.old.pairs ++ high.old.pairs)) (option_map shown result) }
-    ensures low { low.new.pairs ≡ low.old.pairs }
-    ensures high { high.new.pairs ≡ high.old.pairs }
+    requires { AreHalves ipv4.old.pairs ipv6.old.pairs }
+    ensures first { IsFirst nlri_cmp (is_from nlri_cmp nlri.now) (λ q. value_at nlri_cmp q (ipv4.old.pairs ++ ipv6.old.pairs)) (option_map shown result) }
+    ensures ipv4 { ipv4.new.pairs ≡ ipv4.old.pairs }
+    ensures ipv6 { ipv6.new.pairs ≡ ipv6.old.pairs }
 {
     match family_of(nlri) {
-        Family::V4 => or_first_of_high(&low.from(Key4::of(nlri)), high),
-        Family::V6 => pair6(&high.from(Key6::of(nlri))),
+        Family::V4 => or_first_of_ipv6(&ipv4.from(Key4::of(nlri)), ipv6),
+        Family::V6 => pair(&ipv6.from(Key6::of(nlri))),
     }
 }

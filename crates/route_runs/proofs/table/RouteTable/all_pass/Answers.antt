@@ -9,6 +9,6 @@ pub returns-then-all_pass : goal.returns-then-all_pass
 returns-then-all_pass g c = λ t.
     let P = g.T.SetTest.passes in
     subst (AllByRecursion (RoutePasses c.args.low c.args.high P)) c.self.view_is
-    (both_pass c.args.low c.args.high P c.self.inside.low c.self.inside.high c.self.invariant
+    (both_pass c.args.low c.args.high P c.self.inside.ipv4 c.self.inside.ipv6 c.self.invariant
     (subst (AllByRecursion (PairPasses (λ n. is_some n.id) c.args.low P)) c.rows.ensures (c.all_pass.ensures c.if-all_pass.true))
     (subst (AllByRecursion (PairPasses (λ n. is_some n.id) c.args.high P)) c.rows-then-all_pass.ensures (c.all_pass-then-all_pass.ensures t)))

@@ -6,4 +6,4 @@ use Rattle.route_runs.proofs.Halves.{rising_cat}
 use Rattle.route_runs.proofs.table_cursor.TableCursor.from.Goals as goal
 
 pub returns-clause-ordered : goal.returns-clause-ordered
-returns-clause-ordered c = subst (λ w. IsStrictlySortedBy nlri_cmp (keys_of w.pairs)) c.self.view_is (rising_cat c.self.inside.low.pairs c.self.inside.high.pairs c.self.invariant c.see_order.ensures c.see_order-2.ensures)
+returns-clause-ordered c = subst (λ w. IsStrictlySortedBy nlri_cmp (keys_of w.pairs)) c.self.view_is (rising_cat c.self.inside.ipv4.pairs c.self.inside.ipv6.pairs c.self.invariant c.see_order.ensures c.see_order-2.ensures)
