@@ -1,25 +1,59 @@
--- From the message that a body means to the entry that the run goes on with.
-use Rattle.std.proofs.Common.{◌≡◌, ℕ, ◌+◌, List, length, sym, ap, subst}
-use Rattle.bmp_specs.specs.MessageBody.{IsMessage, MessageType, OfType, ReadingState, message_type}
-use Rattle.bmp_specs.specs.MessageEffects.{IsMessageEntry}
-use Rattle.bmp_specs.specs.Values.{EffectValue, EntryValue, message}
-use Rattle.bmp_message.specs.Effects.{HasEffects, MeansNoEntry, MeansNothing}
+-- From what a message does by the RFCs to its entry, and back.
+use Rattle.std.proofs.Common.{◌≡◌, ℕ, ◌+◌, List, [], ◌∷◌, length, drop, Option, Some, None, refl, sym, ap, subst}
+use Rattle.std.specs.Prelude.{MatchOption}
+use Rattle.bmp_specs.specs.MessageBody.{HasPeer, MessageType, OfPeer, OfType, ReadingState, message_type}
+use Rattle.bmp_specs.specs.MessageEffects.{IsMessageEntry, effects_of}
+use Rattle.bmp_specs.specs.PeerHeader.{HeaderValue, header_size, key_of}
+use Rattle.bmp_specs.specs.Values.{EffectValue, KeyValue, MessageValue, initiation, termination, of_unknown_type, passed, message}
+use Rattle.bmp_message.specs.Effects.{HasEffects, MeansNoEntry, ReadsNothing}
+use Rattle.bmp_message.specs.PeerMeaning.{HasPeerBy, OfTypeBy, strict_peers}
+use Rattle.bmp_message.specs.Types.{message_type_of, type_in}
+use Rattle.bmp_message.specs.declared.types.MessageType.{MessageType as MessageTypeCode}
+use Rattle.bmp_message.specs.declared.types.MessageType.TheVariants as code
+use Rattle.bmp_message.proofs.Meanings.{of_peer_type}
 
--- what a message of this type means is what its number means
-pub of_type : (state next : ReadingState) (kind : ℕ) (body : List ℕ) (t : MessageType) (effects : List EffectValue) → t ≡ message_type kind → HasEffects (OfType t state body) effects next → HasEffects (IsMessage state kind body) effects next
-of_type state next kind body t effects is means = subst (λ (u : MessageType). HasEffects (OfType u state body) effects next) is means
+module _ (s : ReadingState) (body : List ℕ) where
+  -- a message with a Per-Peer Header
 
--- a message that is meant has an entry
-pub has_entry : (state next : ReadingState) (kind : ℕ) (body : List ℕ) (t : MessageType) (effects : List EffectValue) → t ≡ message_type kind → HasEffects (OfType t state body) effects next
-    → IsMessageEntry state kind body (message kind (6 + length body) effects) next
-has_entry state next kind body t effects is means =
-    let p = of_type state next kind body t effects is means in
-    record { value = p.value; means = p.means; entry_is = ap (λ (es : List EffectValue). message kind (6 + length body) es) p.effects_are }
+  meant_at : (found : Option KeyValue) (kind : MessageType) (h : HeaderValue) (rest : List ℕ) (effects : List EffectValue) (next : ReadingState)
+      → MatchOption found ((effects ≡ passed ∷ []) × (next ≡ s)) (λ key. HasEffects (OfPeer kind s h key rest) effects next)
+      → HasEffects (λ m t. MatchOption found ((m ≡ of_unknown_type) × (t ≡ s)) (λ key. OfPeer kind s h key rest m t)) effects next
+  meant_at None kind h rest effects next (e, same) = record { value = of_unknown_type; means = (refl, same); effects_are = e }
+  meant_at (Some key) kind h rest effects next p = record { value = p.value; means = p.means; effects_are = p.effects_are }
 
--- and where none is meant, none has
-pub no_entry_of : (state : ReadingState) (kind : ℕ) (body : List ℕ) (t : MessageType) → t ≡ message_type kind → MeansNothing (OfType t state body) → MeansNoEntry (IsMessageEntry state kind body)
-no_entry_of state kind body t is none e next p = none p.value next (subst (λ (u : MessageType). OfType u state body p.value next) (sym is) p.means)
+  meant_by : (kind : MessageType) (effects : List EffectValue) (next : ReadingState) → HasPeerBy strict_peers kind s body effects next → HasEffects (HasPeer kind s body) effects next
+  meant_by kind effects next p =
+      let q = meant_at (key_of p.header) kind p.header (drop header_size body) effects next p.means in
+      record { value = q.value; means = record { header = p.header; is = p.is; means = q.means }; effects_are = q.effects_are }
 
--- a message that is meant, as its entry
-pub judged_entry : (state next : ReadingState) (kind : ℕ) (body : List ℕ) (t : MessageType) (effects : List EffectValue) → t ≡ message_type kind → HasEffects (OfType t state body) effects next → (e : EntryValue) × IsMessageEntry state kind body e next
-judged_entry state next kind body t effects is means = (message kind (6 + length body) effects, has_entry state next kind body t effects is means)
+  done_at : (found : Option KeyValue) (kind : MessageType) (h : HeaderValue) (rest : List ℕ) (m : MessageValue) (next : ReadingState)
+      → MatchOption found ((m ≡ of_unknown_type) × (next ≡ s)) (λ key. OfPeer kind s h key rest m next)
+      → MatchOption found ((effects_of m ≡ passed ∷ []) × (next ≡ s)) (λ key. HasEffects (OfPeer kind s h key rest) (effects_of m) next)
+  done_at None kind h rest m next (e, same) = (ap effects_of e, same)
+  done_at (Some key) kind h rest m next p = record { value = m; means = p; effects_are = refl }
+
+  done_by : (kind : MessageType) (m : MessageValue) (next : ReadingState) → HasPeer kind s body m next → HasPeerBy strict_peers kind s body (effects_of m) next
+  done_by kind m next p = record { header = p.header; is = p.is; means = done_at (key_of p.header) kind p.header (drop header_size body) m next p.means }
+
+  -- any message
+
+  meant : (t : MessageTypeCode) (effects : List EffectValue) (next : ReadingState) → OfTypeBy strict_peers t s body effects next → HasEffects (OfType (type_in t) s body) effects next
+  meant (code.OfPeer kind) effects next p = subst (λ (Means : MessageValue → ReadingState → Type 0). HasEffects Means effects next) (of_peer_type kind s body) (meant_by (message_type_of kind) effects next p)
+  meant code.Initiation effects next (p, same) = record { value = initiation p.0; means = (p.0, p.1, refl, same); effects_are = p.2 }
+  meant code.Termination effects next (p, same) = record { value = termination; means = (p.0, refl, same); effects_are = p.1 }
+  meant code.Unknown effects next (e, same) = record { value = of_unknown_type; means = (refl, same); effects_are = e }
+
+  done : (t : MessageTypeCode) (m : MessageValue) (next : ReadingState) → OfType (type_in t) s body m next → OfTypeBy strict_peers t s body (effects_of m) next
+  done (code.OfPeer kind) m next p = done_by (message_type_of kind) m next (subst (λ (Means : MessageValue → ReadingState → Type 0). Means m next) (sym (of_peer_type kind s body)) p)
+  done code.Initiation m next p = ((p.0, p.1, ap effects_of p.2), p.3)
+  done code.Termination m next p = ((p.0, ap effects_of p.1), p.2)
+  done code.Unknown m next p = (ap effects_of p.0, p.1)
+
+  module _ (kind : ℕ) (t : MessageTypeCode) (is : type_in t ≡ message_type kind) where
+    pub has_entry : (effects : List EffectValue) (next : ReadingState) → OfTypeBy strict_peers t s body effects next → IsMessageEntry s kind body (message kind (6 + length body) effects) next
+    has_entry effects next p =
+        let q = meant t effects next p in
+        record { value = q.value; means = subst (λ (u : MessageType). OfType u s body q.value next) is q.means; entry_is = ap (λ (es : List EffectValue). message kind (6 + length body) es) q.effects_are }
+
+    pub no_entry : ReadsNothing (OfTypeBy strict_peers t s body) → MeansNoEntry (IsMessageEntry s kind body)
+    no_entry none e next p = none (effects_of p.value) next (done t p.value next (subst (λ (u : MessageType). OfType u s body p.value next) (sym is) p.means))

@@ -12,7 +12,8 @@ use Rattle.bmp_specs.specs.PeerHeader.{HeaderValue, loc_rib, view_of}
 use Rattle.bmp_specs.specs.Statistics.{IsStatistics}
 use Rattle.bmp_specs.specs.UpdateForms.{FormsValue, as_agreed}
 use Rattle.bmp_specs.specs.Values.{EffectValue, KeyValue, OpensValue, PeerInfoValue, StatisticsValue, UpdateValue, orphan, routes, statistics}
-use Rattle.bmp_message.specs.Lenient.{KnownPeers, ReadsNothing, UpPeerValue, forms_at, known_at, lenient_state, nothing_shown, opens_known, shown_known, told_known, up_if, with_forms}
+use Rattle.bmp_message.specs.Effects.{ReadsNothing}
+use Rattle.bmp_message.specs.Lenient.{KnownPeers, UpPeerValue, forms_at, known_at, lenient_state, nothing_shown, opens_known, shown_known, told_known, up_if, with_forms}
 use Rattle.bmp_message.specs.State.{opens_of}
 use Rattle.bmp_message.proofs.KnownStates.{Kept, begins}
 use Rattle.bmp_message.proofs.LenientTells.{no_report, no_report_of, no_routes_of, orphan_of, orphan_report, tells_first, tells_known, tells_report, unreadable_first, unreadable_known}

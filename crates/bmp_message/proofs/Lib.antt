@@ -1,6 +1,7 @@
 pub mod Peers
 pub mod UpdateOf
 pub mod Meanings
+pub mod PeerHeaders
 pub mod Reaching
 pub mod Causes
 pub mod Judging

@@ -12,13 +12,13 @@ pub record HasEffects (Means : MessageValue → ReadingState → Type 0) (effect
   pub means : Means value next
   pub effects_are : effects ≡ effects_of value
 
--- this was made of the effects of a message that is meant, and it leaves this state
-abbrev pub IsMade : {T : Type 0} → (T → List EffectValue → Type 0) → (MessageValue → ReadingState → Type 0) → T → ReadingState → Type 0
-IsMade IsOf Means made next = (effects : List EffectValue) × IsOf made effects × HasEffects Means effects next
+-- this was made of the effects that are read, and it leaves this state
+abbrev pub IsMade : {T S : Type 0} → (T → List EffectValue → Type 0) → (List EffectValue → S → Type 0) → T → S → Type 0
+IsMade IsOf Reads made next = (effects : List EffectValue) × IsOf made effects × Reads effects next
 
--- no message is meant
-abbrev pub MeansNothing : (MessageValue → ReadingState → Type 0) → Type 0
-MeansNothing Means = (m : MessageValue) (next : ReadingState) → Means m next → ⊥
+-- no effects are read
+abbrev pub ReadsNothing : {S : Type 0} → (List EffectValue → S → Type 0) → Type 0
+ReadsNothing {S} Reads = (effects : List EffectValue) (next : S) → Reads effects next → ⊥
 
 -- nothing is meant that has an entry
 abbrev pub MeansNoEntry : {S : Type 0} → (EntryValue → S → Type 0) → Type 0

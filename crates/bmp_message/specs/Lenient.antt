@@ -81,11 +81,3 @@ lenient_state peers = record {
 abbrev pub up_if : Bool → KeyValue → PeerInfoValue → List EffectValue
 up_if true key info = up key info ∷ []
 up_if false key info = []
-
--- this was made of the effects that a body has, and it leaves this state
-abbrev pub IsMadeSo : {T : Type 0} → (T → List EffectValue → Type 0) → (List EffectValue → LenientState → Type 0) → T → LenientState → Type 0
-IsMadeSo IsOf Reads made next = (effects : List EffectValue) × IsOf made effects × Reads effects next
-
--- the body has no effects
-abbrev pub ReadsNothing : (List EffectValue → LenientState → Type 0) → Type 0
-ReadsNothing Reads = (effects : List EffectValue) (next : LenientState) → Reads effects next → ⊥

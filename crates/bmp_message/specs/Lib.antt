@@ -4,3 +4,4 @@ pub mod StreamWalk
 pub mod Types
 pub mod BodyForms
 pub mod Lenient
+pub mod PeerMeaning

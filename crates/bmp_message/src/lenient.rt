@@ -1,17 +1,15 @@
 ghost use Rattle.std.specs.Prelude.{◌≡◌, ◌≤◌, ◌==◌, ◌&&◌, not, length, is_some, None, Some, IfOk, OnErr, IsErrOf};
 ghost use Rattle.std.specs.List.{All};
-ghost use Rattle.bmp_specs.specs.LenientBody.{HasPeerLeniently, IsLenientEntry, OfPeerLeniently, OfTypeLeniently};
+ghost use Rattle.bmp_specs.specs.LenientBody.{IsLenientEntry, OfPeerLeniently};
 ghost use Rattle.bmp_specs.specs.LenientState.{nothing_known, with_shown};
-ghost use Rattle.bmp_specs.specs.MessageBody.{peer_down_notification, peer_up_notification, route_monitoring, statistics_report};
+ghost use Rattle.bmp_specs.specs.MessageBody.{route_monitoring};
 ghost use Rattle.bmp_specs.specs.MessageEffects.{HasViewOfKey};
-ghost use Rattle.bmp_specs.specs.PeerHeader.{HeaderValue, loc_rib};
+ghost use Rattle.bmp_specs.specs.PeerHeader.{loc_rib};
 ghost use Rattle.bmp_specs.specs.Session.{effects_in};
 ghost use Rattle.bmp_specs.specs.Values.{OpensValue};
-ghost use Rattle.bmp_message.specs.Effects.{MeansNoEntry};
-ghost use Rattle.bmp_message.specs.Lenient.{IsMadeSo, ReadsNothing, known_at, lenient_state};
-ghost use Rattle.bmp_message.specs.Types.{message_type_of, type_in};
+ghost use Rattle.bmp_message.specs.Effects.{IsMade, MeansNoEntry, ReadsNothing};
+ghost use Rattle.bmp_message.specs.Lenient.{known_at, lenient_state};
 ghost use Rattle.peer_events.specs.Body.{most_body};
-ghost use Rattle.rib_model.specs.Effects.{effect_values};
 ghost use Rattle.rib_model.specs.Entries.{entry_value};
 
 mod bodies;
@@ -19,11 +17,12 @@ mod implied;
 mod judge;
 mod known;
 
+use crate::dispatch::{PeerReading, of_type};
 use crate::effects::only;
 use crate::events;
 use crate::forms::Forms;
-use crate::reading::makes::{Makes, WithEffects, made_of};
-use crate::types::{MessageType, PeerMessage};
+use crate::makes::{Makes, WithEffects};
+use crate::types::MessageType;
 use bgp_update::UpdateReader;
 use bmp_frames::{COMMON_HEADER, LOC_RIB, PeerHeader, PeerKey, View};
 use implied::implied_info;
@@ -115,7 +114,7 @@ impl LenientReading {
         rest: &[u8],
     ) -> Result<M::Made, BodyFault>
         requires { known_at self.old key.now ≡ None }
-        ensures ok { IfOk result (λ made. IsMadeSo M.is_of (OfPeerLeniently route_monitoring (lenient_state self.old) head.now key.now rest.now) made (lenient_state self.new)) }
+        ensures ok { IfOk result (λ made. IsMade M.is_of (OfPeerLeniently route_monitoring (lenient_state self.old) head.now key.now rest.now) made (lenient_state self.new)) }
         ensures broken { IsErrOf result BodyFault.Broken → ReadsNothing (OfPeerLeniently route_monitoring (lenient_state self.old) head.now key.now rest.now) }
         ensures unchanged { OnErr result (self.new ≡ self.old) }
     {
@@ -145,17 +144,57 @@ impl LenientReading {
         }
     }
 
-    // Route Monitoring (RFC 7854, section 4.6). Of a peer that is down nothing is read.
+    /// The entry of the message of this "Message Type" with this body, which follows the common header (RFC 7854,
+    /// section 4.1), where messages are read as routers send them: its type, its whole length and its effects in
+    /// order, each on a RIB that its peer has (RFC 8671; RFC 9069).
+    ///
+    /// `BodyFault::Broken` only where the body has no such entry after the messages before it. A refusal leaves the
+    /// reading as it was. A Route Monitoring message that has a value in the forms of the last one of its peer and view
+    /// is read once, unless AS numbers of two octets were read there where the header says four. Of any other one at
+    /// most two forms of each family's prefixes and of the attributes are judged where they stand, before it is made.
+    /// Time and memory are linear in the body and the effects.
+    pub fn entry(&mut self, kind: u8, body: &[u8]) -> Result<Entry, BodyFault>
+        requires { length body.now ≤ most_body }
+        ensures ok { IfOk result (λ entry. IsLenientEntry (lenient_state self.old) kind body.now (entry_value entry) (lenient_state self.new)) }
+        ensures broken { IsErrOf result BodyFault.Broken → MeansNoEntry (IsLenientEntry (lenient_state self.old) kind body.now) }
+        ensures unchanged { OnErr result (self.new ≡ self.old) }
+        ensures views { IfOk result (λ entry. All HasViewOfKey (effects_in (entry_value entry))) }
+    {
+        let effects = of_type::<LenientReading, WithEffects>(self, MessageType::of(kind), body)?;
+        Ok(Entry::Message {
+            kind,
+            length: COMMON_HEADER + body.len() as u32,
+            effects,
+        })
+    }
+}
+
+// As routers send them.
+impl PeerReading for LenientReading {
+    ghost use Rattle.bmp_message.specs.PeerMeaning.{lenient_peers};
+
+    ghost meaning = { lenient_peers };
+
+    ghost state = { lenient_state };
+
+    ghost spares = { ⊥ };
+
+    ghost mirrors = { λ state next h key rest effects. (
+      λ p. ((p.0, p.1, p.2), p.3),
+      λ q. (q.0.0, q.0.1, q.0.2, q.1),
+    ) };
+
+    fn alloc(&self) -> Global {
+        self.alloc
+    }
+
+    // Of a peer that is down nothing is read.
     fn routes<M: Makes>(
         &mut self,
         head: &PeerHeader,
         key: &PeerKey,
         rest: &[u8],
-    ) -> Result<M::Made, BodyFault>
-        ensures ok { IfOk result (λ made. IsMadeSo M.is_of (OfPeerLeniently route_monitoring (lenient_state self.old) head.now key.now rest.now) made (lenient_state self.new)) }
-        ensures broken { IsErrOf result BodyFault.Broken → ReadsNothing (OfPeerLeniently route_monitoring (lenient_state self.old) head.now key.now rest.now) }
-        ensures unchanged { OnErr result (self.new ≡ self.old) }
-    {
+    ) -> Result<M::Made, BodyFault> {
         let Some(known) = self.peers.get(key) else {
             return self.first_routes::<M>(head, key, rest);
         };
@@ -188,13 +227,8 @@ impl LenientReading {
         }
     }
 
-    // A Statistics Report (RFC 7854, section 4.8). Of a peer that isn't up nothing is read, and what is none of a
-    // Loc-RIB that no Peer Up told of is an orphan.
-    fn statistics(&self, key: &PeerKey, rest: &[u8]) -> Result<EffectList, BodyFault>
-        requires { length rest.now ≤ most_body }
-        ensures ok { (h : HeaderValue) → IfOk result (λ effects. OfPeerLeniently statistics_report (lenient_state self.now) h key.now rest.now (effect_values effects) (lenient_state self.now)) }
-        ensures broken { (h : HeaderValue) → IsErrOf result BodyFault.Broken → ReadsNothing (OfPeerLeniently statistics_report (lenient_state self.now) h key.now rest.now) }
-    {
+    // Of a peer that isn't up nothing is read, and what is none of a Loc-RIB that no Peer Up told of is an orphan.
+    fn statistics(&self, key: &PeerKey, rest: &[u8]) -> Result<EffectList, BodyFault> {
         let Some(known) = self.peers.get(key) else {
             return Ok(only(self.alloc, Effect::Orphan)?);
         };
@@ -213,13 +247,8 @@ impl LenientReading {
         }
     }
 
-    // A Peer Down Notification (RFC 7854, section 4.9), after which the peer isn't up. That a Loc-RIB went down is kept.
-    fn peer_down(&mut self, key: &PeerKey, rest: &[u8]) -> Result<EffectList, BodyFault>
-        requires { length rest.now ≤ most_body }
-        ensures ok { (h : HeaderValue) → IfOk result (λ effects. OfPeerLeniently peer_down_notification (lenient_state self.old) h key.now rest.now (effect_values effects) (lenient_state self.new)) }
-        ensures broken { (h : HeaderValue) → IsErrOf result BodyFault.Broken → ReadsNothing (OfPeerLeniently peer_down_notification (lenient_state self.old) h key.now rest.now) }
-        ensures unchanged { OnErr result (self.new ≡ self.old) }
-    {
+    // That a Loc-RIB went down is kept.
+    fn peer_down(&mut self, key: &PeerKey, rest: &[u8]) -> Result<EffectList, BodyFault> {
         let effects = events::peer_down(self.alloc, key, rest)?;
         if !is_loc_rib(key) {
             self.peers.remove(key);
@@ -229,106 +258,17 @@ impl LenientReading {
         Ok(effects)
     }
 
-    // A Peer Up Notification (RFC 7854, section 4.10), after which the peer is up with its OPENs.
     fn peer_up(
         &mut self,
         head: &PeerHeader,
         key: &PeerKey,
         rest: &[u8],
-    ) -> Result<EffectList, BodyFault>
-        requires { length rest.now ≤ most_body }
-        ensures ok { IfOk result (λ effects. OfPeerLeniently peer_up_notification (lenient_state self.old) head.now key.now rest.now (effect_values effects) (lenient_state self.new)) }
-        ensures broken { IsErrOf result BodyFault.Broken → ReadsNothing (OfPeerLeniently peer_up_notification (lenient_state self.old) head.now key.now rest.now) }
-        ensures unchanged { OnErr result (self.new ≡ self.old) }
-    {
+    ) -> Result<EffectList, BodyFault> {
         let up = read_peer_up(self.alloc, head, rest)?;
         let info = Arc::new(self.alloc, up.info)?;
         let effects = events::peer_up(self.alloc, key, &info, up.unread)?;
         let peer = UpPeer::new(info, is_loc_rib(key));
         self.peers.insert(*key, Some(peer))?;
         Ok(effects)
-    }
-
-    // A message of a peer, from what follows its Per-Peer Header.
-    fn of_peer<M: Makes>(
-        &mut self,
-        kind: PeerMessage,
-        head: &PeerHeader,
-        key: &PeerKey,
-        rest: &[u8],
-    ) -> Result<M::Made, BodyFault>
-        requires { length rest.now ≤ most_body }
-        ensures ok { IfOk result (λ made. IsMadeSo M.is_of (OfPeerLeniently (message_type_of kind) (lenient_state self.old) head.now key.now rest.now) made (lenient_state self.new)) }
-        ensures broken { IsErrOf result BodyFault.Broken → ReadsNothing (OfPeerLeniently (message_type_of kind) (lenient_state self.old) head.now key.now rest.now) }
-        ensures unchanged { OnErr result (self.new ≡ self.old) }
-    {
-        match kind {
-            PeerMessage::RouteMonitoring => self.routes::<M>(head, key, rest),
-            PeerMessage::StatisticsReport => made_of::<M>(self.statistics(key, rest)),
-            PeerMessage::PeerDown => made_of::<M>(self.peer_down(key, rest)),
-            PeerMessage::PeerUp => made_of::<M>(self.peer_up(head, key, rest)),
-            PeerMessage::RouteMirroring => made_of::<M>(events::mirroring(self.alloc, rest)),
-        }
-    }
-
-    // A message with a Per-Peer Header (RFC 7854, section 4.2). Of a peer type that isn't known nothing
-    // else is read.
-    fn with_header<M: Makes>(
-        &mut self,
-        kind: PeerMessage,
-        body: &[u8],
-    ) -> Result<M::Made, BodyFault>
-        requires { length body.now ≤ most_body }
-        ensures ok { IfOk result (λ made. IsMadeSo M.is_of (HasPeerLeniently (message_type_of kind) (lenient_state self.old) body.now) made (lenient_state self.new)) }
-        ensures broken { IsErrOf result BodyFault.Broken → ReadsNothing (HasPeerLeniently (message_type_of kind) (lenient_state self.old) body.now) }
-        ensures unchanged { OnErr result (self.new ≡ self.old) }
-    {
-        let Some((front, rest)) = body.split_first_chunk() else {
-            return Err(BodyFault::Broken);
-        };
-        let head = PeerHeader::read(front);
-        match head.key() {
-            Some(key) => self.of_peer::<M>(kind, &head, &key, rest),
-            None => Ok(M::passed(self.alloc)?),
-        }
-    }
-
-    // What a message of this type does.
-    fn effects<M: Makes>(&mut self, kind: MessageType, body: &[u8]) -> Result<M::Made, BodyFault>
-        requires { length body.now ≤ most_body }
-        ensures ok { IfOk result (λ made. IsMadeSo M.is_of (OfTypeLeniently (type_in kind) (lenient_state self.old) body.now) made (lenient_state self.new)) }
-        ensures broken { IsErrOf result BodyFault.Broken → ReadsNothing (OfTypeLeniently (type_in kind) (lenient_state self.old) body.now) }
-        ensures unchanged { OnErr result (self.new ≡ self.old) }
-    {
-        match kind {
-            MessageType::OfPeer(kind) => self.with_header::<M>(kind, body),
-            MessageType::Initiation => made_of::<M>(events::initiation(self.alloc, body)),
-            MessageType::Termination => made_of::<M>(events::termination(self.alloc, body)),
-            MessageType::Unknown => Ok(M::passed(self.alloc)?),
-        }
-    }
-
-    /// The entry of the message of this "Message Type" with this body, which follows the common header (RFC 7854,
-    /// section 4.1), where messages are read as routers send them: its type, its whole length and its effects in
-    /// order, each on a RIB that its peer has (RFC 8671; RFC 9069).
-    ///
-    /// `BodyFault::Broken` only where the body has no such entry after the messages before it. A refusal leaves the
-    /// reading as it was. A Route Monitoring message that has a value in the forms of the last one of its peer and view
-    /// is read once, unless AS numbers of two octets were read there where the header says four. Of any other one at
-    /// most two forms of each family's prefixes and of the attributes are judged where they stand, before it is made.
-    /// Time and memory are linear in the body and the effects.
-    pub fn entry(&mut self, kind: u8, body: &[u8]) -> Result<Entry, BodyFault>
-        requires { length body.now ≤ most_body }
-        ensures ok { IfOk result (λ entry. IsLenientEntry (lenient_state self.old) kind body.now (entry_value entry) (lenient_state self.new)) }
-        ensures broken { IsErrOf result BodyFault.Broken → MeansNoEntry (IsLenientEntry (lenient_state self.old) kind body.now) }
-        ensures unchanged { OnErr result (self.new ≡ self.old) }
-        ensures views { IfOk result (λ entry. All HasViewOfKey (effects_in (entry_value entry))) }
-    {
-        let effects = self.effects::<WithEffects>(MessageType::of(kind), body)?;
-        Ok(Entry::Message {
-            kind,
-            length: COMMON_HEADER + body.len() as u32,
-            effects,
-        })
     }
 }

@@ -19,18 +19,20 @@
 //! calls have the same clauses by `specs/LenientBody.antt` of `bmp_specs`.
 //!
 //! Begin with `specs/MessageBody.antt` and `specs/MessageEffects.antt` of `bmp_specs`, then
-//! `src/bodies.rt`, `src/reading.rt` and `src/walk.rt`; `src/routes.rt` and `src/events.rt` read what stands
-//! behind the headers, `src/in_forms.rt` an UPDATE in the form that fits, and `src/lenient.rt` keeps which
-//! did last.
+//! `src/bodies.rt`, `src/reading.rt` and `src/walk.rt`; `src/dispatch.rt` goes by the type and the Per-Peer
+//! Header for both readings, `src/routes.rt` and `src/events.rt` read what stands behind the headers,
+//! `src/in_forms.rt` an UPDATE in the form that fits, and `src/lenient.rt` keeps which did last.
 #![tactic(auto)]
 
 mod bodies;
+mod dispatch;
 mod effects;
 mod events;
 mod fault;
 mod forms;
 mod in_forms;
 mod lenient;
+mod makes;
 mod reading;
 mod routes;
 mod types;

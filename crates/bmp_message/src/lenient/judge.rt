@@ -5,8 +5,9 @@ ghost use Rattle.bmp_message.specs.Effects.{MeansNoEntry};
 ghost use Rattle.bmp_message.specs.Lenient.{lenient_state};
 ghost use Rattle.peer_events.specs.Body.{most_body};
 
+use crate::dispatch::of_type;
 use crate::lenient::LenientReading;
-use crate::reading::makes::WithoutEffects;
+use crate::makes::WithoutEffects;
 use crate::types::MessageType;
 use wire_io::BodyFault;
 
@@ -23,6 +24,6 @@ impl LenientReading {
         ensures broken { IsErrOf result BodyFault.Broken → MeansNoEntry (IsLenientEntry (lenient_state self.old) kind body.now) }
         ensures unchanged { OnErr result (self.new ≡ self.old) }
     {
-        self.effects::<WithoutEffects>(MessageType::of(kind), body)
+        of_type::<LenientReading, WithoutEffects>(self, MessageType::of(kind), body)
     }
 }

@@ -5,8 +5,9 @@ ghost use Rattle.bmp_message.specs.State.{reading_state};
 ghost use Rattle.bmp_message.specs.Effects.{MeansNoEntry};
 ghost use Rattle.peer_events.specs.Body.{most_body};
 
+use crate::dispatch::of_type;
+use crate::makes::WithoutEffects;
 use crate::reading::Reading;
-use crate::reading::makes::WithoutEffects;
 use crate::types::MessageType;
 use wire_io::BodyFault;
 
@@ -25,6 +26,6 @@ impl Reading {
         ensures unchanged { OnErr result (self.new ≡ self.old) }
         ensures routes { kind ≡ 0 → IsErrOf result BodyFault.NoMemory → ⊥ }
     {
-        self.effects::<WithoutEffects>(MessageType::of(kind), body)
+        of_type::<Reading, WithoutEffects>(self, MessageType::of(kind), body)
     }
 }

@@ -1,0 +1,38 @@
+use Rattle.std.proofs.Common.{◌∷◌, [], refl}
+use Rattle.std.proofs.lemmas.Result.{IfOk-weaker}
+use Rattle.bmp_specs.specs.Values.{passed}
+use Rattle.bmp_message.specs.PeerMeaning.{OfTypeBy}
+use Rattle.bmp_message.specs.declared.types.MessageType.TheVariants.{Initiation, Termination}
+use Rattle.bmp_message.proofs.Making.{made_broken, made_ok}
+use Rattle.bmp_message.proofs.dispatch.of_type.Goals as goal
+
+pub returns-in-OfPeer-clause-ok : goal.returns-in-OfPeer-clause-ok
+returns-in-OfPeer-clause-ok g c = rw c.in-OfPeer.is c.with_header.ensures.ok
+
+pub returns-in-OfPeer-clause-broken : goal.returns-in-OfPeer-clause-broken
+returns-in-OfPeer-clause-broken g c = rw c.in-OfPeer.is c.with_header.ensures.broken
+
+pub returns-in-Initiation-clause-ok : goal.returns-in-Initiation-clause-ok
+returns-in-Initiation-clause-ok g c =
+    let r = g.R.PeerReading in
+    let old = r.state c.args.reading.now in
+    rw c.in-Initiation.is
+    (made_ok g.M.Makes.is_of (OfTypeBy r.meaning Initiation old c.args.body.now) old c.initiation.result c.made_of.result c.made_of.ensures (IfOk-weaker c.initiation.result _ _ (λ effects p. (p, refl)) c.initiation.ensures.ok))
+
+pub returns-in-Initiation-clause-broken : goal.returns-in-Initiation-clause-broken
+returns-in-Initiation-clause-broken g c =
+    rw c.in-Initiation.is (made_broken g.M.Makes.is_of c.initiation.result c.made_of.result c.made_of.ensures (λ broken effects next q. c.initiation.ensures.broken broken q.0.0 q.0.1))
+
+pub returns-in-Termination-clause-ok : goal.returns-in-Termination-clause-ok
+returns-in-Termination-clause-ok g c =
+    let r = g.R.PeerReading in
+    let old = r.state c.args.reading.now in
+    rw c.in-Termination.is
+    (made_ok g.M.Makes.is_of (OfTypeBy r.meaning Termination old c.args.body.now) old c.termination.result c.made_of-in-Termination.result c.made_of-in-Termination.ensures (IfOk-weaker c.termination.result _ _ (λ effects p. (p, refl)) c.termination.ensures.ok))
+
+pub returns-in-Termination-clause-broken : goal.returns-in-Termination-clause-broken
+returns-in-Termination-clause-broken g c =
+    rw c.in-Termination.is (made_broken g.M.Makes.is_of c.termination.result c.made_of-in-Termination.result c.made_of-in-Termination.ensures (λ broken effects next q. c.termination.ensures.broken broken q.0.0))
+
+pub returns-in_ok-passed-in-Unknown-clause-ok : goal.returns-in_ok-passed-in-Unknown-clause-ok
+returns-in_ok-passed-in-Unknown-clause-ok g c = rw c.in-Unknown.is (passed ∷ [], c.in_ok-passed-in-Unknown.ensures.ok, (refl, refl))
