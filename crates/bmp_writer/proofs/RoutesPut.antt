@@ -9,7 +9,7 @@ use Rattle.bmp_writer.specs.PeerMessage.{HasPlainHeader, IsHeaderOf}
 use Rattle.bmp_writer.specs.Written.{Appends}
 use Rattle.bmp_writer.specs.WrittenAttributes.{HasHop}
 use Rattle.bmp_writer.specs.WrittenRoutes.{CanCarryRoutes, IsHeadersOf, IsRoutesMessage, family_of, routes_size}
-use Rattle.bmp_writer.specs.WrittenUpdate.{AreShort, CanPlace, IsUpdateOf, is_plain, places, told_of, update_size}
+use Rattle.bmp_writer.specs.WrittenUpdate.{AreShort, CanPlace, IsField, IsUpdateOf, PlacesValue, is_plain, places, told_of, update_size}
 use Rattle.bmp_writer.proofs.Frames.{frame_here, frame_length, header_bytes}
 use Rattle.bmp_writer.proofs.Peers.{plain_appended}
 use Rattle.bmp_writer.proofs.Still.{two_pieces}
@@ -45,6 +45,10 @@ pub can_place : (key : KeyValue) (view : View) (withdrawn announced : List NlriV
 can_place key view withdrawn announced attrs can =
     let family = family_of (withdrawn ++ announced) in
     record { segments = short_told (is_plain family attrs.hop) announced attrs can.segments; next_hop = hop_told family announced attrs; hop = can.hop; fits = can.fits }
+
+-- what was put into an empty room is the field
+pub whole_field : (family : Family) (p : PlacesValue) (empty mid field : List ℕ) → empty ≡ [] → field ≡ mid → Appends (IsField family p) empty mid → IsField family p field
+whole_field family p empty mid field none same (piece, joined, is) = subst (λ (l : List ℕ). IsField family p l) (sym (same ∙ joined ∙ ap (λ (l : List ℕ). l ++ piece) none)) is
 
 pub message_put : (key : KeyValue) (view : View) (withdrawn announced : List NlriValue) (attrs : AttrsValue) (family : Family) (size : ℕ) (old mid new : List ℕ) → CanCarryRoutes key view withdrawn announced attrs → family ≡ family_of (withdrawn ++ announced)
     → size ≡ update_size (places family withdrawn announced attrs) → Appends (IsHeadersOf key view size) old mid → Appends (IsUpdateOf family (places family withdrawn announced attrs)) mid new

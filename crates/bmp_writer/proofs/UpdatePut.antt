@@ -102,7 +102,7 @@ others_length [] bytes p = ap (λ (l : List ℕ). length l) p
 others_length (a ∷ more) bytes (front, rest, split, is, p) =
     omega (arith, ap (λ (l : List ℕ). length l) split.joined, length-append front rest, written_length a.flags a.code a.value front is, others_length more rest p, sum_by-cons (λ (other : OtherValue). attribute_size (length other.value)) a more)
 
-field_length : (family : Family) (p : PlacesValue) (bytes : List ℕ) → IsFieldOf family p bytes → length bytes ≡ field_size p
+pub field_length : (family : Family) (p : PlacesValue) (bytes : List ℕ) → IsFieldOf family p bytes → length bytes ≡ field_size p
 field_length family p bytes (front, behind, s0, told, (re, r9, s9, reach, (un, ot, s10, unreach, others))) =
     let l1 = front_length p.told front told in
     let l2 : length re ≡ reach_size p.hop p.multi = part_length optional mp_reach_nlri reach.is.value re reach.is.are ∙ multi_size family p.hop p.multi reach.multi reach.is.value reach.are reach.is.is in
@@ -122,9 +122,12 @@ counted_put Is size octets old mid new len o e (field, f, is) = (
 pub nlris_put : (ns : List NlriValue) (size : ℕ) (octets old mid new : List ℕ) → size ≡ nlris_size ns → octets ≡ big_bytes 2 size → mid ≡ old ++ octets → Appends (AreOwnNlri ns) mid new → Appends (IsCountedOf (AreOwnNlri ns)) old new
 nlris_put ns size octets old mid new s o e p = counted_put (AreOwnNlri ns) size octets old mid new (λ field is. nlris_length ns field is ∙ sym s) o e p
 
-pub field_put : (family : Family) (places : PlacesValue) (size : ℕ) (octets old mid new : List ℕ) → size ≡ field_size places → octets ≡ big_bytes 2 size → mid ≡ old ++ octets → Appends (IsFieldOf family places) mid new
-    → Appends (IsCountedOf (IsFieldOf family places)) old new
-field_put family places size octets old mid new s o e p = counted_put (IsFieldOf family places) size octets old mid new (λ field is. field_length family places field is ∙ sym s) o e p
+-- "Path Attributes" in so many bytes have room where the message has
+pub field_fits : (family : Family) (p : PlacesValue) (field : List ℕ) → IsFieldOf family p field → update_size p ≤ 65535 → length field ≤ 65535
+field_fits family p field is fits = omega (arith, field_length family p field is, fits)
+
+pub field_put : (family : Family) (places : PlacesValue) (field old new : List ℕ) → IsFieldOf family places field → new ≡ old ++ counted field → Appends (IsCountedOf (IsFieldOf family places)) old new
+field_put family places field old new is e = (counted field, e, record { field = field; joined = refl; is = is })
 
 pub update_put : (family : Family) (p : PlacesValue) (size : ℕ) (header old m1 m2 m3 new : List ℕ) → size ≡ update_size p → size ≤ 65535 → header ≡ marker ++ (big_bytes 2 size ++ update_type ∷ []) → m1 ≡ old ++ header
     → Appends (IsCountedOf (AreOwnNlri p.withdrawn)) m1 m2 → Appends (IsCountedOf (IsFieldOf family p)) m2 m3 → Appends (AreOwnNlri p.plain) m3 new → Appends (IsUpdateOf family p) old new

@@ -9,9 +9,10 @@ ghost use Rattle.bmp_specs.specs.Sequence.{IsField};
 ghost use Rattle.bmp_writer.specs.Written.{Appends, Keeps};
 ghost use Rattle.bmp_writer.specs.WrittenAttributes.{AreSomeCommunities, HasHop, IsPart, attribute_size, cleared as cleared_of, head_bytes, optional_transitive, transitive, written};
 
+use crate::draft::{Draft, Full};
 use crate::nlri::four_octets;
 use path_attrs::Aggregator;
-use wire_io::{ByteList, NoMemory};
+use wire_io::ByteList;
 
 /// "Extended Length bit" (RFC 4271, section 4.3).
 pub(crate) const EXTENDED_LENGTH: u8 = 0x10;
@@ -46,7 +47,7 @@ fn cleared(flags: u8) -> u8
 }
 
 /// Appends what stands before a value of so many octets: its flags, its type and its length.
-pub(crate) fn put_head(out: &mut ByteList, flags: u8, code: u8, size: usize) -> Result<(), NoMemory>
+pub(crate) fn put_head(out: &mut Draft<'_>, flags: u8, code: u8, size: usize) -> Result<(), Full>
     requires { size ≤ 65535 }
     ensures ok { OnOk result (out.new ≡ out.old ++ head_bytes flags code size) }
     ensures err { OnErr result (out.new ≡ out.old) }
@@ -59,13 +60,13 @@ pub(crate) fn put_head(out: &mut ByteList, flags: u8, code: u8, size: usize) -> 
     out.extend(&[flags, code, size as u8])
 }
 
-/// Appends an attribute. Out of memory, fewer bytes stand behind those of before.
+/// Appends an attribute. Where there is no room fewer bytes stand behind those of before.
 pub(crate) fn put_attribute(
-    out: &mut ByteList,
+    out: &mut Draft<'_>,
     flags: u8,
     code: u8,
     value: &[u8],
-) -> Result<(), NoMemory>
+) -> Result<(), Full>
     requires { length value.now ≤ 65535 }
     ensures ok { OnOk result (Appends (λ bytes. IsAttribute bytes (written flags code value.now)) out.old out.new) }
     ensures err { OnErr result (Keeps out.old out.new) }
@@ -84,7 +85,7 @@ pub(crate) fn left_by_attribute(room: usize, size: usize) -> Option<usize>
 }
 
 /// ORIGIN.
-pub(crate) fn put_origin(out: &mut ByteList, origin: Option<u8>) -> Result<(), NoMemory>
+pub(crate) fn put_origin(out: &mut Draft<'_>, origin: Option<u8>) -> Result<(), Full>
     ensures ok { OnOk result (Appends (IsPart transitive origin_type (λ value. Optional (IsNumber 1) value origin)) out.old out.new) }
     ensures err { OnErr result (Keeps out.old out.new) }
 {
@@ -95,7 +96,7 @@ pub(crate) fn put_origin(out: &mut ByteList, origin: Option<u8>) -> Result<(), N
 }
 
 /// NEXT_HOP, an IPv4 address.
-pub(crate) fn put_hop(out: &mut ByteList, hop: &Option<ByteList>) -> Result<(), NoMemory>
+pub(crate) fn put_hop(out: &mut Draft<'_>, hop: &Option<ByteList>) -> Result<(), Full>
     requires { HasHop hop.now }
     ensures ok { OnOk result (Appends (IsPart transitive next_hop (λ value. Optional (IsField 4) value hop.now)) out.old out.new) }
     ensures err { OnErr result (Keeps out.old out.new) }
@@ -108,11 +109,11 @@ pub(crate) fn put_hop(out: &mut ByteList, hop: &Option<ByteList>) -> Result<(), 
 
 /// An attribute whose value is one number: MULTI_EXIT_DISC or LOCAL_PREF.
 pub(crate) fn put_number(
-    out: &mut ByteList,
+    out: &mut Draft<'_>,
     flags: u8,
     code: u8,
     number: Option<u32>,
-) -> Result<(), NoMemory>
+) -> Result<(), Full>
     ensures ok { OnOk result (Appends (IsPart flags code (λ value. Optional (IsNumber 4) value number)) out.old out.new) }
     ensures err { OnErr result (Keeps out.old out.new) }
 {
@@ -123,7 +124,7 @@ pub(crate) fn put_number(
 }
 
 /// ATOMIC_AGGREGATE.
-pub(crate) fn put_atomic(out: &mut ByteList, atomic: bool) -> Result<(), NoMemory>
+pub(crate) fn put_atomic(out: &mut Draft<'_>, atomic: bool) -> Result<(), Full>
     ensures ok { OnOk result (Appends (IsPart transitive atomic_aggregate (λ value. IsAtomic value atomic)) out.old out.new) }
     ensures err { OnErr result (Keeps out.old out.new) }
 {
@@ -145,9 +146,9 @@ fn aggregator_octets(aggregator: Aggregator) -> [u8; 8]
 
 /// AGGREGATOR.
 pub(crate) fn put_aggregator(
-    out: &mut ByteList,
+    out: &mut Draft<'_>,
     aggregator: Option<Aggregator>,
-) -> Result<(), NoMemory>
+) -> Result<(), Full>
     ensures ok { OnOk result (Appends (IsPart optional_transitive aggregator_type (λ value. Optional (IsAggregator Width.Four) value aggregator)) out.old out.new) }
     ensures err { OnErr result (Keeps out.old out.new) }
 {
@@ -161,7 +162,7 @@ pub(crate) fn put_aggregator(
 }
 
 /// Appends numbers, each in four octets.
-pub(crate) fn put_numbers(out: &mut ByteList, numbers: &[u32]) -> Result<(), NoMemory>
+pub(crate) fn put_numbers(out: &mut Draft<'_>, numbers: &[u32]) -> Result<(), Full>
     ensures ok { OnOk result (Appends (λ bytes. AreParts (IsNumber 4) bytes numbers.now) out.old out.new) }
     ensures err { OnErr result (Keeps out.old out.new) }
 {
@@ -172,7 +173,7 @@ pub(crate) fn put_numbers(out: &mut ByteList, numbers: &[u32]) -> Result<(), NoM
 }
 
 /// COMMUNITIES (RFC 1997), where there are any.
-pub(crate) fn put_communities(out: &mut ByteList, communities: &[u32]) -> Result<(), NoMemory>
+pub(crate) fn put_communities(out: &mut Draft<'_>, communities: &[u32]) -> Result<(), Full>
     requires { 4 * length communities.now ≤ 65535 }
     ensures ok { OnOk result (Appends (IsPart optional_transitive communities_type (λ value. AreSomeCommunities value communities.now)) out.old out.new) }
     ensures err { OnErr result (Keeps out.old out.new) }

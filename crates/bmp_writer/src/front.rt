@@ -10,9 +10,10 @@ use crate::attributes::{
     OPTIONAL, TRANSITIVE, left_by_attribute, put_aggregator, put_atomic, put_communities, put_hop,
     put_number, put_origin,
 };
+use crate::draft::{Draft, Full};
 use crate::path::{left_by_segments, put_path};
 use path_attrs::{Aggregator, AsPath, Attrs};
-use wire_io::{ByteList, NoMemory};
+use wire_io::ByteList;
 
 /// "Attribute Type Code" (RFC 4271, section 5).
 const MULTI_EXIT_DISC: u8 = 4;
@@ -20,7 +21,7 @@ const MULTI_EXIT_DISC: u8 = 4;
 const LOCAL_PREF: u8 = 5;
 
 // NEXT_HOP, where it is told.
-fn put_next_hop(out: &mut ByteList, plain: bool, hop: &Option<ByteList>) -> Result<(), NoMemory>
+fn put_next_hop(out: &mut Draft<'_>, plain: bool, hop: &Option<ByteList>) -> Result<(), Full>
     requires { HasHop (if plain then hop.now else None) }
     ensures ok { OnOk result (Appends (IsPart transitive next_hop (λ value. Optional (IsField 4) value (if plain then hop.now else None))) out.old out.new) }
     ensures err { OnErr result (Keeps out.old out.new) }
@@ -29,7 +30,7 @@ fn put_next_hop(out: &mut ByteList, plain: bool, hop: &Option<ByteList>) -> Resu
 }
 
 // ORIGIN, AS_PATH, NEXT_HOP and MULTI_EXIT_DISC.
-fn put_first(out: &mut ByteList, attrs: &Attrs, plain: bool) -> Result<(), NoMemory>
+fn put_first(out: &mut Draft<'_>, attrs: &Attrs, plain: bool) -> Result<(), Full>
     requires path { HasPath attrs.now.path }
     requires hop { HasHop (if plain then attrs.now.hop else None) }
     ensures ok { OnOk result (Appends (IsFirst (with_hop plain attrs.now)) out.old out.new) }
@@ -42,7 +43,7 @@ fn put_first(out: &mut ByteList, attrs: &Attrs, plain: bool) -> Result<(), NoMem
 }
 
 // LOCAL_PREF, ATOMIC_AGGREGATE, AGGREGATOR and COMMUNITIES.
-fn put_second(out: &mut ByteList, attrs: &Attrs) -> Result<(), NoMemory>
+fn put_second(out: &mut Draft<'_>, attrs: &Attrs) -> Result<(), Full>
     requires { 4 * length attrs.now.communities ≤ 65535 }
     ensures ok { OnOk result (Appends (IsSecond attrs.now) out.old out.new) }
     ensures err { OnErr result (Keeps out.old out.new) }
@@ -53,13 +54,13 @@ fn put_second(out: &mut ByteList, attrs: &Attrs) -> Result<(), NoMemory>
     put_communities(out, attrs.communities.as_slice())
 }
 
-/// Appends them, each where the route has it; NEXT_HOP only where it is told. Out of memory, fewer bytes stand
+/// Appends them, each where the route has it; NEXT_HOP only where it is told. Where there is no room fewer bytes stand
 /// behind those of before.
 pub(crate) fn put_origin_to_communities(
-    out: &mut ByteList,
+    out: &mut Draft<'_>,
     attrs: &Attrs,
     plain: bool,
-) -> Result<(), NoMemory>
+) -> Result<(), Full>
     requires path { HasPath attrs.now.path }
     requires hop { HasHop (if plain then attrs.now.hop else None) }
     requires communities { 4 * length attrs.now.communities ≤ 65535 }

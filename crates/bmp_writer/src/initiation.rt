@@ -30,6 +30,7 @@ fn put_tlv(frame: &mut [u8], at: usize, kind: u16, value: &[u8]) -> usize
 
 /// Appends an Initiation Message with a sysDescr and then a sysName (RFC 7854, section 4.3), each of at
 /// most 65,535 bytes. After `NoMemory` the list is as before.
+#[inline(never)]
 pub fn put_initiation(out: &mut ByteList, name: &[u8], descr: &[u8]) -> Result<(), NoMemory>
     requires name { length name.now ≤ 65535 }
     requires descr { length descr.now ≤ 65535 }

@@ -1,7 +1,8 @@
 //! BMP messages, written: the reverse of reading.
 //!
-//! Each call appends one whole message to a list of bytes (RFC 7854, section 4), or, out of memory,
-//! leaves it as it was.
+//! Each call appends one whole message to a list of bytes (RFC 7854, section 4), or leaves it as it was where it
+//! runs out of memory. The many small pieces of a Route Monitoring message are put together in a `Draft` first, and
+//! appended in one.
 //!
 //! Proved: whoever reads the message under the definitions of `bmp_specs` reads the effects that the call
 //! names, in that order and no others, in any state of its peers; an End-of-RIB marker where the peer is
@@ -19,6 +20,7 @@
 mod attributes;
 mod capabilities;
 mod common;
+mod draft;
 mod front;
 mod initiation;
 mod limits;

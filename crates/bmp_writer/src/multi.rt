@@ -8,9 +8,9 @@ ghost use Rattle.bmp_writer.specs.WrittenNlri.{nlris_size};
 ghost use Rattle.bmp_writer.specs.WrittenUpdate.{HasRoom, reach_size, unreach_size};
 
 use crate::attributes::{OPTIONAL, put_head};
+use crate::draft::{Draft, Full};
 use crate::nlri::{left_by_nlris, put_nlris, size_of_nlris};
 use ip_prefix::{Family, Nlri};
-use wire_io::{ByteList, NoMemory};
 
 /// "Attribute Type Code" (RFC 4760, sections 3 and 4).
 const MP_REACH_NLRI: u8 = 14;
@@ -29,11 +29,11 @@ fn family_octets(family: Family) -> [u8; 3]
 
 // The value of MP_REACH_NLRI.
 fn put_reach_value(
-    out: &mut ByteList,
+    out: &mut Draft<'_>,
     family: Family,
     hop: &[u8],
     list: &[Nlri],
-) -> Result<(), NoMemory>
+) -> Result<(), Full>
     requires { length hop.now ≤ 255 }
     ensures ok { OnOk result (Appends (IsReachValue family hop.now list.now) out.old out.new) }
     ensures err { OnErr result (Keeps out.old out.new) }
@@ -45,13 +45,13 @@ fn put_reach_value(
     put_nlris(out, list)
 }
 
-/// MP_REACH_NLRI, where there are prefixes. Out of memory, fewer bytes stand behind those of before.
+/// MP_REACH_NLRI, where there are prefixes. Where there is no room fewer bytes stand behind those of before.
 pub(crate) fn put_reach(
-    out: &mut ByteList,
+    out: &mut Draft<'_>,
     family: Family,
     hop: &[u8],
     list: &[Nlri],
-) -> Result<(), NoMemory>
+) -> Result<(), Full>
     requires hop { HasRoom list.now hop.now }
     requires fits { reach_size hop.now list.now ≤ 65535 }
     ensures ok { OnOk result (Appends (IsReach family hop.now list.now) out.old out.new) }
@@ -66,7 +66,7 @@ pub(crate) fn put_reach(
 }
 
 // The value of MP_UNREACH_NLRI.
-fn put_unreach_value(out: &mut ByteList, family: Family, list: &[Nlri]) -> Result<(), NoMemory>
+fn put_unreach_value(out: &mut Draft<'_>, family: Family, list: &[Nlri]) -> Result<(), Full>
     ensures ok { OnOk result (Appends (IsUnreachValue family list.now) out.old out.new) }
     ensures err { OnErr result (Keeps out.old out.new) }
 {
@@ -74,8 +74,8 @@ fn put_unreach_value(out: &mut ByteList, family: Family, list: &[Nlri]) -> Resul
     put_nlris(out, list)
 }
 
-/// MP_UNREACH_NLRI, where there are prefixes. Out of memory, fewer bytes stand behind those of before.
-pub(crate) fn put_unreach(out: &mut ByteList, family: Family, list: &[Nlri]) -> Result<(), NoMemory>
+/// MP_UNREACH_NLRI, where there are prefixes. Where there is no room fewer bytes stand behind those of before.
+pub(crate) fn put_unreach(out: &mut Draft<'_>, family: Family, list: &[Nlri]) -> Result<(), Full>
     requires { unreach_size list.now ≤ 65535 }
     ensures ok { OnOk result (Appends (IsUnreach family list.now) out.old out.new) }
     ensures err { OnErr result (Keeps out.old out.new) }

@@ -5,8 +5,8 @@ ghost use Rattle.bmp_specs.specs.Prefix.{bytes_for};
 ghost use Rattle.bmp_writer.specs.Written.{Appends, Keeps};
 ghost use Rattle.bmp_writer.specs.WrittenNlri.{AreOwnNlri, IsId, IsOwnNlri, IsOwnPrefix, nlri_size, nlris_size};
 
+use crate::draft::{Draft, Full};
 use ip_prefix::{Nlri, Prefix};
-use wire_io::{ByteList, NoMemory};
 
 /// A number in four octets, the highest first.
 pub(crate) fn four_octets(number: u32) -> [u8; 4]
@@ -24,7 +24,7 @@ fn octets_for(bits: u8) -> usize
 }
 
 // "Path Identifier", where there is one.
-fn put_id(out: &mut ByteList, id: Option<u32>) -> Result<(), NoMemory>
+fn put_id(out: &mut Draft<'_>, id: Option<u32>) -> Result<(), Full>
     ensures ok { OnOk result (Appends (IsId id) out.old out.new) }
     ensures err { OnErr result (Keeps out.old out.new) }
 {
@@ -35,7 +35,7 @@ fn put_id(out: &mut ByteList, id: Option<u32>) -> Result<(), NoMemory>
 }
 
 // "Length" and "Prefix".
-fn put_prefix(out: &mut ByteList, prefix: &Prefix) -> Result<(), NoMemory>
+fn put_prefix(out: &mut Draft<'_>, prefix: &Prefix) -> Result<(), Full>
     ensures ok { OnOk result (Appends (IsOwnPrefix prefix.now) out.old out.new) }
     ensures err { OnErr result (Keeps out.old out.new) }
 {
@@ -46,7 +46,7 @@ fn put_prefix(out: &mut ByteList, prefix: &Prefix) -> Result<(), NoMemory>
 }
 
 // One prefix, with its identifier where it has one.
-fn put_nlri(out: &mut ByteList, nlri: &Nlri) -> Result<(), NoMemory>
+fn put_nlri(out: &mut Draft<'_>, nlri: &Nlri) -> Result<(), Full>
     ensures ok { OnOk result (Appends (λ bytes. IsOwnNlri bytes nlri.now) out.old out.new) }
     ensures err { OnErr result (Keeps out.old out.new) }
 {
@@ -54,8 +54,8 @@ fn put_nlri(out: &mut ByteList, nlri: &Nlri) -> Result<(), NoMemory>
     put_prefix(out, &nlri.prefix)
 }
 
-/// Appends the prefixes. Out of memory, fewer bytes stand behind those of before.
-pub(crate) fn put_nlris(out: &mut ByteList, list: &[Nlri]) -> Result<(), NoMemory>
+/// Appends the prefixes. Where there is no room fewer bytes stand behind those of before.
+pub(crate) fn put_nlris(out: &mut Draft<'_>, list: &[Nlri]) -> Result<(), Full>
     ensures ok { OnOk result (Appends (AreOwnNlri list.now) out.old out.new) }
     ensures err { OnErr result (Keeps out.old out.new) }
 {

@@ -5,11 +5,11 @@ ghost use Rattle.bmp_writer.specs.Written.{Appends, Keeps};
 ghost use Rattle.bmp_writer.specs.WrittenAttributes.{AreOthers, attribute_size, others_size, written_other};
 
 use crate::attributes::{left_by_attribute, put_attribute};
+use crate::draft::{Draft, Full};
 use path_attrs::Other;
-use wire_io::{ByteList, NoMemory};
 
 // One of them.
-fn put_other(out: &mut ByteList, other: &Other) -> Result<(), NoMemory>
+fn put_other(out: &mut Draft<'_>, other: &Other) -> Result<(), Full>
     requires { length other.now.value ≤ 65535 }
     ensures ok { OnOk result (Appends (λ bytes. IsAttribute bytes (written_other other.now)) out.old out.new) }
     ensures err { OnErr result (Keeps out.old out.new) }
@@ -17,8 +17,8 @@ fn put_other(out: &mut ByteList, other: &Other) -> Result<(), NoMemory>
     put_attribute(out, other.flags, other.code, other.value.as_slice())
 }
 
-/// Appends them, in their order. Out of memory, fewer bytes stand behind those of before.
-pub(crate) fn put_others(out: &mut ByteList, others: &[Other]) -> Result<(), NoMemory>
+/// Appends them, in their order. Where there is no room fewer bytes stand behind those of before.
+pub(crate) fn put_others(out: &mut Draft<'_>, others: &[Other]) -> Result<(), Full>
     requires { others_size others.now ≤ 65535 }
     ensures ok { OnOk result (Appends (AreOthers others.now) out.old out.new) }
     ensures err { OnErr result (Keeps out.old out.new) }

@@ -8,10 +8,10 @@ ghost use Rattle.bmp_writer.specs.Written.{Appends, Keeps};
 ghost use Rattle.bmp_writer.specs.WrittenAttributes.{HasPath, IsPart, IsShortSegment, segment_size, segments_size, transitive};
 
 use crate::attributes::{TRANSITIVE, put_head, put_numbers};
+use crate::draft::{Draft, Full};
 use as_path::Segment;
 use bmp_specs::SegmentKind;
 use path_attrs::AsPath;
-use wire_io::{ByteList, NoMemory};
 
 /// "Attribute Type Code" of AS_PATH.
 const AS_PATH: u8 = 2;
@@ -29,7 +29,7 @@ fn type_of(kind: SegmentKind) -> u8
 }
 
 // One segment.
-fn put_segment(out: &mut ByteList, segment: &Segment) -> Result<(), NoMemory>
+fn put_segment(out: &mut Draft<'_>, segment: &Segment) -> Result<(), Full>
     requires { IsShortSegment segment.now }
     ensures ok { OnOk result (Appends (λ bytes. IsSegment Width.Four bytes segment.now) out.old out.new) }
     ensures err { OnErr result (Keeps out.old out.new) }
@@ -40,7 +40,7 @@ fn put_segment(out: &mut ByteList, segment: &Segment) -> Result<(), NoMemory>
 }
 
 // The segments, one after another.
-fn put_segments(out: &mut ByteList, path: &[Segment]) -> Result<(), NoMemory>
+fn put_segments(out: &mut Draft<'_>, path: &[Segment]) -> Result<(), Full>
     requires { AllByRecursion IsShortSegment path.now }
     ensures ok { OnOk result (Appends (λ bytes. ArePath Width.Four bytes path.now) out.old out.new) }
     ensures err { OnErr result (Keeps out.old out.new) }
@@ -100,7 +100,7 @@ pub(crate) fn are_short_segments(path: &[Segment]) -> bool
 }
 
 /// AS_PATH.
-pub(crate) fn put_path(out: &mut ByteList, path: &Option<AsPath>) -> Result<(), NoMemory>
+pub(crate) fn put_path(out: &mut Draft<'_>, path: &Option<AsPath>) -> Result<(), Full>
     requires { HasPath path.now }
     ensures ok { OnOk result (Appends (IsPart transitive as_path (λ value. Optional (ArePath Width.Four) value path.now)) out.old out.new) }
     ensures err { OnErr result (Keeps out.old out.new) }

@@ -8,8 +8,9 @@ ghost use Rattle.bmp_writer.specs.WrittenRoutes.{CanCarryRoutes, HasUpWith, IsGi
 ghost use Rattle.bmp_writer.specs.WrittenUpdate.{CanPlace, places, update_size};
 
 use crate::common::{common_header, put};
+use crate::draft::{Draft, Full};
 use crate::peer::{PEER_HEADER, put_peer_header};
-use crate::update::{put_update, sizes_of};
+use crate::update::{put_field, put_update, size_of_update};
 use bgp_update::NlriList;
 use bmp_frames::{COMMON_HEADER, PeerKey, ROUTE_MONITORING, View};
 use ip_prefix::{Family, Nlri};
@@ -18,6 +19,15 @@ use wire_io::{ByteList, NoMemory};
 
 /// The bytes of the common header and the Per-Peer Header.
 const HEADERS: usize = 48;
+
+/// Room for nearly all messages.
+const SHORT: usize = 256;
+
+/// The bytes of these headers and of the longest UPDATE without extended messages (RFC 4271, section 4.1).
+const USUAL: usize = 4_144;
+
+/// The bytes of these headers and of the longest UPDATE of all (RFC 8654, section 3).
+const LONGEST: usize = 65_583;
 
 /// The family of the first prefix.
 pub(crate) fn family_of(withdrawn: &[Nlri], announced: &[Nlri]) -> Family
@@ -35,7 +45,7 @@ pub(crate) fn family_of(withdrawn: &[Nlri], announced: &[Nlri]) -> Family
 }
 
 // The common header and the Per-Peer Header of a message with so many octets behind them.
-fn put_headers(out: &mut ByteList, key: &PeerKey, view: View, size: usize) -> Result<(), NoMemory>
+fn put_headers(out: &mut Draft<'_>, key: &PeerKey, view: View, size: usize) -> Result<(), Full>
     requires short { size ≤ 65535 }
     requires kind { key.now.kind ≤ loc_rib }
     requires family { key.now.kind ≡ loc_rib → key.now.address.family ≡ Family.V4 }
@@ -50,8 +60,53 @@ fn put_headers(out: &mut ByteList, key: &PeerKey, view: View, size: usize) -> Re
     out.extend(&frame[..at])
 }
 
-// Appends the message. Out of memory, fewer bytes stand behind those of before.
+// Appends the message. Its attributes are put together in this room.
 fn put_message(
+    out: &mut Draft<'_>,
+    room: &mut [u8],
+    key: &PeerKey,
+    view: View,
+    withdrawn: &[Nlri],
+    announced: &[Nlri],
+    attrs: &Attrs,
+) -> Result<(), Full>
+    requires { CanCarryRoutes key.now view withdrawn.now announced.now attrs.now }
+    ensures { OnOk result (Appends (IsRoutesMessage key.now view withdrawn.now announced.now attrs.now) out.old out.new) }
+{
+    let family = family_of(withdrawn, announced);
+    let mut field = Draft::new(room);
+    put_field(&mut field, family, withdrawn, announced, attrs)?;
+    let field = field.as_slice();
+    let size = size_of_update(family, withdrawn, announced, attrs, field.len());
+    put_headers(out, key, view, size)?;
+    put_update(out, family, withdrawn, announced, attrs, field, size)
+}
+
+// Appends the message, or nothing where the rooms are too small. It is put together in the first, its attributes in the
+// second.
+fn put_within(
+    out: &mut ByteList,
+    room: &mut [u8],
+    more: &mut [u8],
+    key: &PeerKey,
+    view: View,
+    withdrawn: &[Nlri],
+    announced: &[Nlri],
+    attrs: &Attrs,
+) -> Result<(), NoMemory>
+    requires { CanCarryRoutes key.now view withdrawn.now announced.now attrs.now }
+    ensures ok { OnOk result (Appends (IsRoutesMessage key.now view withdrawn.now announced.now attrs.now) out.old out.new) }
+    ensures err { OnErr result (out.new ≡ out.old) }
+{
+    let mut draft = Draft::new(room);
+    match put_message(&mut draft, more, key, view, withdrawn, announced, attrs) {
+        Ok(()) => out.extend(draft.as_slice()),
+        Err(Full) => Err(NoMemory),
+    }
+}
+
+// Appends the message, or nothing where it is longer than nearly all are.
+fn put_short(
     out: &mut ByteList,
     key: &PeerKey,
     view: View,
@@ -61,12 +116,78 @@ fn put_message(
 ) -> Result<(), NoMemory>
     requires { CanCarryRoutes key.now view withdrawn.now announced.now attrs.now }
     ensures ok { OnOk result (Appends (IsRoutesMessage key.now view withdrawn.now announced.now attrs.now) out.old out.new) }
-    ensures err { OnErr result (Keeps out.old out.new) }
+    ensures err { OnErr result (out.new ≡ out.old) }
 {
-    let family = family_of(withdrawn, announced);
-    let sizes = sizes_of(family, withdrawn, announced, attrs);
-    put_headers(out, key, view, sizes.update)?;
-    put_update(out, family, withdrawn, announced, attrs, sizes)
+    let mut room = [0u8; SHORT];
+    let mut more = [0u8; SHORT];
+    put_within(
+        out, &mut room, &mut more, key, view, withdrawn, announced, attrs,
+    )
+}
+
+// Appends the message, or nothing where it is an extended one.
+#[inline(never)]
+fn put_usual(
+    out: &mut ByteList,
+    key: &PeerKey,
+    view: View,
+    withdrawn: &[Nlri],
+    announced: &[Nlri],
+    attrs: &Attrs,
+) -> Result<(), NoMemory>
+    requires { CanCarryRoutes key.now view withdrawn.now announced.now attrs.now }
+    ensures ok { OnOk result (Appends (IsRoutesMessage key.now view withdrawn.now announced.now attrs.now) out.old out.new) }
+    ensures err { OnErr result (out.new ≡ out.old) }
+{
+    let mut room = [0u8; USUAL];
+    let mut more = [0u8; USUAL];
+    put_within(
+        out, &mut room, &mut more, key, view, withdrawn, announced, attrs,
+    )
+}
+
+// Appends the message, however long it is.
+#[cold]
+#[inline(never)]
+fn put_long(
+    out: &mut ByteList,
+    key: &PeerKey,
+    view: View,
+    withdrawn: &[Nlri],
+    announced: &[Nlri],
+    attrs: &Attrs,
+) -> Result<(), NoMemory>
+    requires { CanCarryRoutes key.now view withdrawn.now announced.now attrs.now }
+    ensures ok { OnOk result (Appends (IsRoutesMessage key.now view withdrawn.now announced.now attrs.now) out.old out.new) }
+    ensures err { OnErr result (out.new ≡ out.old) }
+{
+    let mut room = [0u8; LONGEST];
+    let mut more = [0u8; LONGEST];
+    put_within(
+        out, &mut room, &mut more, key, view, withdrawn, announced, attrs,
+    )
+}
+
+// Appends the message. Little room is tried first, since each byte of it is written before it is used.
+fn put_whole(
+    out: &mut ByteList,
+    key: &PeerKey,
+    view: View,
+    withdrawn: &[Nlri],
+    announced: &[Nlri],
+    attrs: &Attrs,
+) -> Result<(), NoMemory>
+    requires { CanCarryRoutes key.now view withdrawn.now announced.now attrs.now }
+    ensures ok { OnOk result (Appends (IsRoutesMessage key.now view withdrawn.now announced.now attrs.now) out.old out.new) }
+    ensures err { OnErr result (out.new ≡ out.old) }
+{
+    if put_short(out, key, view, withdrawn, announced, attrs).is_ok() {
+        return Ok(());
+    }
+    if put_usual(out, key, view, withdrawn, announced, attrs).is_ok() {
+        return Ok(());
+    }
+    put_long(out, key, view, withdrawn, announced, attrs)
 }
 
 /// Appends a Route Monitoring message with one UPDATE, which withdraws prefixes and then announces others with these
@@ -90,19 +211,12 @@ pub fn put_routes(
     ensures plain { OnOk result (Appends HasPlainHeader out.old out.new) }
     ensures err { OnErr result (out.new ≡ out.old) }
 {
-    let before = out.as_slice().len();
-    match put_message(
+    put_whole(
         out,
         key,
         view,
         withdrawn.as_slice(),
         announced.as_slice(),
         attrs,
-    ) {
-        Ok(()) => Ok(()),
-        Err(NoMemory) => {
-            out.truncate(before);
-            Err(NoMemory)
-        }
-    }
+    )
 }

@@ -5,15 +5,16 @@ ghost use Rattle.bmp_specs.specs.BgpMessage.{marker, update_type};
 ghost use Rattle.bmp_writer.specs.Written.{Appends, Keeps};
 ghost use Rattle.bmp_writer.specs.WrittenAttributes.{IsFront, front_size};
 ghost use Rattle.bmp_writer.specs.WrittenNlri.{AreOwnNlri, nlris_size};
-ghost use Rattle.bmp_writer.specs.WrittenUpdate.{CanPlace, CanTell, HasRoom, IsCountedOf, IsField, IsUpdateOf, field_size, hop_bytes, is_plain as plain_of, of_v4 as at_v4, of_v6 as at_v6, others_of as others_at, places, told_of, update_size, where_so};
+ghost use Rattle.bmp_writer.specs.WrittenUpdate.{CanPlace, CanTell, HasRoom, IsCountedOf, IsField, IsUpdateOf, counted, field_size, hop_bytes, is_plain as plain_of, of_v4 as at_v4, of_v6 as at_v6, others_of as others_at, places, told_of, update_size, where_so};
 
+use crate::draft::{Draft, Full};
 use crate::front::{left_by_front, put_origin_to_communities};
 use crate::multi::{left_by_reach, left_by_unreach, put_reach, put_unreach};
 use crate::nlri::{left_by_nlris, put_nlris, size_of_nlris};
 use crate::others::{left_by_others, put_others};
 use ip_prefix::{Family, Nlri};
 use path_attrs::{Attrs, Other};
-use wire_io::{ByteList, NoMemory};
+use wire_io::ByteList;
 
 /// The bytes of an UPDATE message that has nothing: its header, and two lengths.
 const SHORTEST: usize = 23;
@@ -85,12 +86,7 @@ fn told_others<'a>(announced: &[Nlri], attrs: &'a Attrs) -> &'a [Other]
 }
 
 // The attributes of types 1 to 8, where a prefix is announced.
-fn put_told(
-    out: &mut ByteList,
-    attrs: &Attrs,
-    plain: bool,
-    announced: &[Nlri],
-) -> Result<(), NoMemory>
+fn put_told(out: &mut Draft<'_>, attrs: &Attrs, plain: bool, announced: &[Nlri]) -> Result<(), Full>
     requires { CanTell (told_of plain announced.now attrs.now) }
     ensures ok { OnOk result (Appends (IsFront (told_of plain announced.now attrs.now)) out.old out.new) }
     ensures err { OnErr result (Keeps out.old out.new) }
@@ -148,53 +144,32 @@ pub(crate) fn left_by_update(
     left_by_nlris(left, where_there(plain, announced))
 }
 
-// How many octets all attributes take.
-fn size_of_field(family: Family, withdrawn: &[Nlri], announced: &[Nlri], attrs: &Attrs) -> usize
-    requires { CanPlace (places family withdrawn.now announced.now attrs.now) }
-    ensures { result ≡ field_size (places family withdrawn.now announced.now attrs.now) }
-{
-    match left_by_field(LONGEST, family, withdrawn, announced, attrs) {
-        Some(left) => LONGEST - left,
-        None => unreachable!(),
-    }
-}
-
-/// How many octets the attributes of a message take, and how many it takes itself.
-#[derive(Clone, Copy)]
-pub(crate) struct Sizes {
-    pub(crate) field: usize,
-    pub(crate) update: usize,
-}
-
-/// The sizes of the message.
-pub(crate) fn sizes_of(
+/// How many octets the message takes, whose attributes take so many.
+pub(crate) fn size_of_update(
     family: Family,
     withdrawn: &[Nlri],
     announced: &[Nlri],
     attrs: &Attrs,
-) -> Sizes
-    requires { CanPlace (places family withdrawn.now announced.now attrs.now) }
-    ensures field { result.field ≡ field_size (places family withdrawn.now announced.now attrs.now) }
-    ensures update { result.update ≡ update_size (places family withdrawn.now announced.now attrs.now) }
+    field: usize,
+) -> usize
+    requires can { CanPlace (places family withdrawn.now announced.now attrs.now) }
+    requires field { field ≡ field_size (places family withdrawn.now announced.now attrs.now) }
+    ensures { result ≡ update_size (places family withdrawn.now announced.now attrs.now) }
 {
-    let field = size_of_field(family, withdrawn, announced, attrs);
     let before = size_of_nlris(of_v4(family, withdrawn));
     let plain = is_plain(family, &attrs.hop);
     let after = size_of_nlris(where_there(plain, announced));
-    Sizes {
-        field,
-        update: SHORTEST + before + field + after,
-    }
+    SHORTEST + before + field + after
 }
 
-// "Path Attributes".
-fn put_field(
-    out: &mut ByteList,
+/// "Path Attributes". Where there is no room fewer bytes stand behind those of before.
+pub(crate) fn put_field(
+    out: &mut Draft<'_>,
     family: Family,
     withdrawn: &[Nlri],
     announced: &[Nlri],
     attrs: &Attrs,
-) -> Result<(), NoMemory>
+) -> Result<(), Full>
     requires { CanPlace (places family withdrawn.now announced.now attrs.now) }
     ensures ok { OnOk result (Appends (IsField family (places family withdrawn.now announced.now attrs.now)) out.old out.new) }
     ensures err { OnErr result (Keeps out.old out.new) }
@@ -211,27 +186,19 @@ fn put_field(
     put_others(out, told_others(announced, attrs))
 }
 
-// "Path Attributes" behind their length, which is this.
-fn put_counted_field(
-    out: &mut ByteList,
-    family: Family,
-    withdrawn: &[Nlri],
-    announced: &[Nlri],
-    attrs: &Attrs,
-    size: usize,
-) -> Result<(), NoMemory>
-    requires can { CanPlace (places family withdrawn.now announced.now attrs.now) }
-    requires size { size ≡ field_size (places family withdrawn.now announced.now attrs.now) }
-    ensures ok { OnOk result (Appends (IsCountedOf (IsField family (places family withdrawn.now announced.now attrs.now))) out.old out.new) }
+// "Path Attributes", which are these, behind their length.
+fn put_counted_field(out: &mut Draft<'_>, field: &[u8]) -> Result<(), Full>
+    requires { length field.now ≤ 65535 }
+    ensures ok { OnOk result (out.new ≡ out.old ++ counted field.now) }
     ensures err { OnErr result (Keeps out.old out.new) }
 {
-    let size = size as u16;
+    let size = field.len() as u16;
     out.extend(&size.to_be_bytes())?;
-    put_field(out, family, withdrawn, announced, attrs)
+    out.extend(field)
 }
 
 // "Withdrawn Routes" behind their length.
-fn put_counted_nlris(out: &mut ByteList, list: &[Nlri]) -> Result<(), NoMemory>
+fn put_counted_nlris(out: &mut Draft<'_>, list: &[Nlri]) -> Result<(), Full>
     requires { nlris_size list.now ≤ 65535 }
     ensures ok { OnOk result (Appends (IsCountedOf (AreOwnNlri list.now)) out.old out.new) }
     ensures err { OnErr result (Keeps out.old out.new) }
@@ -252,25 +219,26 @@ fn header(size: u16) -> [u8; 19]
     ]
 }
 
-/// Appends the message, which has these sizes. Out of memory, fewer bytes stand behind those of before.
+/// Appends the message, which has these attributes and this size. Where there is no room fewer bytes stand behind those of
+/// before.
 pub(crate) fn put_update(
-    out: &mut ByteList,
+    out: &mut Draft<'_>,
     family: Family,
     withdrawn: &[Nlri],
     announced: &[Nlri],
     attrs: &Attrs,
-    sizes: Sizes,
-) -> Result<(), NoMemory>
+    field: &[u8],
+    size: usize,
+) -> Result<(), Full>
     requires can { CanPlace (places family withdrawn.now announced.now attrs.now) }
-    requires field { sizes.field ≡ field_size (places family withdrawn.now announced.now attrs.now) }
-    requires update { sizes.update ≡ update_size (places family withdrawn.now announced.now attrs.now) }
+    requires field { IsField family (places family withdrawn.now announced.now attrs.now) field.now }
+    requires size { size ≡ update_size (places family withdrawn.now announced.now attrs.now) }
     ensures ok { OnOk result (Appends (IsUpdateOf family (places family withdrawn.now announced.now attrs.now)) out.old out.new) }
     ensures err { OnErr result (Keeps out.old out.new) }
 {
     let plain = is_plain(family, &attrs.hop);
-    let size = sizes.update as u16;
-    out.extend(&header(size))?;
+    out.extend(&header(size as u16))?;
     put_counted_nlris(out, of_v4(family, withdrawn))?;
-    put_counted_field(out, family, withdrawn, announced, attrs, sizes.field)?;
+    put_counted_field(out, field)?;
     put_nlris(out, where_there(plain, announced))
 }

@@ -1,23 +1,30 @@
+use Rattle.std.proofs.lemmas.Result.{on_ok_weaker}
 use Rattle.bmp_writer.specs.Written.{Appends}
 use Rattle.bmp_writer.specs.WrittenRoutes.{IsRoutesMessage}
 use Rattle.bmp_writer.proofs.RoutesPut.{routes_fill, routes_moved, routes_plain}
 use Rattle.bmp_writer.proofs.RoutesWritten.{routes_appended}
 use Rattle.bmp_writer.proofs.routes.put_routes.Goals as goal
 
-pub returns-in-Ok-clause-ok : goal.returns-in-Ok-clause-ok
-returns-in-Ok-clause-ok c =
-    let here : Appends (IsRoutesMessage c.args.key.now c.args.view c.args.withdrawn.now c.args.announced.now c.args.attrs.now) c.args.out.now c.put_message.new.out =
-    routes_moved c.args.key.now c.args.view c.as_slice.result.now c.args.withdrawn.now c.as_slice-2.result.now c.args.announced.now c.args.attrs.now c.args.out.now c.put_message.new.out c.as_slice.ensures c.as_slice-2.ensures c.in-Ok.ensures.ok in
-    routes_appended c.args.key.now c.args.view c.args.withdrawn.now c.args.announced.now c.args.attrs.now c.args.out.now c.put_message.new.out c.requires here
+pub returns-clause-ok : goal.returns-clause-ok
+returns-clause-ok c =
+    on_ok_weaker c.put_whole.result
+    (λ (p : Appends (IsRoutesMessage c.args.key.now c.args.view c.as_slice.result.now c.as_slice-2.result.now c.args.attrs.now) c.args.out.now c.put_whole.new.out).
+    routes_appended c.args.key.now c.args.view c.args.withdrawn.now c.args.announced.now c.args.attrs.now c.args.out.now c.put_whole.new.out c.requires
+    (routes_moved c.args.key.now c.args.view c.as_slice.result.now c.args.withdrawn.now c.as_slice-2.result.now c.args.announced.now c.args.attrs.now c.args.out.now c.put_whole.new.out c.as_slice.ensures c.as_slice-2.ensures p))
+    c.put_whole.ensures.ok
 
-pub returns-in-Ok-clause-size : goal.returns-in-Ok-clause-size
-returns-in-Ok-clause-size c =
-    let here : Appends (IsRoutesMessage c.args.key.now c.args.view c.args.withdrawn.now c.args.announced.now c.args.attrs.now) c.args.out.now c.put_message.new.out =
-    routes_moved c.args.key.now c.args.view c.as_slice.result.now c.args.withdrawn.now c.as_slice-2.result.now c.args.announced.now c.args.attrs.now c.args.out.now c.put_message.new.out c.as_slice.ensures c.as_slice-2.ensures c.in-Ok.ensures.ok in
-    routes_fill c.args.key.now c.args.view c.args.withdrawn.now c.args.announced.now c.args.attrs.now c.args.out.now c.put_message.new.out here
+pub returns-clause-size : goal.returns-clause-size
+returns-clause-size c =
+    on_ok_weaker c.put_whole.result
+    (λ (p : Appends (IsRoutesMessage c.args.key.now c.args.view c.as_slice.result.now c.as_slice-2.result.now c.args.attrs.now) c.args.out.now c.put_whole.new.out).
+    routes_fill c.args.key.now c.args.view c.args.withdrawn.now c.args.announced.now c.args.attrs.now c.args.out.now c.put_whole.new.out
+    (routes_moved c.args.key.now c.args.view c.as_slice.result.now c.args.withdrawn.now c.as_slice-2.result.now c.args.announced.now c.args.attrs.now c.args.out.now c.put_whole.new.out c.as_slice.ensures c.as_slice-2.ensures p))
+    c.put_whole.ensures.ok
 
-pub returns-in-Ok-clause-plain : goal.returns-in-Ok-clause-plain
-returns-in-Ok-clause-plain c =
-    let here : Appends (IsRoutesMessage c.args.key.now c.args.view c.args.withdrawn.now c.args.announced.now c.args.attrs.now) c.args.out.now c.put_message.new.out =
-    routes_moved c.args.key.now c.args.view c.as_slice.result.now c.args.withdrawn.now c.as_slice-2.result.now c.args.announced.now c.args.attrs.now c.args.out.now c.put_message.new.out c.as_slice.ensures c.as_slice-2.ensures c.in-Ok.ensures.ok in
-    routes_plain c.args.key.now c.args.view c.args.withdrawn.now c.args.announced.now c.args.attrs.now c.args.out.now c.put_message.new.out here
+pub returns-clause-plain : goal.returns-clause-plain
+returns-clause-plain c =
+    on_ok_weaker c.put_whole.result
+    (λ (p : Appends (IsRoutesMessage c.args.key.now c.args.view c.as_slice.result.now c.as_slice-2.result.now c.args.attrs.now) c.args.out.now c.put_whole.new.out).
+    routes_plain c.args.key.now c.args.view c.args.withdrawn.now c.args.announced.now c.args.attrs.now c.args.out.now c.put_whole.new.out
+    (routes_moved c.args.key.now c.args.view c.as_slice.result.now c.args.withdrawn.now c.as_slice-2.result.now c.args.announced.now c.args.attrs.now c.args.out.now c.put_whole.new.out c.as_slice.ensures c.as_slice-2.ensures p))
+    c.put_whole.ensures.ok
