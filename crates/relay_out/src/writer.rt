@@ -10,7 +10,7 @@ use bgp_open::PeerInfo;
 use bmp_frames::PeerKey;
 use bmp_specs::View;
 use ip_prefix::Nlri;
-use path_attrs::Attrs;
+use path_attrs::{AsPath, Attrs};
 use rib_model::Route;
 use route_runs::RouteTable;
 use std::alloc::Global;
@@ -21,25 +21,58 @@ use wire_io::{ByteList, Sink, write_all};
 /// So many bytes are gathered before they are written.
 const ENOUGH: usize = 32_768;
 
-// About how many octets the announcement of a route takes: 128 for its headers, its prefix and the attributes that most
-// routes have, 4 for each community, and 16 for each path segment and for each attribute that is kept as it came.
-fn octets_about(attrs: &Attrs) -> usize {
-    let segments = match &attrs.path {
-        Some(path) => path.as_slice().len(),
-        None => 0,
-    };
-    let communities = attrs.communities.as_slice().len().saturating_mul(4);
-    let listed = segments
-        .saturating_add(attrs.others.as_slice().len())
-        .saturating_mul(16);
-    communities.saturating_add(listed).saturating_add(128)
+// About how many octets these numbers take. They are fetched, since the last bit of the first one counts.
+fn octets_of_numbers(numbers: &[u32]) -> usize {
+    if numbers.is_empty() {
+        return 0;
+    }
+    let bit = (numbers[0] % 2) as usize;
+    numbers.len().saturating_mul(4).saturating_add(bit)
 }
 
-// About how many octets the announcements of these routes take.
+// About how many octets a path takes.
+fn octets_of_path(path: &Option<AsPath>) -> usize {
+    let Some(path) = path else {
+        return 0;
+    };
+    let mut octets: usize = 0;
+    for segment in path.as_slice() {
+        octets = octets.saturating_add(octets_of_numbers(segment.numbers.as_slice()));
+    }
+    octets
+}
+
+// How many octets a next hop takes.
+fn octets_of_hop(hop: &Option<ByteList>) -> usize {
+    match hop {
+        Some(hop) => hop.as_slice().len(),
+        None => 0,
+    }
+}
+
+// About how many octets the attributes of a route take that have lists.
+fn octets_of_lists(attrs: &Attrs) -> usize {
+    let others = attrs.others.as_slice().len().saturating_mul(16);
+    octets_of_path(&attrs.path)
+        .saturating_add(octets_of_numbers(attrs.communities.as_slice()))
+        .saturating_add(octets_of_hop(&attrs.hop))
+        .saturating_add(others)
+}
+
+// About how many octets the announcement of a route takes beside its lists.
+fn octets_without_lists(attrs: &Attrs) -> usize {
+    if attrs.origin.is_some() { 100 } else { 96 }
+}
+
+// About how many octets the announcements of these routes take. What lies in one place is looked at for all routes before
+// what lies behind it, so that the routes are fetched from memory side by side.
 fn octets_of(routes: &[&Route]) -> usize {
     let mut octets: usize = 0;
     for route in routes {
-        octets = octets.saturating_add(octets_about(route));
+        octets = octets.saturating_add(octets_without_lists(route));
+    }
+    for route in routes {
+        octets = octets.saturating_add(octets_of_lists(route));
     }
     octets
 }
