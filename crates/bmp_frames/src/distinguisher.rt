@@ -9,6 +9,7 @@ pub(crate) fn digits_of(distinguisher: u64) -> [u8; 16]
 {
     let mut digits = [0u8; 16];
     if hex::encode_to_slice(distinguisher.to_be_bytes(), &mut digits).is_err() {
+        // 16 digits have room for 8 octets
         unreachable!();
     }
     digits

@@ -96,6 +96,7 @@ pub(crate) fn size_of_nlris(list: &[Nlri]) -> usize
 {
     match left_by_nlris(65535, list) {
         Some(left) => 65535 - left,
+        // the premise bounds the size
         None => unreachable!(),
     }
 }

@@ -83,6 +83,7 @@ pub(crate) fn size_of_segments(path: &[Segment]) -> usize
 {
     match left_by_segments(65535, path) {
         Some(left) => 65535 - left,
+        // the premise bounds the size
         None => unreachable!(),
     }
 }

@@ -178,6 +178,7 @@ fn is_some(message: &Open) -> bool
     ensures { IsTrue result ↔ IsSome message.now }
 {
     if !has_four_octets(message.identifier) {
+        // an identifier has four octets; the branch tells this to the proof
         unreachable!();
     }
     if message.extended {

@@ -1,8 +1,8 @@
-//! Want of memory.
+//! Out of memory.
 
 use std::alloc::AllocError;
 
-/// Want of memory.
+/// There was no memory.
 #[derive(Debug, Drop)]
 pub struct NoMemory;
 

@@ -28,7 +28,7 @@ pub enum Refused<S: Drop> {
     NoMemory { value: Arc<S> },
 }
 
-/// Appends the entries to the history as the lane's, in one step. On want of memory the history and
+/// Appends the entries to the history as the lane's, in one step. Out of memory, the history and
 /// the pass are as before, and the value comes back.
 ///
 /// It may wait for the lock, and for askers to leave a copy of the cell. It takes its memory before

@@ -31,6 +31,7 @@ fn queue<S: Subject + Drop, R: Wait>(rt: &R, writer: &mut CellWriter<S>, shown: 
             Err(back) => shown = back,
         }
     }
+    // the loop is left by its `return` alone
     unreachable!()
 }
 
@@ -49,6 +50,7 @@ fn turn<S: Subject + Drop, R: Wait>(rt: &R, writer: CellWriter<S>) -> CellWriter
             Err(back) => writer = back,
         }
     }
+    // the loop is left by its `return` alone
     unreachable!()
 }
 

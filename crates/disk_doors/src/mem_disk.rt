@@ -54,6 +54,7 @@ fn lengthen(bytes: &mut Vec<u8>, end: usize)
 {
     let size = bytes.len().max(end);
     if bytes.resize(size, 0).is_err() {
+        // the premise leaves room for it
         unreachable!();
     }
 }

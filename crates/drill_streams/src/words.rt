@@ -39,6 +39,7 @@ pub(crate) fn prefix_of(word: u32) -> Nlri
     let fourth = (word / 16384 % 16) as u8;
     match Prefix::new(Addr::v4([10, third, fourth, 0]), 24) {
         Some(prefix) => Nlri { prefix, id: None },
+        // an IPv4 prefix of 24 bits is one
         None => unreachable!(),
     }
 }

@@ -57,6 +57,7 @@ fn make_path(alloc: Global, value: Option<&[u8]>, width: Width) -> Result<Option
         None => Ok(None),
         Some(bytes) => match AsPath::read(alloc, bytes, width) {
             Ok(path) => Ok(Some(path)),
+            // excluded by the premise: the value is a path
             Err(BodyFault::Broken) => unreachable!(),
             Err(BodyFault::NoMemory) => Err(NoMemory),
         },

@@ -54,8 +54,8 @@ impl Changes {
         }
     }
 
-    /// Announces a route for each of these NLRI, those of one UPDATE message (RFC 4271, section 4.3). After want of
-    /// memory no change is left.
+    /// Announces a route for each of these NLRI, those of one UPDATE message (RFC 4271, section 4.3). Out of
+    /// memory, no change is left.
     pub fn announce(&mut self, nlri: &[Nlri], route: &Route) -> Result<(), NoMemory>
         ensures ok { OnOk result (AreChangedTo nlri_cmp nlri.now (Some (arc_value route.now)) self.old self.new) }
         ensures err { OnErr result (self.new ≡ []) }
@@ -63,8 +63,8 @@ impl Changes {
         self.change(nlri, Some(route))
     }
 
-    /// Withdraws the routes of these NLRI (RFC 4271, section 4.3), whether or not a table has them. After want of
-    /// memory no change is left.
+    /// Withdraws the routes of these NLRI (RFC 4271, section 4.3), whether or not a table has them. Out of
+    /// memory, no change is left.
     pub fn withdraw(&mut self, nlri: &[Nlri]) -> Result<(), NoMemory>
         ensures ok { OnOk result (AreChangedTo nlri_cmp nlri.now None self.old self.new) }
         ensures err { OnErr result (self.new ≡ []) }

@@ -108,6 +108,7 @@ impl Sink for MemLink {
         }
         let count = left.min(piece.len());
         if self.written.extend_from_slice(&piece[..count]).is_err() {
+            // `new` took the memory for the room
             unreachable!();
         }
         Ok(count)

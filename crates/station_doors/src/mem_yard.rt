@@ -239,6 +239,7 @@ impl<E: Drop> Yard for MemYard<E> {
         }
         let port = self.ports.remove(0);
         if self.out.insert(0, lane).is_err() {
+            // `new` took the memory for the ports
             unreachable!();
         }
         Ok(port)
@@ -257,6 +258,7 @@ impl<E: Drop> Yard for MemYard<E> {
         }
         let link = self.links.remove(0);
         if self.links_out.insert(0, number).is_err() {
+            // `new` took the memory for the links
             unreachable!();
         }
         Ok(link)
@@ -302,6 +304,7 @@ impl<E: Drop> Yard for MemYard<E> {
     fn take_port(&mut self, lane: u32, port: MemPort) {
         if take_out(&mut self.out, lane) {
             if self.back.push(Back { lane, port }).is_err() {
+                // `new` took the memory for the ports
                 unreachable!();
             }
         }
@@ -310,6 +313,7 @@ impl<E: Drop> Yard for MemYard<E> {
     fn take_link(&mut self, number: u32, link: MemLink) {
         if take_out(&mut self.links_out, number) {
             if self.links_back.push(LinkBack { number, link }).is_err() {
+                // `new` took the memory for the links
                 unreachable!();
             }
         }

@@ -71,7 +71,7 @@ abbrev pub AsksServe : ℕ → Site → List AskRun → Type 0
 AsksServe rounds site [] = Unit {0}
 AsksServe rounds site (r ∷ rs) = AskServes rounds site r × AsksServe rounds site rs
 
--- The same, and its part of the history is what its pass published: the lives of these connections, or, after want of
+-- The same, and its part of the history is what its pass published: the lives of these connections, or, out of
 -- memory, all but a beginning of the last one's.
 pub record IsLaneRun (meaning : Meaning) (rounds : ℕ) (site : Site) (history : History) (lane : ℕ) (r : LaneRun) : Type 0 where
   pub lane_serves : LaneServes meaning rounds site lane r

@@ -70,6 +70,7 @@ fn open_port(alloc: Global, stream: ByteList) -> Result<LanePort<SurePort>, NoMe
     let mut port = SurePort::new(alloc, &[stream], PIECE)?;
     match port.next_connection() {
         Ok(true) => Ok(LanePort::new(port)),
+        // no port of a drill ends or fails before its first connection
         Ok(false) | Err(_) => unreachable!(),
     }
 }

@@ -32,6 +32,7 @@ fn pair_asks<B: BodyReading + Drop, P: Drop, K: Link + Drop>(
 {
     while let Some(pass) = asks.pop() {
         let Some(link) = doors.pop() else {
+            // the premise: as many links as passes
             unreachable!();
         };
         let work = AskWork {
@@ -61,6 +62,7 @@ fn pair_lanes<B: BodyReading + Drop, P: Drop, K: Link + Drop>(
 {
     while let Some(pass) = feeds.pop() {
         let Some(port) = doors.pop() else {
+            // the premise: as many ports as passes
             unreachable!();
         };
         let work = LaneWork {

@@ -10,6 +10,7 @@ pub fn place<T: Drop>(list: &mut Vec<T>, item: T)
     ensures capacity { vec_capacity list.old ≤ vec_capacity list.new }
 {
     if list.push(item).is_err() {
+        // the premise leaves room for it
         unreachable!();
     }
 }

@@ -146,6 +146,7 @@ fn name_of(types: &CodeTable<7>, kind: u8) -> &[u8]
 {
     match types.name(kind as u16) {
         Some(name) => name.as_bytes(),
+        // excluded by the premise: the types up to 6 have names
         None => unreachable!(),
     }
 }

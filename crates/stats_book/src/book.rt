@@ -43,8 +43,8 @@ impl StatsBook {
         }
     }
 
-    /// Sets a peer's statistic, in the place of the one of the same code, AFI and SAFI. After want of
-    /// memory the book is as before.
+    /// Sets a peer's statistic, in the place of the one of the same code, AFI and SAFI. Out of
+    /// memory, the book is as before.
     pub fn set(&mut self, key: PeerKey, stat: Stat) -> Result<(), NoMemory>
         ensures ok { OnOk result (self.new ≡ with_stat self.old key stat) }
         ensures err { OnErr result (self.new ≡ self.old) }

@@ -129,7 +129,7 @@ impl AsPath {
     }
 
     /// Whether the bytes are the value of an AS_PATH attribute (RFC 4271, section 4.3), or of AS4_PATH in
-    /// four bytes (RFC 6793, section 3): a list of segments. `read` gives their path exactly there, want of
+    /// four bytes (RFC 6793, section 3): a list of segments. `read` gives their path exactly there, out of
     /// memory aside. Takes no memory, and looks at the header of each segment once.
     pub fn is_path(value: &[u8], width: Width) -> bool
         ensures { IsTrue result ↔ ((path : Listed SegmentValue) × ArePath width value.now path) }
