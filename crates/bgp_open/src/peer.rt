@@ -40,7 +40,17 @@ impl Model for PeerInfo {
 
     ghost Value = { PeerInfoValue };
 
-    ghost view = { λ i. record { asn = i.asn; identifier = i.identifier; local = i.local; local_port = i.local_port; remote_port = i.remote_port; sent = i.sent; received = i.received; filtered = i.filtered; table = i.table } };
+    ghost view = { λ i. record {
+      asn = i.asn;
+      identifier = i.identifier;
+      local = i.local;
+      local_port = i.local_port;
+      remote_port = i.remote_port;
+      sent = i.sent;
+      received = i.received;
+      filtered = i.filtered;
+      table = i.table;
+    } };
 }
 
 /// What a Peer Down Notification tells (RFC 7854, section 4.9).

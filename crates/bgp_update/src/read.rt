@@ -47,7 +47,8 @@ fn make_update(
     found: &Found<'_>,
     read: AttrsRead,
 ) -> Result<Update, BodyFault>
-    ensures withdrawn { IfOk result (λ u. (gone lost : List NlriValue) → AreNlri V4 (uses_ids ids V4) found.now.fields.withdrawn.now gone → AreMpNlri ids read.unreach lost → u.withdrawn ≡ gone ++ lost) }
+    ensures withdrawn { IfOk result (λ u. (gone lost : List NlriValue) → AreNlri V4 (uses_ids ids V4) found.now.fields.withdrawn.now gone
+        → AreMpNlri ids read.unreach lost → u.withdrawn ≡ gone ++ lost) }
     ensures plain { IfOk result (λ u. (ns : List NlriValue) → AreNlri V4 (uses_ids ids V4) found.now.fields.nlri.now ns → u.plain ≡ ns) }
     ensures multi { IfOk result (λ u. (ns : List NlriValue) → AreMpNlri ids read.reach ns → u.multi ≡ ns) }
     ensures attrs { IfOk result (λ u. (u.plain_attrs ≡ read.attrs) × (u.multi_attrs ≡ with_hop_of read.reach read.attrs)) }
@@ -65,7 +66,15 @@ fn make_update(
 // The UPDATE of these.
 #[inline(always)]
 fn update_of(lists: Lists, shared: SharedAttrs, mark: Option<Family>, unread: u32) -> Update
-    ensures { result ≡ record { withdrawn = lists.withdrawn; plain = lists.plain; plain_attrs = arc_value shared.plain; multi = lists.multi; multi_attrs = arc_value shared.multi; mark = mark; unread = unread } }
+    ensures { result ≡ record {
+      withdrawn = lists.withdrawn;
+      plain = lists.plain;
+      plain_attrs = arc_value shared.plain;
+      multi = lists.multi;
+      multi_attrs = arc_value shared.multi;
+      mark = mark;
+      unread = unread;
+    } }
 {
     Update {
         withdrawn: lists.withdrawn,
@@ -94,7 +103,8 @@ fn make_lists(
     found: &Found<'_>,
     read: &AttrsRead,
 ) -> Result<Lists, NoMemory>
-    ensures withdrawn { IfOk result (λ l. (gone lost : List NlriValue) → AreNlri V4 (uses_ids ids V4) found.now.fields.withdrawn.now gone → AreMpNlri ids read.now.unreach lost → l.withdrawn ≡ gone ++ lost) }
+    ensures withdrawn { IfOk result (λ l. (gone lost : List NlriValue) → AreNlri V4 (uses_ids ids V4) found.now.fields.withdrawn.now gone
+        → AreMpNlri ids read.now.unreach lost → l.withdrawn ≡ gone ++ lost) }
     ensures plain { IfOk result (λ l. (ns : List NlriValue) → AreNlri V4 (uses_ids ids V4) found.now.fields.nlri.now ns → l.plain ≡ ns) }
     ensures multi { IfOk result (λ l. (ns : List NlriValue) → AreMpNlri ids read.now.reach ns → l.multi ≡ ns) }
 {

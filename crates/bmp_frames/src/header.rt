@@ -36,9 +36,27 @@ impl Model for PeerHeader {
 
     ghost Value = { HeaderValue };
 
-    ghost view = { λ h. record { kind = h.kind; flags = h.flags; distinguisher = h.distinguisher; address = h.address; asn = h.asn; identifier = h.identifier; seconds = h.seconds; micros = h.micros } };
+    ghost view = { λ h. record {
+      kind = h.kind;
+      flags = h.flags;
+      distinguisher = h.distinguisher;
+      address = h.address;
+      asn = h.asn;
+      identifier = h.identifier;
+      seconds = h.seconds;
+      micros = h.micros;
+    } };
 
-    ghost inverse = { λ v. record { kind = v.kind; flags = v.flags; distinguisher = v.distinguisher; address = v.address; asn = v.asn; identifier = v.identifier; seconds = v.seconds; micros = v.micros } };
+    ghost inverse = { λ v. record {
+      kind = v.kind;
+      flags = v.flags;
+      distinguisher = v.distinguisher;
+      address = v.address;
+      asn = v.asn;
+      identifier = v.identifier;
+      seconds = v.seconds;
+      micros = v.micros;
+    } };
 }
 
 impl PeerHeader {

@@ -123,7 +123,9 @@ fn put_message(out: &mut ByteList, key: &PeerKey, info: &PeerInfo) -> Result<(),
 /// bytes. An OPEN with extended parameters (RFC 9072) is written without them. After `NoMemory` the list is as before.
 pub fn put_peer_up(out: &mut ByteList, key: &PeerKey, info: &PeerInfo) -> Result<(), NoMemory>
     requires { CanCarry key.now info.now }
-    ensures ok { OnOk result (IsSome info.now.sent → IsSome info.now.received → Appends (IsWritten peer_up_type Always (up key.now (with_unextended info.now) ∷ []) (with_opens key.now (record { sent = unextended info.now.sent; received = unextended info.now.received }))) out.old out.new) }
+    ensures ok { OnOk result (IsSome info.now.sent → IsSome info.now.received
+        → Appends (IsWritten peer_up_type Always (up key.now (with_unextended info.now) ∷ [])
+        (with_opens key.now (record { sent = unextended info.now.sent; received = unextended info.now.received }))) out.old out.new) }
     ensures bytes { OnOk result (Appends (IsUpMessage key.now info.now) out.old out.new) }
     ensures header { OnOk result (Appends (HasUpHeader key.now info.now) out.old out.new) }
     ensures size { OnOk result (length out.new ≡ length out.old + peer_up_size info.now) }

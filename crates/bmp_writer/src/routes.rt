@@ -205,7 +205,9 @@ pub fn put_routes(
     attrs: &Attrs,
 ) -> Result<(), NoMemory>
     requires { CanCarryRoutes key.now view withdrawn.now announced.now attrs.now }
-    ensures ok { OnOk result (IsGiven attrs.now → Appends (IsWritten route_monitoring_type (HasUpWith key.now view (family_at (withdrawn.now ++ announced.now)) (ids_of (withdrawn.now ++ announced.now))) (routes_effects key.now view withdrawn.now announced.now attrs.now) unchanged) out.old out.new) }
+    ensures ok { OnOk result (IsGiven attrs.now → Appends (IsWritten route_monitoring_type
+        (HasUpWith key.now view (family_at (withdrawn.now ++ announced.now)) (ids_of (withdrawn.now ++ announced.now)))
+        (routes_effects key.now view withdrawn.now announced.now attrs.now) unchanged) out.old out.new) }
     ensures bytes { OnOk result (Appends (IsRoutesMessage key.now view withdrawn.now announced.now attrs.now) out.old out.new) }
     ensures size { OnOk result (length out.new ≡ length out.old + routes_size withdrawn.now announced.now attrs.now) }
     ensures plain { OnOk result (Appends HasPlainHeader out.old out.new) }

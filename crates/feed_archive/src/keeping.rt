@@ -157,11 +157,13 @@ impl<P: Port, D: Disk> Port for KeepPort<P, D> {
         requires size { length buf.old ≡ read_size (keep_aside (P.aside self.old.inner) (P.aside self.old.before) self.old.events).taken }
         requires is_open { IsTrue (keep_aside (P.aside self.old.inner) (P.aside self.old.before) self.old.events).is_open }
         ensures bound { ReadsAtMost result buf.new }
-        ensures reads { Reads (keep_aside (P.aside self.old.inner) (P.aside self.old.before) self.old.events) (keep_aside (P.aside self.new.inner) (P.aside self.new.before) self.new.events) result buf.new }
+        ensures reads { Reads (keep_aside (P.aside self.old.inner) (P.aside self.old.before) self.old.events)
+            (keep_aside (P.aside self.new.inner) (P.aside self.new.before) self.new.events) result buf.new }
         ensures planned { AsPlanned (keep_aside (P.aside self.old.inner) (P.aside self.old.before) self.old.events).plan 0 0 result }
         ensures stays { stays_of P.aside P.calls D.shows D.faults self.new ≡ stays_of P.aside P.calls D.shows D.faults self.old }
         ensures went { Went (Some (went_of self.old.events)) (Some (went_of self.new.events)) result }
-        ensures any_moment { D.tells → (first : List ℕ) → HasOnly (D.shows self.old.made.disk).now first → Passes (HasBetween first (gave self.old.events) (gave self.new.events ++ lost self.new.events)) (D.shows self.old.archive.disk) (D.shows self.new.archive.disk) }
+        ensures any_moment { D.tells → (first : List ℕ) → HasOnly (D.shows self.old.made.disk).now first
+            → Passes (HasBetween first (gave self.old.events) (gave self.new.events ++ lost self.new.events)) (D.shows self.old.archive.disk) (D.shows self.new.archive.disk) }
     {
         if self.refused.is_some() {
             self.notes.note(&[FAILED_LATER, 0], &[]);

@@ -46,7 +46,9 @@ pub(crate) struct Gathered<'a> {
 
 // Reads the header of each attribute of the field, once.
 pub(crate) fn gather(alloc: Global, field: &[u8]) -> Result<Gathered<'_>, NoMemory>
-    ensures values { IfOk result (λ g. (parts : List OtherValue) → AreParts IsAttribute field.now parts → IsDistinct (λ j k. j == k) (map (λ a. a.code) parts) → (code : ℕ) → code ≤ as4_aggregator → value_at g.values code ≡ value_of code parts) }
+    ensures values { IfOk result (λ g. (parts : List OtherValue) → AreParts IsAttribute field.now parts
+        → IsDistinct (λ j k. j == k) (map (λ a. a.code) parts) → (code : ℕ) → code ≤ as4_aggregator
+        → value_at g.values code ≡ value_of code parts) }
     ensures others { IfOk result (λ g. (parts : List OtherValue) → AreParts IsAttribute field.now parts → g.others ≡ kept_of parts) }
 {
     let mut values = [None; PLACES];

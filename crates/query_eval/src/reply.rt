@@ -107,7 +107,8 @@ fn put_buffered<O: Sink>(out: &mut O, cut: &Cut<RouterTables>, query: &Query) ->
 /// The lines go through a buffer, which is handed on at the end. It takes no memory.
 pub fn answer<O: Sink>(cut: &Cut<RouterTables>, query: &Query, out: &mut O) -> Result<(), Failed>
     requires { query_value query.now ≢ quit }
-    ensures reply { (history : List (Event Entry)) → StandsForHistory cut.now history → PutsReply O.faults O.told O.aside (IsReplyOn (query_value query.now) (length cut.now) history) out.old result out.new }
+    ensures reply { (history : List (Event Entry)) → StandsForHistory cut.now history
+        → PutsReply O.faults O.told O.aside (IsReplyOn (query_value query.now) (length cut.now) history) out.old result out.new }
     ensures kept { O.aside out.new ≡ O.aside out.old }
     ensures cause { HasCause (O.faults out.old) (O.faults out.new) result }
 {

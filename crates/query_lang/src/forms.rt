@@ -90,7 +90,8 @@ fn only_peer(rest: &[u8]) -> Option<PeerKey>
 // Reads a lane, the number of a step and a prefix, and nothing behind them.
 fn lane_step_and_prefix(rest: &[u8]) -> Option<(u32, u64, Prefix)>
     ensures some { IfSome result (λ r. IsChangesQuery r.0 r.1 r.2 (codes "changes" ∷ further_words rest.now)) }
-    ensures only { IfSome result (λ r. (lane from : ℕ) (p : PrefixValue) → IsChangesQuery lane from p (codes "changes" ∷ further_words rest.now) → (lane ≡ r.0) × (from ≡ r.1) × (p ≡ r.2)) }
+    ensures only { IfSome result (λ r. (lane from : ℕ) (p : PrefixValue) → IsChangesQuery lane from p (codes "changes" ∷ further_words rest.now)
+        → (lane ≡ r.0) × (from ≡ r.1) × (p ≡ r.2)) }
     ensures none { IfNone result ((lane from : ℕ) (p : PrefixValue) → IsChangesQuery lane from p (codes "changes" ∷ further_words rest.now) → ⊥) }
 {
     let Some((lane, rest)) = next_word(rest) else {

@@ -115,7 +115,8 @@ impl<O: Sink> Writer<O> {
     pub(crate) fn flush(&mut self) -> Result<(), EmitFault>
         ensures ok { OnOk result ((items : List ItemValue) → HasWritten O.faults O.told O.aside self.old items → HasWritten O.faults O.told O.aside self.new items) }
         ensures empty { OnOk result (self.new.held ≡ []) }
-        ensures err { IfErr result (λ fault. (items : List ItemValue) → HasWritten O.faults O.told O.aside self.old items → IsStopped O.faults O.told O.aside self.new.first self.new.below items fault) }
+        ensures err { IfErr result (λ fault. (items : List ItemValue) → HasWritten O.faults O.told O.aside self.old items
+            → IsStopped O.faults O.told O.aside self.new.first self.new.below items fault) }
         ensures first { self.new.first ≡ self.old.first }
     {
         write_all(&mut self.out, self.held.as_slice())?;

@@ -92,7 +92,8 @@ fn put_announcement<O: Sink>(out: &mut O, row: &RowKey, attrs: &Attrs) -> Result
 
 // Writes the fields of a withdrawal.
 fn put_withdrawal<O: Sink>(out: &mut O, row: &RowKey) -> Result<(), Failed>
-    ensures { Writes O.faults O.told O.aside out.old (further (codes "withdraw" ∷ key_text row.now.key ∷ view_text row.now.view ∷ prefix_text row.now.nlri.prefix ∷ id_fields row.now.nlri.id)) result out.new }
+    ensures { Writes O.faults O.told O.aside out.old
+        (further (codes "withdraw" ∷ key_text row.now.key ∷ view_text row.now.view ∷ prefix_text row.now.nlri.prefix ∷ id_fields row.now.nlri.id)) result out.new }
 {
     write_all(out, b" withdraw")?;
     put_row_key(out, row)?;

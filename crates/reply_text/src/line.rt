@@ -93,7 +93,8 @@ pub(crate) fn metrics(
     atomic: bool,
 ) -> usize
     requires { at + 42 ≤ 1024 }
-    ensures whole { take result line.new ≡ take at line.old ++ (codes " med=" ++ (text_or_absent number_text med ++ (codes " pref=" ++ (text_or_absent number_text pref ++ (codes " atomic=" ++ yes_or_no atomic))))) }
+    ensures whole { take result line.new ≡ take at line.old ++ (codes " med=" ++ (text_or_absent number_text med
+        ++ (codes " pref=" ++ (text_or_absent number_text pref ++ (codes " atomic=" ++ yes_or_no atomic))))) }
     ensures short { result ≤ at + 42 }
 {
     let next = word(line, at, b" med=");
@@ -339,7 +340,8 @@ fn mandatory(
     requires room { at + 336 ≤ 1024 }
     requires one { length hop_bytes.now ≢ 4 → length hop_bytes.now ≡ 16 }
     requires few { length numbers.now ≤ 24 }
-    ensures whole { take result line.new ≡ take at line.old ++ (codes " next=" ++ (hop_text hop_bytes.now ++ (codes " origin=" ++ (text_or_absent origin_text origin_code ++ (codes " path=" ++ join_with_byte 95 (map number_text numbers.now)))))) }
+    ensures whole { take result line.new ≡ take at line.old ++ (codes " next=" ++ (hop_text hop_bytes.now
+        ++ (codes " origin=" ++ (text_or_absent origin_text origin_code ++ (codes " path=" ++ join_with_byte 95 (map number_text numbers.now)))))) }
     ensures short { result ≤ at + 336 }
 {
     let next = hop(line, at, hop_bytes);
@@ -360,7 +362,8 @@ fn remaining(
     requires room { at + 430 ≤ 1024 }
     requires few { length values.now ≤ 16 }
     requires few_others { length others.now ≤ 8 }
-    ensures whole { take result line.new ≡ take at line.old ++ (codes " agg=" ++ (text_or_absent aggregator_text from.now ++ (codes " comm=" ++ (comma_list (map community_text values.now) ++ (codes " other=" ++ others_text others.now))))) }
+    ensures whole { take result line.new ≡ take at line.old ++ (codes " agg=" ++ (text_or_absent aggregator_text from.now
+        ++ (codes " comm=" ++ (comma_list (map community_text values.now) ++ (codes " other=" ++ others_text others.now))))) }
     ensures short { result ≤ at + 430 }
 {
     let next = aggregator(line, at, from);

@@ -59,7 +59,8 @@ impl RouteLines {
 
     // Writes the line of a route by its parts.
     fn put_parts<O: Sink>(&self, out: &mut O, nlri: &Nlri, attrs: &Attrs) -> Result<(), Failed>
-        ensures { Writes O.faults O.told O.aside out.old (route_line self.now.lane (record { row_key = record { key = self.now.key; view = self.now.view; nlri = nlri.now }; route = attrs.now })) result out.new }
+        ensures { Writes O.faults O.told O.aside out.old
+            (route_line self.now.lane (record { row_key = record { key = self.now.key; view = self.now.view; nlri = nlri.now }; route = attrs.now })) result out.new }
     {
         let row = RowKey {
             key: self.key,
@@ -79,7 +80,8 @@ impl RouteLines {
         short: bool,
     ) -> Result<(), Failed>
         ensures same { self.new ≡ self.old }
-        ensures writes { Writes O.faults O.told O.aside out.old (route_line self.old.lane (record { row_key = record { key = self.old.key; view = self.old.view; nlri = nlri.now }; route = attrs.now })) result out.new }
+        ensures writes { Writes O.faults O.told O.aside out.old
+            (route_line self.old.lane (record { row_key = record { key = self.old.key; view = self.old.view; nlri = nlri.now }; route = attrs.now })) result out.new }
     {
         if !short {
             return self.put_parts(out, nlri, attrs);

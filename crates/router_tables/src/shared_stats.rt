@@ -19,7 +19,8 @@ pub(crate) fn set_statistic(
     key: PeerKey,
     stat: Stat,
 ) -> Result<(), NoMemory>
-    ensures { OnOk result ((effects : List EffectValue) → IsUp effects key → StandsForStats (arc_value stats.old) effects → StandsForStats (arc_value stats.new) (effects ++ statistic key stat ∷ [])) }
+    ensures { OnOk result ((effects : List EffectValue) → IsUp effects key → StandsForStats (arc_value stats.old) effects
+        → StandsForStats (arc_value stats.new) (effects ++ statistic key stat ∷ [])) }
 {
     own(stats, alloc)?;
     match Arc::get_mut(stats) {
@@ -34,7 +35,8 @@ pub(crate) fn forget(
     alloc: Global,
     key: &PeerKey,
 ) -> Result<(), NoMemory>
-    ensures { OnOk result ((effects : List EffectValue) (effect : EffectValue) → Names key.now effect → StandsForStats (arc_value stats.old) effects → StandsForStats (arc_value stats.new) (effects ++ effect ∷ [])) }
+    ensures { OnOk result ((effects : List EffectValue) (effect : EffectValue) → Names key.now effect → StandsForStats (arc_value stats.old) effects
+        → StandsForStats (arc_value stats.new) (effects ++ effect ∷ [])) }
 {
     own(stats, alloc)?;
     match Arc::get_mut(stats) {

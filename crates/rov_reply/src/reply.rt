@@ -24,7 +24,8 @@ pub fn put_rov_reply<O: Sink>(
     vrps: &VrpTable,
     prefix: &Prefix,
 ) -> Result<(), Failed>
-    ensures { (entries : List EntryValue) → StandsFor tables.now entries → revision ≡ length entries → PutsReply O.faults O.told O.aside (IsRovReply vrps.now prefix.now entries) out.old result out.new }
+    ensures { (entries : List EntryValue) → StandsFor tables.now entries → revision ≡ length entries
+        → PutsReply O.faults O.told O.aside (IsRovReply vrps.now prefix.now entries) out.old result out.new }
 {
     put_at(out, revision)?;
     let rows = put_rov_rows(out, 0, tables, vrps, prefix)?;

@@ -162,7 +162,8 @@ fn write_to<O: Sink>(out: O, pieces: &[&[u8]]) -> (O, Result<(), Failed>)
 
 fn write_and_flush<O: Sink>(buffer: &mut BufferedSink<O>, pieces: &[&[u8]]) -> Result<(), Failed>
     ensures empty { OnOk result (buffer.new.held ≡ []) }
-    ensures writes { Writes (λ p. O.faults p.below) (λ p. append_known (O.told p.below) p.held) (λ p. laid_over (O.told p.first) (O.aside p.below)) buffer.old (joined pieces.now) result buffer.new }
+    ensures writes { Writes (λ p. O.faults p.below) (λ p. append_known (O.told p.below) p.held) (λ p. laid_over (O.told p.first) (O.aside p.below))
+        buffer.old (joined pieces.now) result buffer.new }
 {
     write_pieces(buffer, pieces)?;
     buffer.flush()
