@@ -77,6 +77,10 @@ GoesOn meaning state IsOf fed given new progress.More = HasReached meaning state
 GoesOn meaning state IsOf fed given new progress.Terminated = HasReached meaning state fed given new × EndsAt meaning fed given new.offset terminated
 GoesOn meaning state IsOf fed given new (progress.Broken why) = HasReached meaning state fed given new × EndsAt meaning fed given new.offset (broken why)
 
+-- any run that came to the walk as it was goes on with this answer
+abbrev pub RunsOn : {R T : Type 0} (meaning : Meaning) (state : R → meaning.State) → (T → EntryValue → Type 0) → WalkValue R → WalkValue R → Progress T → Type 0
+RunsOn meaning state IsOf old new answer = (fed : List ℕ) (given : List EntryValue) → HasReached meaning state fed given old → GoesOn meaning state IsOf fed given new answer
+
 -- how a walk moves; the bytes fed stay in each case
 abbrev pub Advances : {R T : Type 0} → WalkValue R → WalkValue R → Progress T → Type 0
 Advances old new (progress.Message item) = (fed_of new ≡ fed_of old) × (rest_of new < rest_of old)

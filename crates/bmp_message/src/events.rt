@@ -6,7 +6,8 @@ ghost use Rattle.bmp_specs.specs.Mirroring.{IsMirroring};
 ghost use Rattle.bmp_specs.specs.PeerDownNotification.{IsPeerDown};
 ghost use Rattle.bmp_specs.specs.Statistics.{IsStatistics};
 ghost use Rattle.bmp_specs.specs.Termination.{IsTermination};
-ghost use Rattle.bmp_specs.specs.Values.{DownInfoValue, InitiationValue, StatisticsValue, initiation as told, termination as ended, peer_down as went_down, statistics as counted, mirrored_routes, named, described, up};
+ghost use Rattle.bmp_specs.specs.Values.{DownInfoValue, InitiationValue, StatisticsValue, mirrored_routes, named, described, up};
+ghost use Rattle.bmp_specs.specs.Values.{initiation as told, termination as ended, peer_down as went_down, statistics as counted};
 ghost use Rattle.peer_events.specs.Body.{most_body};
 ghost use Rattle.rib_model.specs.Effects.{effect_values};
 

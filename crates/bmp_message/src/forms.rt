@@ -1,6 +1,7 @@
 ghost use Rattle.std.specs.Prelude.{◌≡◌, ◌↔◌, Bool, not, ◌&&◌, IsTrue, IfSome, IfNone};
 ghost use Rattle.bmp_specs.specs.FramedUpdate.{FitsFamily};
-ghost use Rattle.bmp_specs.specs.UpdateForms.{FitsWidth, Takes, as_agreed as all_as_agreed, departs as departs_in, ids_in, is_old_speaker as is_old, may_have_two_octets as may_have_two, width_in as width_by};
+ghost use Rattle.bmp_specs.specs.UpdateForms.{FitsWidth, Takes, ids_in};
+ghost use Rattle.bmp_specs.specs.UpdateForms.{as_agreed as all_as_agreed, departs as departs_in, is_old_speaker as is_old, may_have_two_octets as may_have_two, width_in as width_by};
 ghost use Rattle.bgp_update.specs.Framed.{framed_value};
 ghost use Rattle.bmp_message.specs.State.{opens_of};
 

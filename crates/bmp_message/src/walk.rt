@@ -1,7 +1,7 @@
 ghost use Rattle.std.specs.Prelude.{◌≡◌, ◌≤◌, ◌+◌, ◌^◌, List, ℕ, [], ◌++◌, length, IfOk, OnOk, OnErr};
 ghost use Rattle.bmp_specs.specs.Values.{EntryValue};
 ghost use Rattle.bmp_frames.specs.Cutter.{with_more};
-ghost use Rattle.bmp_message.specs.StreamWalk.{HasReached, GoesOn, Advances, Repeats, IsAsBefore, fed_of, rest_of, next_stage};
+ghost use Rattle.bmp_message.specs.StreamWalk.{HasReached, RunsOn, Advances, Repeats, IsAsBefore, fed_of, rest_of, next_stage};
 
 mod reads;
 
@@ -97,7 +97,7 @@ impl<R: BodyReading> StreamWalk<R> {
     /// gives the same, whatever is fed between. After `NoMemory` nothing was given, and the next call tries
     /// again. Calls for entries and for judgements may be mixed: each goes on where the last one ended.
     pub fn next<W: Reads>(&mut self) -> Result<Progress<W::Item>, NoMemory>
-        ensures run { IfOk result (λ answer. (fed : List ℕ) (given : List EntryValue) → HasReached R.meaning R.state fed given self.old → GoesOn R.meaning R.state W.is_of fed given self.new answer) }
+        ensures run { IfOk result (RunsOn R.meaning R.state W.is_of self.old self.new) }
         ensures advances { IfOk result (Advances self.old self.new) }
         ensures repeats { Repeats self.old.stage self.old self.new result }
         ensures err { OnErr result (IsAsBefore R.meaning R.state self.old self.new) }
@@ -114,7 +114,7 @@ impl<R: BodyReading> StreamWalk<R> {
     // Cuts the next message, and reads it.
     fn cut<W: Reads>(&mut self) -> Result<Progress<W::Item>, NoMemory>
         requires { self.old.stage ≡ Stage.Between }
-        ensures run { IfOk result (λ answer. (fed : List ℕ) (given : List EntryValue) → HasReached R.meaning R.state fed given self.old → GoesOn R.meaning R.state W.is_of fed given self.new answer) }
+        ensures run { IfOk result (RunsOn R.meaning R.state W.is_of self.old self.new) }
         ensures advances { IfOk result (Advances self.old self.new) }
         ensures err { OnErr result (IsAsBefore R.meaning R.state self.old self.new) }
         ensures wants { OnErr result ((kind : ℕ) × (self.new.stage ≡ Stage.Within kind) × W.wants R.judge_wants kind) }
@@ -135,7 +135,7 @@ impl<R: BodyReading> StreamWalk<R> {
     // Reads the message that was cut.
     fn read<W: Reads>(&mut self, kind: u8) -> Result<Progress<W::Item>, NoMemory>
         requires { self.old.stage ≡ Stage.Within kind }
-        ensures run { IfOk result (λ answer. (fed : List ℕ) (given : List EntryValue) → HasReached R.meaning R.state fed given self.old → GoesOn R.meaning R.state W.is_of fed given self.new answer) }
+        ensures run { IfOk result (RunsOn R.meaning R.state W.is_of self.old self.new) }
         ensures advances { IfOk result (Advances self.old self.new) }
         ensures err { OnErr result (self.new ≡ self.old) }
         ensures wants { OnErr result (W.wants R.judge_wants kind) }
