@@ -2,7 +2,7 @@ ghost use Rattle.std.specs.Prelude.{◌≡◌, ◌≤◌, length, IfOk, OnErr, I
 ghost use Rattle.bmp_specs.specs.MessageBody.{peer_down_notification, peer_up_notification, route_monitoring, statistics_report};
 ghost use Rattle.bmp_specs.specs.PeerHeader.{HeaderValue};
 ghost use Rattle.bmp_message.specs.Effects.{IsMade, ReadsNothing};
-ghost use Rattle.bmp_message.specs.PeerMeaning.{HasPeerBy, MirrorsRoutes, OfTypeBy, PeerMeaning};
+ghost use Rattle.bmp_message.specs.PeerMeaning.{MirrorsRoutes, OfTypeBy, PeerMeaning};
 ghost use Rattle.bmp_message.specs.Types.{message_type_of, type_in};
 ghost use Rattle.peer_events.specs.Body.{most_body};
 ghost use Rattle.rib_model.specs.Effects.{effect_values};
@@ -92,29 +92,8 @@ fn of_peer<R: PeerReading, M: Makes>(
     }
 }
 
-// A message with a Per-Peer Header (RFC 7854, section 4.2). Of a peer type that isn't known nothing else is read.
-fn with_header<R: PeerReading, M: Makes>(
-    reading: &mut R,
-    kind: PeerMessage,
-    body: &[u8],
-) -> Result<M::Made, BodyFault>
-    requires { length body.now ≤ most_body }
-    ensures ok { IfOk result (λ made. IsMade M.is_of (HasPeerBy R.meaning (message_type_of kind) (R.state reading.old) body.now) made (R.state reading.new)) }
-    ensures broken { IsErrOf result BodyFault.Broken → ReadsNothing (HasPeerBy R.meaning (message_type_of kind) (R.state reading.old) body.now) }
-    ensures unchanged { OnErr result (reading.new ≡ reading.old) }
-    ensures wants { R.spares → message_type_of kind ≡ route_monitoring → IsErrOf result BodyFault.NoMemory → M.wants }
-{
-    let Some((front, rest)) = body.split_first_chunk() else {
-        return Err(BodyFault::Broken);
-    };
-    let head = PeerHeader::read(front);
-    match head.key() {
-        Some(key) => of_peer::<R, M>(reading, kind, &head, &key, rest),
-        None => Ok(M::passed(reading.alloc())?),
-    }
-}
-
-// Makes it of a message of this type, by what the reading does with those of a peer.
+// Makes it of a message of this type, by what the reading does with those of a peer, whose Per-Peer Header stands first
+// (RFC 7854, section 4.2). Of a peer type that isn't known nothing else is read.
 pub(crate) fn of_type<R: PeerReading, M: Makes>(
     reading: &mut R,
     kind: MessageType,
@@ -127,7 +106,16 @@ pub(crate) fn of_type<R: PeerReading, M: Makes>(
     ensures wants { R.spares → type_in kind ≡ route_monitoring → IsErrOf result BodyFault.NoMemory → M.wants }
 {
     match kind {
-        MessageType::OfPeer(kind) => with_header::<R, M>(reading, kind, body),
+        MessageType::OfPeer(kind) => {
+            let Some((front, rest)) = body.split_first_chunk() else {
+                return Err(BodyFault::Broken);
+            };
+            let head = PeerHeader::read(front);
+            match head.key() {
+                Some(key) => of_peer::<R, M>(reading, kind, &head, &key, rest),
+                None => Ok(M::passed(reading.alloc())?),
+            }
+        }
         MessageType::Initiation => made_of::<M>(events::initiation(reading.alloc(), body)),
         MessageType::Termination => made_of::<M>(events::termination(reading.alloc(), body)),
         MessageType::Unknown => Ok(M::passed(reading.alloc())?),

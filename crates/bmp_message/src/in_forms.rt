@@ -1,18 +1,16 @@
 ghost use Rattle.std.specs.Prelude.{◌≡◌, ◌++◌, true, IfOk, OnOk, IfSome, IfNone, IsErrOf};
 ghost use Rattle.std.specs.Arc.{arc_value};
 ghost use Rattle.bmp_specs.specs.LenientBody.{IsLenientUpdate};
-ghost use Rattle.bmp_specs.specs.MessageEffects.{effects_of};
-ghost use Rattle.bmp_specs.specs.PeerHeader.{view_of};
 ghost use Rattle.bmp_specs.specs.UpdateForms.{FormsValue};
-ghost use Rattle.bmp_specs.specs.Values.{UpdateValue, routes};
+ghost use Rattle.bmp_specs.specs.Values.{UpdateValue};
 ghost use Rattle.bmp_message.specs.BodyForms.{IsBodyInForms};
 ghost use Rattle.bmp_message.specs.Lenient.{up_if};
 ghost use Rattle.bmp_message.specs.State.{opens_of};
 ghost use Rattle.rib_model.specs.Effects.{effect_values};
 
-use crate::effects::{add, one_if};
+use crate::effects::add;
 use crate::forms::{Forms, choose_family, choose_width, departs, width_in};
-use crate::routes::{add_routes, count, id_use, update_body, width_of};
+use crate::routes::{id_use, update_body, width_of};
 use bgp_open::PeerInfo;
 use bgp_update::{Update, UpdateReader, frame_update, judge_update, treat_as_withdraw};
 use bmp_frames::{PeerHeader, PeerKey};
@@ -124,7 +122,7 @@ pub(crate) fn read_in_forms(
 }
 
 // Appends the Up of a peer, where it is implied.
-fn add_up(
+pub(crate) fn add_up(
     effects: &mut EffectList,
     key: &PeerKey,
     peer: &Arc<PeerInfo>,
@@ -137,28 +135,6 @@ fn add_up(
     }
     let info = Arc::try_clone(peer)?;
     add(effects, Effect::Up { key: *key, info })
-}
-
-// The effects of a Route Monitoring message (RFC 7854, section 4.6), in six items at most, and the forms that were
-// taken. The Up of the peer stands first, where it is implied.
-pub(crate) fn effects_in_forms(
-    alloc: Global,
-    reader: &mut UpdateReader,
-    peer: &Arc<PeerInfo>,
-    implied: bool,
-    head: &PeerHeader,
-    key: &PeerKey,
-    rest: &[u8],
-    last: &Forms,
-) -> Result<(EffectList, Forms), BodyFault>
-    ensures ok { IfOk result (λ r. (u : UpdateValue) × IsLenientUpdate (opens_of (arc_value peer.now)) head.now rest.now last.now r.1 u × (up_if implied key.now (arc_value peer.now) ++ effects_of (routes key.now (view_of head.now) u) ≡ effect_values r.0)) }
-    ensures broken { IsErrOf result BodyFault.Broken → (taken : FormsValue) (u : UpdateValue) → IsLenientUpdate (opens_of (arc_value peer.now)) head.now rest.now last.now taken u → ⊥ }
-{
-    let InForms { update, taken } = read_in_forms(alloc, reader, peer, head, rest, last)?;
-    let mut effects = EffectList::with_capacity(alloc, one_if(implied) + count(&update))?;
-    add_up(&mut effects, key, peer, implied)?;
-    add_routes(&mut effects, key, head.view(), update)?;
-    Ok((effects, taken))
 }
 
 // Whether the body of an UPDATE message has a value in the forms of the last one.

@@ -17,14 +17,13 @@ mod implied;
 mod judge;
 mod known;
 
-use crate::dispatch::{PeerReading, of_type};
+use crate::dispatch::PeerReading;
 use crate::effects::only;
-use crate::events;
 use crate::forms::Forms;
-use crate::makes::{Makes, WithEffects};
-use crate::types::MessageType;
+use crate::makes::Makes;
+use crate::{BodyReading, events};
 use bgp_update::UpdateReader;
-use bmp_frames::{COMMON_HEADER, LOC_RIB, PeerHeader, PeerKey, View};
+use bmp_frames::{LOC_RIB, PeerHeader, PeerKey, View};
 use implied::implied_info;
 use known::{UpPeer, show_in};
 use peer_events::read_peer_up;
@@ -160,12 +159,7 @@ impl LenientReading {
         ensures unchanged { OnErr result (self.new ≡ self.old) }
         ensures views { IfOk result (λ entry. All HasViewOfKey (effects_in (entry_value entry))) }
     {
-        let effects = of_type::<LenientReading, WithEffects>(self, MessageType::of(kind), body)?;
-        Ok(Entry::Message {
-            kind,
-            length: COMMON_HEADER + body.len() as u32,
-            effects,
-        })
+        BodyReading::entry(self, kind, body)
     }
 }
 

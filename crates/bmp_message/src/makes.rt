@@ -10,9 +10,10 @@ ghost use Rattle.bmp_message.specs.Lenient.{up_if};
 ghost use Rattle.bmp_message.specs.State.{opens_of};
 ghost use Rattle.rib_model.specs.Effects.{effect_values};
 
-use crate::effects::only;
+use crate::effects::{one_if, only};
 use crate::forms::Forms;
-use crate::{in_forms, routes};
+use crate::in_forms::{InForms, add_up, judge_in_forms, read_in_forms};
+use crate::routes::{add_routes, count, id_use, judge_routes, update_body, width_of};
 use bgp_open::PeerInfo;
 use bgp_update::UpdateReader;
 use bmp_frames::{PeerHeader, PeerKey};
@@ -71,7 +72,8 @@ pub(crate) trait Makes {
         rest: &[u8],
         last: &Forms,
     ) -> Result<(Self::Made, Forms), BodyFault>
-        ensures ok { IfOk result (λ r. (u : UpdateValue) × IsLenientUpdate (opens_of (arc_value peer.now)) head.now rest.now last.now r.1 u × is_of r.0 (up_if implied key.now (arc_value peer.now) ++ effects_of (routes_of key.now (view_of head.now) u))) }
+        ensures ok { IfOk result (λ r. (u : UpdateValue) × IsLenientUpdate (opens_of (arc_value peer.now)) head.now rest.now last.now r.1 u
+            × is_of r.0 (up_if implied key.now (arc_value peer.now) ++ effects_of (routes_of key.now (view_of head.now) u))) }
         ensures broken { IsErrOf result BodyFault.Broken → (taken : FormsValue) (u : UpdateValue) → IsLenientUpdate (opens_of (arc_value peer.now)) head.now rest.now last.now taken u → ⊥ };
 }
 
@@ -109,6 +111,7 @@ impl Makes for WithEffects {
         effects
     }
 
+    // In five items at most.
     fn routes(
         alloc: Global,
         reader: &mut UpdateReader,
@@ -117,9 +120,16 @@ impl Makes for WithEffects {
         key: &PeerKey,
         rest: &[u8],
     ) -> Result<EffectList, BodyFault> {
-        routes::route_monitoring(alloc, reader, peer, head, key, rest)
+        let Some(body) = update_body(rest) else {
+            return Err(BodyFault::Broken);
+        };
+        let update = reader.read(body, width_of(head), id_use(peer, head))?;
+        let mut effects = EffectList::with_capacity(alloc, count(&update))?;
+        add_routes(&mut effects, key, head.view(), update)?;
+        Ok(effects)
     }
 
+    // In six items at most; the Up of the peer stands first, where it is implied.
     fn in_forms(
         alloc: Global,
         reader: &mut UpdateReader,
@@ -130,7 +140,11 @@ impl Makes for WithEffects {
         rest: &[u8],
         last: &Forms,
     ) -> Result<(EffectList, Forms), BodyFault> {
-        in_forms::effects_in_forms(alloc, reader, peer, implied, head, key, rest, last)
+        let InForms { update, taken } = read_in_forms(alloc, reader, peer, head, rest, last)?;
+        let mut effects = EffectList::with_capacity(alloc, one_if(implied) + count(&update))?;
+        add_up(&mut effects, key, peer, implied)?;
+        add_routes(&mut effects, key, head.view(), update)?;
+        Ok((effects, taken))
     }
 }
 
@@ -162,7 +176,7 @@ impl Makes for WithoutEffects {
         _key: &PeerKey,
         rest: &[u8],
     ) -> Result<(), BodyFault> {
-        if routes::judge_routes(peer, head, rest) {
+        if judge_routes(peer, head, rest) {
             Ok(())
         } else {
             Err(BodyFault::Broken)
@@ -179,7 +193,7 @@ impl Makes for WithoutEffects {
         rest: &[u8],
         last: &Forms,
     ) -> Result<((), Forms), BodyFault> {
-        match in_forms::judge_in_forms(peer, head, rest, last) {
+        match judge_in_forms(peer, head, rest, last) {
             Some(taken) => Ok(((), taken)),
             None => Err(BodyFault::Broken),
         }

@@ -79,12 +79,7 @@ impl Reading {
         ensures unchanged { OnErr result (self.new ≡ self.old) }
         ensures views { IfOk result (λ entry. All HasViewOfKey (effects_in (entry_value entry))) }
     {
-        let effects = of_type::<Reading, WithEffects>(self, MessageType::of(kind), body)?;
-        Ok(Entry::Message {
-            kind,
-            length: COMMON_HEADER + body.len() as u32,
-            effects,
-        })
+        BodyReading::entry(self, kind, body)
     }
 }
 
@@ -170,9 +165,13 @@ impl BodyReading for Reading {
         Reading::new(alloc)
     }
 
-    #[inline]
     fn entry(&mut self, kind: u8, body: &[u8]) -> Result<Entry, BodyFault> {
-        self.entry(kind, body)
+        let effects = of_type::<Reading, WithEffects>(self, MessageType::of(kind), body)?;
+        Ok(Entry::Message {
+            kind,
+            length: COMMON_HEADER + body.len() as u32,
+            effects,
+        })
     }
 
     #[inline]

@@ -1,20 +1,18 @@
-ghost use Rattle.std.specs.Prelude.{◌≡◌, ◌≤◌, ◌+◌, ◌++◌, ◌↔◌, ℕ, List, length, IsTrue, IfOk, OnOk, IfSome, IfNone, IsErrOf};
+ghost use Rattle.std.specs.Prelude.{◌≡◌, ◌≤◌, ◌+◌, ◌++◌, ◌↔◌, ℕ, List, length, IsTrue, OnOk, IfSome, IfNone};
 ghost use Rattle.bmp_specs.specs.BgpMessage.{IsBgpMessage, update_type};
 ghost use Rattle.bmp_specs.specs.MessageBody.{IsRouteMonitoring, id_use as ids_of, side_of as side_in, width_of as width_in};
 ghost use Rattle.bmp_specs.specs.MessageEffects.{effects_of};
-ghost use Rattle.bmp_specs.specs.PeerHeader.{view_of};
 ghost use Rattle.bmp_specs.specs.Values.{UpdateValue, routes};
 ghost use Rattle.bmp_message.specs.State.{opens_of};
 ghost use Rattle.rib_model.specs.Effects.{effect_values};
 
 use crate::effects::{add_announcements, add_mark, add_unread, add_withdrawals, one_if};
 use bgp_open::{BGP_HEADER, PeerInfo, Side, UPDATE_MESSAGE, bgp_frame, path_ids};
-use bgp_update::{IdUse, Update, UpdateReader, judge_update};
+use bgp_update::{IdUse, Update, judge_update};
 use bmp_frames::{O_FLAG, PeerHeader, PeerKey};
 use bmp_specs::{Family, View, Width};
 use rib_model::EffectList;
-use std::alloc::Global;
-use wire_io::{BodyFault, NoMemory};
+use wire_io::NoMemory;
 
 // The side of the peer that the header speaks of.
 fn side_of(head: &PeerHeader) -> Side
@@ -66,23 +64,6 @@ pub(crate) fn update_body(bytes: &[u8]) -> Option<&[u8]>
     Some(&bytes[BGP_HEADER..])
 }
 
-// Reads the UPDATE of a Route Monitoring message (RFC 7854, section 4.6) of a peer that is up.
-fn read_routes(
-    reader: &mut UpdateReader,
-    peer: &PeerInfo,
-    head: &PeerHeader,
-    rest: &[u8],
-) -> Result<Update, BodyFault>
-    ensures ok { IfOk result (λ u. IsRouteMonitoring (opens_of peer.now) head.now rest.now u) }
-    ensures broken { IsErrOf result BodyFault.Broken → (u : UpdateValue) → IsRouteMonitoring (opens_of peer.now) head.now rest.now u → ⊥ }
-{
-    let Some(body) = update_body(rest) else {
-        return Err(BodyFault::Broken);
-    };
-    let update = reader.read(body, width_of(head), id_use(peer, head))?;
-    Ok(update)
-}
-
 // Whether the bytes are the UPDATE of a Route Monitoring message (RFC 7854, section 4.6) of a peer that is up. Takes
 // no memory.
 pub(crate) fn judge_routes(peer: &PeerInfo, head: &PeerHeader, rest: &[u8]) -> bool
@@ -106,8 +87,8 @@ pub(crate) fn count(update: &Update) -> usize
     withdrawn + plain + multi + mark + unread
 }
 
-// Appends the effects of the UPDATE: what is withdrawn, what is announced, and the End-of-RIB marker. Its lists of
-// prefixes are handed on as they are.
+// Appends the effects of the UPDATE: what is withdrawn, what is announced, and the End-of-RIB marker, in five items at
+// most, however many routes it has. Its lists of prefixes are handed on as they are.
 pub(crate) fn add_routes(
     effects: &mut EffectList,
     key: &PeerKey,
@@ -122,38 +103,4 @@ pub(crate) fn add_routes(
     add_announcements(effects, key, view, update.multi, update.multi_attrs)?;
     add_mark(effects, key, view, update.mark)?;
     add_unread(effects, update.unread)
-}
-
-// The effects of the UPDATE.
-fn effects_of_update(
-    alloc: Global,
-    key: &PeerKey,
-    view: View,
-    update: Update,
-) -> Result<EffectList, NoMemory>
-    ensures effects { IfOk result (λ effects. effect_values effects ≡ effects_of (routes key.now view update)) }
-    ensures items { IfOk result (λ effects. length effects ≤ 5) }
-{
-    let mut effects = EffectList::with_capacity(alloc, count(&update))?;
-    add_routes(&mut effects, key, view, update)?;
-    Ok(effects)
-}
-
-// The effects of a Route Monitoring message (RFC 7854, section 4.6) of a peer that is up, in five items at most,
-// however many routes it has.
-pub(crate) fn route_monitoring(
-    alloc: Global,
-    reader: &mut UpdateReader,
-    peer: &PeerInfo,
-    head: &PeerHeader,
-    key: &PeerKey,
-    rest: &[u8],
-) -> Result<EffectList, BodyFault>
-    ensures ok { IfOk result (λ effects. (u : UpdateValue) × IsRouteMonitoring (opens_of peer.now) head.now rest.now u × (effect_values effects ≡ effects_of (routes key.now (view_of head.now) u))) }
-    ensures items { IfOk result (λ effects. length effects ≤ 5) }
-    ensures broken { IsErrOf result BodyFault.Broken → (u : UpdateValue) → IsRouteMonitoring (opens_of peer.now) head.now rest.now u → ⊥ }
-{
-    let update = read_routes(reader, peer, head, rest)?;
-    let effects = effects_of_update(alloc, key, head.view(), update)?;
-    Ok(effects)
 }

@@ -3,7 +3,11 @@ ghost use Rattle.bmp_specs.specs.LenientBody.{lenient};
 ghost use Rattle.bmp_message.specs.Lenient.{lenient_state};
 
 use crate::BodyReading;
+use crate::dispatch::of_type;
 use crate::lenient::LenientReading;
+use crate::makes::WithEffects;
+use crate::types::MessageType;
+use bmp_frames::COMMON_HEADER;
 use rib_model::Entry;
 use std::alloc::Global;
 use wire_io::BodyFault;
@@ -23,9 +27,13 @@ impl BodyReading for LenientReading {
         LenientReading::new(alloc)
     }
 
-    #[inline]
     fn entry(&mut self, kind: u8, body: &[u8]) -> Result<Entry, BodyFault> {
-        self.entry(kind, body)
+        let effects = of_type::<LenientReading, WithEffects>(self, MessageType::of(kind), body)?;
+        Ok(Entry::Message {
+            kind,
+            length: COMMON_HEADER + body.len() as u32,
+            effects,
+        })
     }
 
     #[inline]

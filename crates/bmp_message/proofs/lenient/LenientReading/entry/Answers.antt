@@ -1,27 +1,10 @@
-use Rattle.std.proofs.Common.{◌+◌, List, length, subst, All}
-use Rattle.std.proofs.lemmas.Result.{err_from_is_err_and}
-use Rattle.bmp_specs.specs.LenientBody.{IsLenientEntry}
-use Rattle.bmp_specs.specs.MessageEffects.{HasViewOfKey}
-use Rattle.bmp_specs.specs.Values.{EffectValue, message}
+use Rattle.std.proofs.lemmas.Result.{IfOk-weaker}
 use Rattle.bmp_specs.proofs.LenientViews.{lenient_views}
-use Rattle.wire_io.proofs.Faults.{broken_below}
+use Rattle.rib_model.specs.Entries.{entry_value}
 use Rattle.bmp_message.specs.Lenient.{lenient_state}
-use Rattle.bmp_message.proofs.LenientEntries.{has_entry_so, no_entry_so}
 use Rattle.bmp_message.proofs.lenient.LenientReading.entry.Goals as goal
-
-pub returns-clause-ok : goal.returns-clause-ok
-returns-clause-ok c =
-    let made = c.in_ok-effects.ensures.ok in
-    subst (λ (es : List EffectValue). IsLenientEntry (lenient_state c.args.self.now) c.args.kind c.args.body.now (message c.args.kind (6 + length c.args.body.now) es) (lenient_state c.of_type.new.reading)) made.1
-    (has_entry_so (lenient_state c.args.self.now) c.args.body.now c.args.kind _ c.of.ensures made.0 (lenient_state c.of_type.new.reading) made.2)
 
 pub returns-clause-views : goal.returns-clause-views
 returns-clause-views c =
-    let made = c.in_ok-effects.ensures.ok in
-    subst (λ (es : List EffectValue). All HasViewOfKey es) made.1
-    (lenient_views (lenient_state c.args.self.now) (lenient_state c.of_type.new.reading) c.args.kind c.args.body.now _ (has_entry_so (lenient_state c.args.self.now) c.args.body.now c.args.kind _ c.of.ensures made.0 (lenient_state c.of_type.new.reading) made.2))
-
-pub returns-in_err-effects-clause-broken : goal.returns-in_err-effects-clause-broken
-returns-in_err-effects-clause-broken c =
-    let p = err_from_is_err_and c.from_residual.result c.from_residual.ensures.1 in
-    rw (p.1, p.2) (λ broken. no_entry_so (lenient_state c.args.self.now) c.args.body.now c.args.kind _ c.of.ensures (c.in_err-effects.ensures.broken (broken_below _ broken)))
+    IfOk-weaker c.entry.result _ _
+    (λ entry p. lenient_views (lenient_state c.args.self.now) (lenient_state c.entry.new.self) c.args.kind c.args.body.now (entry_value entry) p) c.entry.ensures.ok

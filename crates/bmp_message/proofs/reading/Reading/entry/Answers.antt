@@ -1,28 +1,14 @@
-use Rattle.std.proofs.Common.{◌+◌, List, length, sym, ap, subst, ◌∙◌, All}
-use Rattle.std.proofs.lemmas.Result.{err_from_is_err_and}
-use Rattle.bmp_specs.specs.MessageEffects.{HasViewOfKey, IsMessageEntry}
+use Rattle.std.proofs.Common.{sym, subst, All}
+use Rattle.std.proofs.lemmas.Result.{IfOk-weaker}
+use Rattle.bmp_specs.specs.MessageEffects.{HasViewOfKey}
 use Rattle.bmp_specs.specs.Session.{effects_in}
-use Rattle.bmp_specs.specs.Values.{EffectValue, message}
+use Rattle.bmp_specs.specs.Values.{EntryValue}
 use Rattle.bmp_specs.proofs.MessageViews.{IsMessage-views}
-use Rattle.wire_io.proofs.Faults.{broken_below}
 use Rattle.bmp_message.specs.State.{reading_state}
-use Rattle.bmp_message.proofs.Judging.{has_entry, no_entry}
 use Rattle.bmp_message.proofs.reading.Reading.entry.Goals as goal
-
-pub returns-clause-ok : goal.returns-clause-ok
-returns-clause-ok c =
-    let made = c.in_ok-effects.ensures.ok in
-    subst (λ (es : List EffectValue). IsMessageEntry (reading_state c.args.self.now) c.args.kind c.args.body.now (message c.args.kind (6 + length c.args.body.now) es) (reading_state c.of_type.new.reading)) made.1
-    (has_entry (reading_state c.args.self.now) c.args.body.now c.args.kind _ c.of.ensures made.0 (reading_state c.of_type.new.reading) made.2)
 
 pub returns-clause-views : goal.returns-clause-views
 returns-clause-views c =
-    let made = c.in_ok-effects.ensures.ok in
-    let entry = has_entry (reading_state c.args.self.now) c.args.body.now c.args.kind _ c.of.ensures made.0 (reading_state c.of_type.new.reading) made.2 in
-    subst (λ (es : List EffectValue). All HasViewOfKey es) (sym (ap effects_in entry.entry_is) ∙ made.1)
-    (IsMessage-views (reading_state c.args.self.now) (reading_state c.of_type.new.reading) c.args.kind c.args.body.now entry.value entry.means)
-
-pub returns-in_err-effects-clause-broken : goal.returns-in_err-effects-clause-broken
-returns-in_err-effects-clause-broken c =
-    let p = err_from_is_err_and c.from_residual.result c.from_residual.ensures.1 in
-    rw (p.1, p.2) (λ broken. no_entry (reading_state c.args.self.now) c.args.body.now c.args.kind _ c.of.ensures (c.in_err-effects.ensures.broken (broken_below _ broken)))
+    IfOk-weaker c.entry.result _ _
+    (λ entry p. subst (λ (e : EntryValue). All HasViewOfKey (effects_in e)) (sym p.entry_is) (IsMessage-views (reading_state c.args.self.now) (reading_state c.entry.new.self) c.args.kind c.args.body.now p.value p.means))
+    c.entry.ensures.ok

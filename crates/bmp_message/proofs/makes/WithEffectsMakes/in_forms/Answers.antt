@@ -5,7 +5,7 @@ use Rattle.bmp_specs.specs.UpdateForms.{FormsValue}
 use Rattle.bmp_specs.specs.Values.{PeerInfoValue, UpdateValue}
 use Rattle.wire_io.proofs.Faults.{broken_below}
 use Rattle.bmp_message.specs.State.{opens_of}
-use Rattle.bmp_message.proofs.in_forms.effects_in_forms.Goals as goal
+use Rattle.bmp_message.proofs.makes.WithEffectsMakes.in_forms.Goals as goal
 
 pub returns-in_err-update-clause-broken : goal.returns-in_err-update-clause-broken
 returns-in_err-update-clause-broken c =

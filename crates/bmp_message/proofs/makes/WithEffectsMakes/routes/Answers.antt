@@ -1,7 +1,7 @@
 use Rattle.std.proofs.lemmas.Result.{err_from_is_err_and}
 use Rattle.wire_io.proofs.Faults.{broken_below}
 use Rattle.bmp_message.proofs.UpdateOf.{no_body, no_update}
-use Rattle.bmp_message.proofs.routes.read_routes.Goals as goal
+use Rattle.bmp_message.proofs.makes.WithEffectsMakes.routes.Goals as goal
 
 pub returns-in_default-clause-broken : goal.returns-in_default-clause-broken
 returns-in_default-clause-broken c _ = no_update _ _ _ c.in_default.ensures.none
