@@ -1,90 +1,68 @@
 -- UPDATE messages in the forms that are taken.
-use Rattle.std.proofs.Common.{◌≡◌, ◌⊎◌, ℕ, ◌+◌, Bool, false, cond, not, ◌&&◌, inl, inr, List, [], ◌∷◌, ◌++◌, map, option_map, option_to_list, Option, Some, None, refl, sym, ap, subst, ◌∙◌}
-use Rattle.std.specs.Prelude.{MatchOption, ◌==◌}
-use Rattle.std.specs.List.{AllByRecursion}
+use Rattle.std.proofs.Common.{◌≡◌, ◌⊎◌, ℕ, ◌+◌, Bool, true, false, cond, not, ◌&&◌, inl, inr, List, [], ◌∷◌, ◌++◌, None, refl, sym, ap, subst, ◌∙◌}
 use Rattle.bmp_specs.specs.declared.wire.Family.{Family}
 use Rattle.bmp_specs.specs.declared.wire.Family.TheVariants.{V4, V6}
 use Rattle.bmp_specs.specs.declared.wire.IdUse.{IdUse}
+use Rattle.bmp_specs.specs.declared.wire.Side.{Side}
+use Rattle.bmp_specs.specs.declared.wire.Side.TheVariants.{Inward, Outward, Local}
 use Rattle.bmp_specs.specs.declared.wire.Width.{Width}
 use Rattle.bmp_specs.specs.declared.wire.Width.TheVariants.{Two}
-use Rattle.bmp_specs.specs.AddressFamily.{unicast_family, uses_ids}
+use Rattle.bmp_specs.specs.AddressFamily.{afi_of, unicast}
 use Rattle.bmp_specs.specs.BgpMessage.{IsBgpMessage}
-use Rattle.bmp_specs.specs.FramedUpdate.{FitsFamily, FitsPlace, FramedValue, IsFramed, PlaceValue, is_multiprotocol, place_in}
+use Rattle.bmp_specs.specs.FramedUpdate.{FitsFamily, FramedValue, IsFramed}
 use Rattle.bmp_specs.specs.LenientBody.{IsLenientUpdate, IsMalformed, IsReadInForms}
-use Rattle.bmp_specs.specs.MessageBody.{id_use, width_of}
-use Rattle.bmp_specs.specs.Nlri.{AreNlri}
+use Rattle.bmp_specs.specs.MessageBody.{IsRouteMonitoring, id_use, side_of, width_of}
+use Rattle.bmp_specs.specs.PathIds.{uses_path_ids}
 use Rattle.bmp_specs.specs.PeerHeader.{HeaderValue}
 use Rattle.bmp_specs.specs.TreatAsWithdraw.{IsTreatedAsWithdraw, withdrawal_of}
-use Rattle.bmp_specs.specs.Update.{AreMpNlri, IsUpdate, passed_over}
-use Rattle.bmp_specs.specs.UpdateForms.{FitsWidth, FormsValue, Takes, departs, ids_in, width_in}
-use Rattle.bmp_specs.specs.Values.{BgpMessageValue, MpValue, NlriValue, OpensValue, OtherValue, UpdateValue}
+use Rattle.bmp_specs.specs.Update.{IsUpdate, passed_over}
+use Rattle.bmp_specs.specs.UpdateForms.{FitsWidth, FormsValue, Takes, as_agreed, departs, ids_in, width_in}
+use Rattle.bmp_specs.specs.Values.{BgpMessageValue, CapValue, OpenValue, OpensValue, UpdateValue}
 use Rattle.bmp_specs.proofs.BgpMessageCode.{IsBgpMessage-one}
 use Rattle.bmp_specs.proofs.LenientOne.{IsFramed-one, takes_one}
-use Rattle.bmp_specs.proofs.LenientStrict.{distinct_filter}
+use Rattle.bmp_specs.proofs.LenientStrict.{lenient_update}
+use Rattle.bmp_specs.proofs.UpdateOne.{UpdateFields, fields_one}
+use Rattle.path_attrs.specs.Framed.{HasValueIn}
 use Rattle.bgp_update.proofs.Withdrawing.{places_have}
-use Rattle.bmp_message.specs.BodyForms.{IsBodyInForms}
+use Rattle.bmp_message.specs.BodyForms.{IsBodyInForms, IsReadAsLast}
 use Rattle.bmp_message.proofs.Choosing.{fits_in}
 use Rattle.bmp_message.proofs.UpdateOf.{as_update, update_with}
 
--- ---- the frame of an UPDATE message that has a value
+-- ---- OPEN messages that agree on path identifiers for these families
 
-all_join : {X : Type 0} (P : X → Type 0) (xs ys : List X) → AllByRecursion P xs → AllByRecursion P ys → AllByRecursion P (xs ++ ys)
-all_join P [] ys a b = b
-all_join P (x ∷ xs) ys a b = (a.0, all_join P xs ys a.1 b)
+abbrev entry_if : Bool → Family → List CapValue
+entry_if true family = record { afi = afi_of family; safi = unicast; value = 3 } ∷ []
+entry_if false family = []
 
-abbrev frame_of : (width : Width) (ids : IdUse) (body : List ℕ) (u : UpdateValue) → IsUpdate width ids body u → FramedValue
-frame_of width ids body u p = record { withdrawn_routes = p.withdrawn_routes; path_attributes = p.path_attributes; nlri = p.nlri; reach = p.read.reach; unreach = p.read.unreach }
+abbrev speaker : Bool → Bool → OpenValue
+speaker v4 v6 = record { version = 4; my_as = 0; hold = 0; identifier = []; four = None; families = []; paths = entry_if v4 V4 ++ entry_if v6 V6; extended = false }
 
-is_framed : (width : Width) (ids : IdUse) (body : List ℕ) (u : UpdateValue) (p : IsUpdate width ids body u) → IsFramed body (frame_of width ids body u p)
-is_framed width ids body u p = record {
-  fields = p.fields;
-  parts = p.attributes.parts;
-  are = p.attributes.are;
-  distinct = distinct_filter (λ j k. j == k) is_multiprotocol (map (λ (a : OtherValue). a.code) p.attributes.parts) p.attributes.distinct;
-  reach_is = p.attributes.reach_is;
-  unreach_is = p.attributes.unreach_is;
-}
+abbrev agreeing : IdUse → OpensValue
+agreeing ids = record { sent = speaker ids.v4 ids.v6; received = speaker ids.v4 ids.v6 }
 
-module _ (ids : IdUse) (family : Family) where
-  fits_place : (place : PlaceValue) (ns : List NlriValue) → AreNlri place.family (uses_ids ids place.family) place.prefixes ns → FitsPlace family (uses_ids ids family) place
-  fits_place place ns are e = (ns, subst (λ (f : Family). AreNlri f (uses_ids ids f) place.prefixes ns) e are)
+agree : (v4 v6 : Bool) (side : Side) → (uses_path_ids (speaker v4 v6) (speaker v4 v6) V4 side ≡ v4) × (uses_path_ids (speaker v4 v6) (speaker v4 v6) V6 side ≡ v6)
+agree true true Inward = (refl, refl)
+agree true true Outward = (refl, refl)
+agree true true Local = (refl, refl)
+agree true false Inward = (refl, refl)
+agree true false Outward = (refl, refl)
+agree true false Local = (refl, refl)
+agree false true Inward = (refl, refl)
+agree false true Outward = (refl, refl)
+agree false true Local = (refl, refl)
+agree false false Inward = (refl, refl)
+agree false false Outward = (refl, refl)
+agree false false Local = (refl, refl)
 
-  fits_found : (found : Option Family) (bytes : List ℕ) (ns : List NlriValue) → MatchOption found (ns ≡ []) (λ f. AreNlri f (uses_ids ids f) bytes ns)
-      → AllByRecursion (FitsPlace family (uses_ids ids family)) (option_to_list (option_map (λ f. record { family = f; prefixes = bytes }) found))
-  fits_found None bytes ns p = tt
-  fits_found (Some f) bytes ns p = (fits_place (record { family = f; prefixes = bytes }) ns p, tt)
-
-  fits_mp : (found : Option MpValue) (ns : List NlriValue) → AreMpNlri ids found ns → AllByRecursion (FitsPlace family (uses_ids ids family)) (place_in found)
-  fits_mp None ns p = tt
-  fits_mp (Some m) ns p = fits_found (unicast_family m.afi m.safi) m.prefixes ns p
-
-  fits_family : (width : Width) (body : List ℕ) (u : UpdateValue) (p : IsUpdate width ids body u) → FitsFamily (frame_of width ids body u p) family (uses_ids ids family)
-  fits_family width body u p = all_join (FitsPlace family (uses_ids ids family))
-      (record { family = V4; prefixes = p.withdrawn_routes } ∷ place_in p.read.unreach) (record { family = V4; prefixes = p.nlri } ∷ place_in p.read.reach)
-      (fits_place (record { family = V4; prefixes = p.withdrawn_routes }) p.withdrawn p.withdrawn_are, fits_mp p.read.unreach p.unreachable p.unreachable_are)
-      (fits_place (record { family = V4; prefixes = p.nlri }) u.plain p.plain_are, fits_mp p.read.reach u.multi p.multi_are)
+-- ---- the body of the message
 
 module _ (opens : OpensValue) (h : HeaderValue) (body : List ℕ) (last : FormsValue) where
   -- a value in the last forms
   pub in_last : (width : Width) (agreed ids : IdUse) → departs opens h last.two_octets ≡ false → width ≡ width_of h → agreed ≡ id_use opens h → ids ≡ ids_in last agreed
-      → (u : UpdateValue) → IsUpdate width ids body u → IsBodyInForms opens h body last last u
+      → (u : UpdateValue) → IsUpdate width ids body u → IsReadAsLast opens h body last u
   in_last width agreed ids stays w a i u p =
       let used : ids ≡ ids_in last (id_use opens h) = i ∙ ap (λ (x : IdUse). ids_in last x) a in
-      let here : IsUpdate (width_of h) (ids_in last (id_use opens h)) body u = subst (λ (x : IdUse). IsUpdate (width_of h) x body u) used (subst (λ (x : Width). IsUpdate x ids body u) w p) in
-      let same : width_of h ≡ width_in opens h last.two_octets = sym (ap (λ (d : Bool). cond d Two (width_of h)) stays) in
-      record {
-        framed = frame_of (width_of h) (ids_in last (id_use opens h)) body u here;
-        frames = is_framed (width_of h) (ids_in last (id_use opens h)) body u here;
-        v4 = record { fits = fits_family (ids_in last (id_use opens h)) V4 (width_of h) body u here; first = inl refl };
-        v6 = record { fits = fits_family (ids_in last (id_use opens h)) V6 (width_of h) body u here; first = inl refl };
-        routes = inl (record {
-          width = record {
-            fits = fits_in opens h here.path_attributes (width_of h) false last.two_octets same (sym stays) (record { read = here.read; are = here.attributes; no_zero = tt });
-            first = inl refl;
-          };
-          is = subst (λ (x : Width). IsUpdate x (ids_in last (id_use opens h)) body u) same here;
-        });
-      }
+      record { stays = stays; is = subst (λ (x : IdUse). IsUpdate (width_of h) x body u) used (subst (λ (x : Width). IsUpdate x ids body u) w p) }
 
   pub no_frame : ((f : FramedValue) → IsFramed body f → ⊥) → (taken : FormsValue) (u : UpdateValue) → IsBodyInForms opens h body last taken u → ⊥
   no_frame none taken u p = none p.framed p.frames
@@ -171,11 +149,39 @@ module _ (opens : OpensValue) (h : HeaderValue) (rest : List ℕ) (last : FormsV
   no_message none taken u p = none p.message.body (as_update rest p.message p.is_update p.is)
 
   module _ (body : List ℕ) (is : IsBgpMessage rest (update_with body)) where
-    pub of_message : (taken : FormsValue) (u : UpdateValue) → IsBodyInForms opens h body last taken u → IsLenientUpdate opens h rest last taken u
-    of_message taken u p = record { message = update_with body; is = is; is_update = refl; framed = p.framed; frames = p.frames; v4 = p.v4; v6 = p.v6; routes = p.routes }
-
     pub of_body : (taken : FormsValue) (u : UpdateValue) → IsLenientUpdate opens h rest last taken u → IsBodyInForms opens h body last taken u
     of_body taken u p =
         let same : p.message.body ≡ body = ap (λ (m : BgpMessageValue). m.body) (IsBgpMessage-one rest p.message (update_with body) p.is is) in
         let here : IsBodyInForms opens h p.message.body last taken u = record { framed = p.framed; frames = p.frames; v4 = p.v4; v6 = p.v6; routes = p.routes } in
         subst (λ (l : List ℕ). IsBodyInForms opens h l last taken u) same here
+
+    -- a value in the last forms, which has a frame as one by the RFCs of a peer that agreed on these path identifiers
+    pub of_last : (u : UpdateValue) → IsReadAsLast opens h body last u → IsLenientUpdate opens h rest last last u
+    of_last u p =
+        let ids : IdUse = ids_in last (id_use opens h) in
+        let both = agree ids.v4 ids.v6 (side_of h) in
+        let used : ids ≡ id_use (agreeing ids) h = λ i. record { v4 = sym both.0 i; v6 = sym both.1 i } in
+        let routes : IsRouteMonitoring (agreeing ids) h rest u = record { message = update_with body; is = is; is_update = refl; body_is = subst (λ (x : IdUse). IsUpdate (width_of h) x body u) used p.is } in
+        let q : IsLenientUpdate (agreeing ids) h rest as_agreed as_agreed u = lenient_update (agreeing ids) h rest u routes in
+        let f : FramedValue = q.framed in
+        let same : q.message.body ≡ body = ap (λ (m : BgpMessageValue). m.body) (IsBgpMessage-one rest q.message (update_with body) q.is is) in
+        let frames : IsFramed body f = subst (λ (l : List ℕ). IsFramed l f) same q.frames in
+        let fields = fields_one body (p.is.withdrawn_routes, (p.is.path_attributes, p.is.nlri)) (f.withdrawn_routes, (f.path_attributes, f.nlri)) p.is.fields frames.fields in
+        let has : HasValueIn (width_of h) p.is.path_attributes false = record { read = p.is.read; are = p.is.attributes; no_zero = tt } in
+        let width : width_of h ≡ width_in opens h last.two_octets = sym (ap (λ (d : Bool). cond d Two (width_of h)) p.stays) in
+        record {
+          message = update_with body;
+          is = is;
+          is_update = refl;
+          framed = f;
+          frames = frames;
+          v4 = record { fits = subst (λ (x : IdUse). FitsFamily f V4 x.v4) (sym used) q.v4.fits; first = inl refl };
+          v6 = record { fits = subst (λ (x : IdUse). FitsFamily f V6 x.v6) (sym used) q.v6.fits; first = inl refl };
+          routes = inl (record {
+            width = record {
+              fits = fits_in opens h f.path_attributes (width_of h) false last.two_octets width (sym p.stays) (subst (λ (l : List ℕ). HasValueIn (width_of h) l false) (ap (λ (x : UpdateFields). x.1.0) fields) has);
+              first = inl refl;
+            };
+            is = subst (λ (x : Width). IsUpdate x ids body u) width p.is;
+          });
+        }

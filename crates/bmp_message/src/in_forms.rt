@@ -3,7 +3,7 @@ ghost use Rattle.std.specs.Arc.{arc_value};
 ghost use Rattle.bmp_specs.specs.LenientBody.{IsLenientUpdate};
 ghost use Rattle.bmp_specs.specs.UpdateForms.{FormsValue};
 ghost use Rattle.bmp_specs.specs.Values.{UpdateValue};
-ghost use Rattle.bmp_message.specs.BodyForms.{IsBodyInForms};
+ghost use Rattle.bmp_message.specs.BodyForms.{IsBodyInForms, IsReadAsLast};
 ghost use Rattle.bmp_message.specs.Lenient.{up_if};
 ghost use Rattle.bmp_message.specs.State.{opens_of};
 ghost use Rattle.rib_model.specs.Effects.{effect_values};
@@ -36,7 +36,7 @@ fn read_as_last(
     body: &[u8],
     last: &Forms,
 ) -> Result<Option<Update>, NoMemory>
-    ensures { IfOk result (λ found. IfSome found (IsBodyInForms (opens_of peer.now) head.now body.now last.now last.now)) }
+    ensures { IfOk result (λ found. IfSome found (IsReadAsLast (opens_of peer.now) head.now body.now last.now)) }
 {
     if departs(peer, head, last.two_octets) {
         return Ok(None);
@@ -139,7 +139,7 @@ pub(crate) fn add_up(
 
 // Whether the body of an UPDATE message has a value in the forms of the last one.
 fn judge_as_last(peer: &PeerInfo, head: &PeerHeader, body: &[u8], last: &Forms) -> bool
-    ensures { result ≡ true → (u : UpdateValue) × IsBodyInForms (opens_of peer.now) head.now body.now last.now last.now u }
+    ensures { result ≡ true → (u : UpdateValue) × IsReadAsLast (opens_of peer.now) head.now body.now last.now u }
 {
     if departs(peer, head, last.two_octets) {
         return false;
