@@ -4,7 +4,7 @@ ghost use Rattle.route_runs.specs.Override.{IsOverride};
 use crate::key::RunKey;
 use crate::packs::joined_packs;
 use crate::run::{Pack, Run};
-use crate::weave::woven;
+use crate::weave::{RowSlice, woven};
 use std::alloc::Global;
 use std::sync::Arc;
 use wire_io::NoMemory;
@@ -56,15 +56,15 @@ pub(crate) fn merge<K: RunKey, A: Drop>(
     }
     let packs = joined_packs(alloc, &earlier.packs, &later.packs)?;
     let shift = 4096 * first as u32;
-    let rows = woven(
-        alloc,
-        &earlier.keys,
-        &earlier.handles,
-        &later.keys,
-        &later.handles,
-        shift,
-        bottom,
-    )?;
+    let earlier_rows = RowSlice {
+        keys: &earlier.keys,
+        handles: &earlier.handles,
+    };
+    let later_rows = RowSlice {
+        keys: &later.keys,
+        handles: &later.handles,
+    };
+    let rows = woven(alloc, earlier_rows, later_rows, shift, bottom)?;
     let both = Run {
         keys: rows.keys,
         handles: rows.handles,
