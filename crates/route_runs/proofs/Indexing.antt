@@ -12,7 +12,7 @@ use Rattle.std.proofs.Math.ListN.{get_or-eq_default, get_or-map}
 use Rattle.std.proofs.lemmas.Map.Lookups.{CmpEqualImpliesEq}
 use Rattle.route_runs.specs.Keys.{pair_cmp}
 use Rattle.route_runs.specs.Message.{IsAllSet}
-use Rattle.route_runs.specs.Origins.{is_number, of_origin, told_origin, AreAdded, AreAll, AreNamed, Covers, HasPairs, IsIndexed}
+use Rattle.route_runs.specs.Origins.{is_number, of_origin, told_origin, AreAdded, AreAll, AreNamed, Covers, HasPairs, IsIndexed, IsKnown}
 use Rattle.route_runs.specs.Override.{value_at, or_else}
 use Rattle.route_runs.specs.Rows.{gone, set_at, paired, rows, IsRun}
 use Rattle.route_runs.specs.Runs.{latest, seen, changed, contents, IsChanged}
@@ -120,7 +120,7 @@ module _ {K S A U : Type 0} (cmp : K → K → Ordering) (by : S → S → Order
       ap is_some (set.values (asn, spot q)) ∙ set_there (value_at (pair_cmp by) (asn, spot q) added) (value_at (pair_cmp by) (asn, spot q) old) (has.none_gone (asn, spot q) (has.there (asn, spot q) listed))
 
 -- a table and an index that are shared
-pub same_indexed : {K S A U T E : Type 0} (cmp : K → K → Ordering) (by : S → S → Ordering) (spot : K → S) (origin : A → Option ℕ) (pairs : List (K × A)) (index : List ((ℕ × S) × U)) (r : Result T E) (first : T → List (K × A)) (second : T → List ((ℕ × S) × U))
-    → IfOk r (λ t. first t ≡ pairs) → IfOk r (λ t. second t ≡ index) → IsIndexed cmp by spot origin pairs index → IfOk r (λ t. IsIndexed cmp by spot origin (first t) (second t))
-same_indexed cmp by spot origin pairs index (Ok t) first second a b has = subst (λ l. IsIndexed cmp by spot origin l (second t)) (sym a) (subst (IsIndexed cmp by spot origin pairs) (sym b) has)
-same_indexed cmp by spot origin pairs index (Err e) first second a b has = tt
+pub same_known : {K S A U T E : Type 0} (cmp : K → K → Ordering) (by : S → S → Ordering) (spot : K → S) (origin : A → Option ℕ) (pairs : List (K × A)) (index : Option (List ((ℕ × S) × U))) (r : Result T E) (first : T → List (K × A)) (second : T → Option (List ((ℕ × S) × U)))
+    → IfOk r (λ t. first t ≡ pairs) → IfOk r (λ t. second t ≡ index) → IsKnown cmp by spot origin pairs index → IfOk r (λ t. IsKnown cmp by spot origin (first t) (second t))
+same_known cmp by spot origin pairs index (Ok t) first second a b has = subst (λ l. IsKnown cmp by spot origin l (second t)) (sym a) (subst (IsKnown cmp by spot origin pairs) (sym b) has)
+same_known cmp by spot origin pairs index (Err e) first second a b has = tt

@@ -9,7 +9,7 @@ use Rattle.std.specs.Option.{is_some}
 use Rattle.std.proofs.lemmas.Map.Lookups.{CmpEqualImpliesEq, exact_unsigned}
 use Rattle.route_runs.specs.Keys.{pair_cmp}
 use Rattle.route_runs.specs.Override.{value_at}
-use Rattle.route_runs.specs.Origins.{has_spot, is_number, of_origin, AreKeysBy, Covers, IsFirstSpot, IsIndexed, IsLeastSpot, IsReached, IsSkip}
+use Rattle.route_runs.specs.Origins.{has_spot, is_number, may_have, of_origin, AreKeysBy, Covers, IsFirstSpot, IsIndexed, IsKnown, IsLeastSpot, IsReached, IsSkip}
 use Rattle.route_runs.specs.Places.{is_after, is_from, IsFirst, IsFirstPair, IsPassed}
 use Rattle.route_runs.specs.Runs.{seen, changed, IsChanged}
 use Rattle.route_runs.proofs.Searching.{bools, not_both, itself, less_is, tie, turned_is, fewer, after_trans}
@@ -92,28 +92,28 @@ module _ {K S : Type 0} (cmp : K → K → Ordering) (total : IsTotalOrder cmp) 
     }
 
   -- ---- the search
-  module _ {A U : Type 0} (origin : A → Option ℕ) (asn : ℕ) (pairs : List (K × A)) (index : List ((ℕ × S) × U)) (indexed : IsIndexed cmp by spot origin pairs index) (keys : AreKeysBy cmp P pairs) (place at : K) where
+  module _ {A U : Type 0} (origin : A → Option ℕ) (asn : ℕ) (pairs : List (K × A)) (index : Option (List ((ℕ × S) × U))) (indexed : IsKnown cmp by spot origin pairs index) (keys : AreKeysBy cmp P pairs) (place at : K) where
     module _ (s : IsPassed cmp (λ q. Some (of_origin origin asn (value_at cmp q pairs))) (Some place) (Some at)) (e : K × A) (f : IsFirstPair cmp (is_after cmp (Some at)) (λ q. value_at cmp q pairs) e) (other : is_number asn (origin e.1) ≡ false) where
       none_here : of_origin origin asn (value_at cmp e.0 pairs) ≡ None
       none_here = ap (of_origin origin asn) f.there ∙ ap (λ (b : Bool). if b then Some e.1 else None) other
 
       -- what has the origin after the place is after the row that was read, and the index has its spot
-      past : (q : K) → is_after cmp (Some at) q ≡ true → (is_after cmp (Some e.0) q ≡ true → P q → has_spot by asn index (spot q) ≡ false) → of_origin origin asn (value_at cmp q pairs) ≡ None
+      past : (q : K) → is_after cmp (Some at) q ≡ true → (is_after cmp (Some e.0) q ≡ true → P q → may_have by asn index (spot q) ≡ false) → of_origin origin asn (value_at cmp q pairs) ≡ None
       past q after lacks = elim (bools (is_some (of_origin origin asn (value_at cmp q pairs)))) [
         | inl has ↦ elim (bools (is_after cmp (Some e.0) q)) [
-          | inl more ↦ absurd (not_both (has_spot by asn index (spot q)) (indexed q asn has) (lacks more (keys q (some_of origin asn (value_at cmp q pairs) has))))
+          | inl more ↦ absurd (not_both (may_have by asn index (spot q)) (indexed q asn has) (lacks more (keys q (some_of origin asn (value_at cmp q pairs) has))))
           | inr same ↦ ap (λ (k : K). of_origin origin asn (value_at cmp k pairs)) (tie cmp total exact q e.0 (f.first q after (some_of origin asn (value_at cmp q pairs) has)) same) ∙ none_here
         ]
         | inr none ↦ is_none (of_origin origin asn (value_at cmp q pairs)) none
       ]
 
-      pub search_ended : IsSkip cmp spot P e.0 (has_spot by asn index) None → IsFirst cmp (is_after cmp (Some place)) (λ q. of_origin origin asn (value_at cmp q pairs)) None
+      pub search_ended : IsSkip cmp spot P e.0 (may_have by asn index) None → IsFirst cmp (is_after cmp (Some place)) (λ q. of_origin origin asn (value_at cmp q pairs)) None
       search_ended skip q beyond = elim (bools (is_after cmp (Some at) q)) [
         | inl after ↦ past q after (λ more p. skip q p more)
         | inr before ↦ s.passed q beyond before
       ]
 
-      module _ (to : K) (skip : IsSkip cmp spot P e.0 (has_spot by asn index) (Some to)) where
+      module _ (to : K) (skip : IsSkip cmp spot P e.0 (may_have by asn index) (Some to)) where
         onward : (q : K) → is_after cmp (Some to) q ≡ true → is_after cmp (Some e.0) q ≡ true
         onward q after = elim (bools (is_lt (cmp to e.0))) [
           | inl less ↦ absurd (not_both (is_lt (cmp to e.0)) less skip.further)

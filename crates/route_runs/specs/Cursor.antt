@@ -1,6 +1,7 @@
 -- A walk over the pairs of a table.
 use Rattle.std.specs.Prelude.{◌≡◌, ℕ, ◌<◌, ◌≤◌, true, false, List, length, slice_index_or, Option, None, Some}
 use Rattle.std.specs.declared.cmp.Ordering.{Ordering}
+use Rattle.std.specs.Option.{option_map}
 use Rattle.route_runs.specs.Places.{is_after}
 
 -- the pairs that are walked over, and the key of the last one that was given
@@ -14,6 +15,10 @@ moved place None = place
 moved place (Some e) = Some e.0
 
 -- ---- inside
+-- the pairs of a walk, where there is one
+abbrev pub pairs_in : {K A : Type 0} → Option (Walking K A) → Option (List (K × A))
+pairs_in {K} {A} walk = option_map (λ (w : Walking K A). w.pairs) walk
+
 abbrev pub AreBefore : {K : Type 0} → (K → K → Ordering) → K → List K → ℕ → Type 0
 AreBefore {K} cmp place ks n = (k : ℕ) (d : K) → k < n → is_after cmp (Some place) (slice_index_or ks k d) ≡ false
 

@@ -40,6 +40,15 @@ has_spot cmp asn index s = is_some (value_at (pair_cmp cmp) (asn, s) index)
 abbrev pub IsIndexed : {K S A U : Type 0} → (K → K → Ordering) → (S → S → Ordering) → (K → S) → (A → Option ℕ) → List (K × A) → List ((ℕ × S) × U) → Type 0
 IsIndexed {K} {S} {A} cmp by spot origin pairs index = (q : K) (asn : ℕ) → is_some (of_origin origin asn (value_at cmp q pairs)) ≡ true → has_spot by asn index (spot q) ≡ true
 
+-- whether routes of an AS may have a spot, by the index: all may where there is none
+abbrev pub may_have : {S U : Type 0} → (S → S → Ordering) → ℕ → Option (List ((ℕ × S) × U)) → S → Bool
+may_have cmp asn None s = true
+may_have cmp asn (Some index) s = has_spot cmp asn index s
+
+-- of each listed pair whose set has an origin the spot is in the index, where there is one
+abbrev pub IsKnown : {K S A U : Type 0} → (K → K → Ordering) → (S → S → Ordering) → (K → S) → (A → Option ℕ) → List (K × A) → Option (List ((ℕ × S) × U)) → Type 0
+IsKnown {K} {S} {A} cmp by spot origin pairs index = (q : K) (asn : ℕ) → is_some (of_origin origin asn (value_at cmp q pairs)) ≡ true → may_have by asn index (spot q) ≡ true
+
 -- the spots of the rows of a run that have an origin are in a list of pairs
 abbrev pub AreAdded : {K S A : Type 0} → (K → K → Ordering) → (K → S) → (A → Option ℕ) → List (K × Option A) → List (ℕ × S) → Type 0
 AreAdded {K} cmp spot origin run pairs = (q : K) (asn : ℕ) → is_some (of_origin origin asn (seen (value_at cmp q run))) ≡ true → Contains pairs (asn, spot q)

@@ -5,7 +5,7 @@ ghost use Rattle.std.specs.Option.{option_map};
 ghost use Rattle.route_runs.specs.Override.{value_at};
 ghost use Rattle.route_runs.specs.Runs.{shared, IsChanged};
 
-use crate::index::with_changes;
+use crate::index::{share_index, walk_of, with_changes};
 use crate::key::TableKey;
 use crate::listed::Listed;
 use crate::origin_cursor::OriginCursor;
@@ -16,24 +16,24 @@ use std::alloc::Global;
 use std::marker::Model;
 use wire_io::NoMemory;
 
-/// The routes of one family of addresses, and their index by origin AS. Contracts see the keys that have a route, each
-/// with its attributes, in order.
+/// The routes of one family of addresses, and their index by origin AS, where it is kept. Contracts see the keys that have
+/// a route, each with its attributes, in order.
 #[derive(Drop)]
 pub(crate) struct FamilyTable<K: TableKey> {
     runs: Runs<K, Attrs>,
-    index: Runs<(u32, K::Spot), ()>,
+    index: Option<Runs<(u32, K::Spot), ()>>,
 }
 
 impl<K: TableKey> Model for FamilyTable<K> {
     ghost use Rattle.std.specs.Prelude.{List};
     ghost use Rattle.bmp_specs.specs.Values.{AttrsValue};
-    ghost use Rattle.route_runs.specs.Origins.{attrs_origin, IsIndexed};
+    ghost use Rattle.route_runs.specs.Origins.{attrs_origin, IsKnown};
 
     ghost Value = { List (K × AttrsValue) };
 
     ghost view = { λ t. t.runs };
 
-    ghost invariant = { λ t. IsIndexed K.cmp K.Spot.cmp K.spot_of attrs_origin t.runs t.index };
+    ghost invariant = { λ t. IsKnown K.cmp K.Spot.cmp K.spot_of attrs_origin t.runs t.index };
 }
 
 impl<K: TableKey> FamilyTable<K> {
@@ -43,7 +43,17 @@ impl<K: TableKey> FamilyTable<K> {
     {
         FamilyTable {
             runs: Runs::new(alloc),
-            index: Runs::new(alloc),
+            index: Some(Runs::new(alloc)),
+        }
+    }
+
+    /// The table with no route that keeps no index.
+    pub(crate) fn unindexed(alloc: Global) -> FamilyTable<K>
+        ensures { result ≡ [] }
+    {
+        FamilyTable {
+            runs: Runs::new(alloc),
+            index: None,
         }
     }
 
@@ -64,7 +74,7 @@ impl<K: TableKey> FamilyTable<K> {
         ensures { IfOk result (λ copy. copy ≡ self.now) }
     {
         let runs = self.runs.share(alloc)?;
-        let index = self.index.share(alloc)?;
+        let index = share_index(alloc, &self.index)?;
         Ok(FamilyTable { runs, index })
     }
 
@@ -88,7 +98,7 @@ impl<K: TableKey> FamilyTable<K> {
     {
         OriginCursor {
             rows: self.runs.cursor(None),
-            index: self.index.cursor(None),
+            index: walk_of(&self.index),
         }
     }
 

@@ -1,11 +1,12 @@
 ghost use Rattle.std.specs.Prelude.{◌≡◌, ℕ, true, length, map, option_and_then, IfOk, IsTrue, OnOk};
 ghost use Rattle.std.specs.Arc.{arc_value};
 ghost use Rattle.std.specs.List.{slice_get, Contains};
-ghost use Rattle.route_runs.specs.Origins.{attrs_origin, is_number, told_origin, AreAdded, AreAll, AreNamed, Covers, HasPairs, IsIndexed};
+ghost use Rattle.route_runs.specs.Cursor.{pairs_in};
+ghost use Rattle.route_runs.specs.Origins.{attrs_origin, is_number, told_origin, AreAdded, AreAll, AreNamed, Covers, HasPairs, IsIndexed, IsKnown};
 ghost use Rattle.route_runs.specs.Rows.{sets_of};
 ghost use Rattle.route_runs.specs.Runs.{IsChanged};
 
-use crate::cursor::is_same;
+use crate::cursor::{Cursor, is_same};
 use crate::key::{RunKey, TableKey};
 use crate::listed::Listed;
 use crate::origin::origin_of;
@@ -227,8 +228,21 @@ fn kept_short<K: TableKey>(
     Ok(index)
 }
 
+// A table with the rows of a run set.
+fn with_rows<K: TableKey>(
+    alloc: Global,
+    runs: &Runs<K, Attrs>,
+    run: Run<K, Attrs>,
+) -> Result<Runs<K, Attrs>, NoMemory>
+    ensures { IfOk result (IsChanged K.cmp runs.now run) }
+{
+    let mut new_runs = runs.share(alloc)?;
+    new_runs.push(alloc, run, ROWS_WAIT)?;
+    Ok(new_runs)
+}
+
 // A table with the rows of a run set, and its index.
-fn with_run<K: TableKey>(
+fn with_both<K: TableKey>(
     alloc: Global,
     runs: &Runs<K, Attrs>,
     index: &Runs<(u32, K::Spot), ()>,
@@ -241,36 +255,86 @@ fn with_run<K: TableKey>(
     let pairs = pairs_of(alloc, &run)?;
     let mut new_index = index.share(alloc)?;
     new_index.push(alloc, pairs, INDEX_WAIT)?;
-    let mut new_runs = runs.share(alloc)?;
-    new_runs.push(alloc, run, ROWS_WAIT)?;
+    let new_runs = with_rows(alloc, runs, run)?;
     let short = kept_short(alloc, &new_runs, new_index)?;
     Ok((new_runs, short))
 }
 
-// The same table, and its index.
+// A table with the rows of a run set, and its index, where it has one.
+fn with_run<K: TableKey>(
+    alloc: Global,
+    runs: &Runs<K, Attrs>,
+    index: &Option<Runs<(u32, K::Spot), ()>>,
+    run: Run<K, Attrs>,
+) -> Result<(Runs<K, Attrs>, Option<Runs<(u32, K::Spot), ()>>), NoMemory>
+    requires { IsKnown K.cmp K.Spot.cmp K.spot_of attrs_origin runs.now index.now }
+    ensures changed { IfOk result (λ r. IsChanged K.cmp runs.now run r.0) }
+    ensures known { IfOk result (λ r. IsKnown K.cmp K.Spot.cmp K.spot_of attrs_origin r.0 r.1) }
+{
+    match index {
+        Some(index) => {
+            let (new_runs, new_index) = with_both(alloc, runs, index, run)?;
+            Ok((new_runs, Some(new_index)))
+        }
+        None => {
+            let new_runs = with_rows(alloc, runs, run)?;
+            Ok((new_runs, None))
+        }
+    }
+}
+
+/// The same index, where there is one.
+pub(crate) fn share_index<S: RunKey>(
+    alloc: Global,
+    index: &Option<Runs<(u32, S), ()>>,
+) -> Result<Option<Runs<(u32, S), ()>>, NoMemory>
+    ensures { IfOk result (λ copy. copy ≡ index.now) }
+{
+    match index {
+        Some(index) => {
+            let same = index.share(alloc)?;
+            Ok(Some(same))
+        }
+        None => Ok(None),
+    }
+}
+
+/// A walk over an index, where there is one. It takes no memory.
+pub(crate) fn walk_of<S: RunKey>(
+    index: &Option<Runs<(u32, S), ()>>,
+) -> Option<Cursor<'_, (u32, S), ()>>
+    ensures { pairs_in result ≡ index.now }
+{
+    match index {
+        Some(index) => Some(index.cursor(None)),
+        None => None,
+    }
+}
+
+// The same table, and its index, where it has one.
 fn share_both<K: TableKey>(
     alloc: Global,
     runs: &Runs<K, Attrs>,
-    index: &Runs<(u32, K::Spot), ()>,
-) -> Result<(Runs<K, Attrs>, Runs<(u32, K::Spot), ()>), NoMemory>
+    index: &Option<Runs<(u32, K::Spot), ()>>,
+) -> Result<(Runs<K, Attrs>, Option<Runs<(u32, K::Spot), ()>>), NoMemory>
     ensures runs { IfOk result (λ r. r.0 ≡ runs.now) }
     ensures index { IfOk result (λ r. r.1 ≡ index.now) }
 {
     let same_runs = runs.share(alloc)?;
-    let same_index = index.share(alloc)?;
+    let same_index = share_index(alloc, index)?;
     Ok((same_runs, same_index))
 }
 
-/// A table with changes made, and its index.
+/// A table with changes made, and its index, where it has one.
 pub(crate) fn with_changes<K: TableKey>(
     alloc: Global,
     runs: &Runs<K, Attrs>,
-    index: &Runs<(u32, K::Spot), ()>,
+    index: &Option<Runs<(u32, K::Spot), ()>>,
     changes: Listed<K, Attrs>,
-) -> Result<(Runs<K, Attrs>, Runs<(u32, K::Spot), ()>), NoMemory>
-    requires { IsIndexed K.cmp K.Spot.cmp K.spot_of attrs_origin runs.now index.now }
+) -> Result<(Runs<K, Attrs>, Option<Runs<(u32, K::Spot), ()>>), NoMemory>
+    requires { IsKnown K.cmp K.Spot.cmp K.spot_of attrs_origin runs.now index.now }
     ensures changed { IfOk result (λ r. IsChanged K.cmp runs.now changes r.0) }
-    ensures indexed { IfOk result (λ r. IsIndexed K.cmp K.Spot.cmp K.spot_of attrs_origin r.0 r.1) }
+    ensures known { IfOk result (λ r. IsKnown K.cmp K.Spot.cmp K.spot_of attrs_origin r.0 r.1) }
 {
     runs.see_order();
     let rows = changes.into_run(alloc)?;

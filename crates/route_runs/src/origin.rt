@@ -3,7 +3,8 @@ ghost use Rattle.std.specs.Arc.{arc_value};
 ghost use Rattle.std.specs.List.Sorted.{IsStrictlySortedBy};
 ghost use Rattle.std.specs.Map.{keys_of};
 ghost use Rattle.std.specs.Option.{option_map};
-ghost use Rattle.route_runs.specs.Origins.{attrs_origin, is_number, has_spot, of_origin, passes, AreKeysBy, IsFirstSpot, IsIndexed, IsReached, IsSkip};
+ghost use Rattle.route_runs.specs.Cursor.{pairs_in};
+ghost use Rattle.route_runs.specs.Origins.{attrs_origin, is_number, has_spot, may_have, of_origin, passes, AreKeysBy, IsFirstSpot, IsKnown, IsReached, IsSkip};
 ghost use Rattle.route_runs.specs.Override.{value_at};
 ghost use Rattle.route_runs.specs.Places.{shown, is_after, is_from, IsFirst};
 ghost use Rattle.route_runs.specs.Runs.{shared};
@@ -80,9 +81,9 @@ fn reached<K: TableKey>(key: K, spot: K::Spot) -> K
     }
 }
 
-// A key up to which, from this one on, no key has an origin by the index; none where no later key has it. Beside the
+// A key up to which, from this one on, no key has an origin by this index; none where no later key has it. Beside the
 // place before, the index isn't asked again.
-fn skipped<K: TableKey>(
+fn skipped_by<K: TableKey>(
     index: &mut Cursor<'_, (u32, K::Spot), ()>,
     asn: u32,
     place: &K,
@@ -102,18 +103,35 @@ fn skipped<K: TableKey>(
     }
 }
 
+// The same where there may be no index: then the next key may have the origin.
+fn skipped<K: TableKey>(
+    index: &mut Option<Cursor<'_, (u32, K::Spot), ()>>,
+    asn: u32,
+    place: &K,
+    key: K,
+) -> Option<K>
+    requires { K.is_key key }
+    ensures skip { IsSkip K.cmp K.spot_of K.is_key key (may_have K.Spot.cmp asn (pairs_in index.old)) result }
+    ensures pairs { pairs_in index.new ≡ pairs_in index.old }
+{
+    match index {
+        Some(index) => skipped_by(index, asn, place, key),
+        None => Some(key),
+    }
+}
+
 // The first pair after a place whose route has this origin.
 fn first_after<'a, K: TableKey>(
     rows: &mut Cursor<'a, K, Attrs>,
-    index: &mut Cursor<'_, (u32, K::Spot), ()>,
+    index: &mut Option<Cursor<'_, (u32, K::Spot), ()>>,
     asn: u32,
     place: &K,
 ) -> Option<(K, &'a Route)>
-    requires indexed { IsIndexed K.cmp K.Spot.cmp K.spot_of attrs_origin rows.old.pairs index.old.pairs }
+    requires indexed { IsKnown K.cmp K.Spot.cmp K.spot_of attrs_origin rows.old.pairs (pairs_in index.old) }
     requires keys { AreKeysBy K.cmp K.is_key rows.old.pairs }
     ensures first { IsFirst K.cmp (is_after K.cmp (Some place.now)) (λ q. of_origin attrs_origin asn (value_at K.cmp q rows.old.pairs)) (option_map shown result) }
     ensures rows { rows.new.pairs ≡ rows.old.pairs }
-    ensures pairs { index.new.pairs ≡ index.old.pairs }
+    ensures pairs { pairs_in index.new ≡ pairs_in index.old }
 {
     let mut at = *place;
     loop {
@@ -133,15 +151,15 @@ fn first_after<'a, K: TableKey>(
 // The first pair from a place on whose route has this origin.
 fn first_from<'a, K: TableKey>(
     rows: &mut Cursor<'a, K, Attrs>,
-    index: &mut Cursor<'_, (u32, K::Spot), ()>,
+    index: &mut Option<Cursor<'_, (u32, K::Spot), ()>>,
     asn: u32,
     place: &K,
 ) -> Option<(K, &'a Route)>
-    requires indexed { IsIndexed K.cmp K.Spot.cmp K.spot_of attrs_origin rows.old.pairs index.old.pairs }
+    requires indexed { IsKnown K.cmp K.Spot.cmp K.spot_of attrs_origin rows.old.pairs (pairs_in index.old) }
     requires keys { AreKeysBy K.cmp K.is_key rows.old.pairs }
     ensures first { IsFirst K.cmp (is_from K.cmp place.now) (λ q. of_origin attrs_origin asn (value_at K.cmp q rows.old.pairs)) (option_map shown result) }
     ensures rows { rows.new.pairs ≡ rows.old.pairs }
-    ensures pairs { index.new.pairs ≡ index.old.pairs }
+    ensures pairs { pairs_in index.new ≡ pairs_in index.old }
 {
     match get_of(rows, asn, place) {
         Some(route) => Some((*place, route)),
@@ -152,16 +170,16 @@ fn first_from<'a, K: TableKey>(
 /// The first pair whose route has this origin: after a place, or from it on.
 pub(crate) fn first_of<'a, K: TableKey>(
     rows: &mut Cursor<'a, K, Attrs>,
-    index: &mut Cursor<'_, (u32, K::Spot), ()>,
+    index: &mut Option<Cursor<'_, (u32, K::Spot), ()>>,
     asn: u32,
     place: &K,
     at: bool,
 ) -> Option<(K, &'a Route)>
-    requires indexed { IsIndexed K.cmp K.Spot.cmp K.spot_of attrs_origin rows.old.pairs index.old.pairs }
+    requires indexed { IsKnown K.cmp K.Spot.cmp K.spot_of attrs_origin rows.old.pairs (pairs_in index.old) }
     requires keys { AreKeysBy K.cmp K.is_key rows.old.pairs }
     ensures first { IsFirst K.cmp (passes K.cmp at place.now) (λ q. of_origin attrs_origin asn (value_at K.cmp q rows.old.pairs)) (option_map shown result) }
     ensures rows { rows.new.pairs ≡ rows.old.pairs }
-    ensures pairs { index.new.pairs ≡ index.old.pairs }
+    ensures pairs { pairs_in index.new ≡ pairs_in index.old }
     ensures ordered { IsStrictlySortedBy K.cmp (keys_of rows.old.pairs) }
 {
     rows.see_order();

@@ -14,23 +14,24 @@ use rib_model::Route;
 use std::marker::Model;
 
 /// What reads the routes of an origin AS, of one family of addresses. It keeps its places in the table and in the
-/// index. Contracts see the pairs of all routes.
+/// index, where there is one. Contracts see the pairs of all routes.
 #[derive(Drop)]
 pub(crate) struct OriginCursor<'a, K: TableKey> {
     pub(crate) rows: Cursor<'a, K, Attrs>,
-    pub(crate) index: Cursor<'a, (u32, K::Spot), ()>,
+    pub(crate) index: Option<Cursor<'a, (u32, K::Spot), ()>>,
 }
 
 impl<'a, K: TableKey> Model for OriginCursor<'a, K> {
     ghost use Rattle.std.specs.Prelude.{List};
     ghost use Rattle.bmp_specs.specs.Values.{AttrsValue};
-    ghost use Rattle.route_runs.specs.Origins.{attrs_origin, IsIndexed};
+    ghost use Rattle.route_runs.specs.Cursor.{pairs_in};
+    ghost use Rattle.route_runs.specs.Origins.{attrs_origin, IsKnown};
 
     ghost Value = { List (K × AttrsValue) };
 
     ghost view = { λ o. o.rows.pairs };
 
-    ghost invariant = { λ o. IsIndexed K.cmp K.Spot.cmp K.spot_of attrs_origin o.rows.pairs o.index.pairs };
+    ghost invariant = { λ o. IsKnown K.cmp K.Spot.cmp K.spot_of attrs_origin o.rows.pairs (pairs_in o.index) };
 }
 
 impl<'a, K: TableKey> OriginCursor<'a, K> {

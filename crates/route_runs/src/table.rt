@@ -65,6 +65,18 @@ impl RouteTable {
         }
     }
 
+    /// The table with no route, without an index by origin AS: `origin` reads every row from its place on. Tables that
+    /// `with` and `share` make of it have none either, so `with` makes them sooner. It takes no memory.
+    pub fn unindexed(alloc: Global) -> RouteTable
+        ensures { result ≡ [] }
+    {
+        RouteTable {
+            alloc,
+            ipv4: FamilyTable::unindexed(alloc),
+            ipv6: FamilyTable::unindexed(alloc),
+        }
+    }
+
     /// The table with these changes made, one after another; they are taken out of the list, also where
     /// memory runs out. This table stays as it is.
     pub fn with(&self, changes: &mut Changes) -> Result<RouteTable, NoMemory>
@@ -156,7 +168,8 @@ impl RouteTable {
     }
 
     /// The routes whose path has this origin AS (RFC 6811, section 2), from a place on, in the order of NLRI. It
-    /// takes no memory. A step reads the table from row to row, and jumps by the index over rows of other origins.
+    /// takes no memory. A step reads the table from row to row, and jumps by the index over rows of other origins, where
+    /// the table has one.
     pub fn origin(&self, asn: u32, place: Place) -> OriginWalk<'_>
         ensures { result ≡ pairs_from place (with_origin asn self.now) }
     {

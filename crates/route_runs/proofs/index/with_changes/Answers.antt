@@ -4,7 +4,7 @@ use Rattle.route_runs.specs.Layers.{SaysTheSame}
 use Rattle.route_runs.specs.Origins.{attrs_origin}
 use Rattle.route_runs.specs.Runs.{IsChanged}
 use Rattle.route_runs.proofs.Contents.{changed_by, changed_by_none}
-use Rattle.route_runs.proofs.Indexing.{same_indexed}
+use Rattle.route_runs.proofs.Indexing.{same_known}
 use Rattle.route_runs.proofs.index.with_changes.Goals as goal
 
 pub returns-in-Some-clause-changed : goal.returns-in-Some-clause-changed
@@ -16,5 +16,5 @@ pub returns-in-None-clause-changed : goal.returns-in-None-clause-changed
 returns-in-None-clause-changed g c = IfOk-weaker c.share_both.result _ (λ r. IsChanged g.K.Ord.cmp c.args.runs.now c.args.changes r.0) (λ r e. subst (IsChanged g.K.Ord.cmp c.args.runs.now c.args.changes) (sym e)
     (changed_by_none g.K.Ord.cmp c.args.runs.now c.args.changes c.see_order.ensures (subst (SaysTheSame g.K.Ord.cmp c.args.changes) c.in-None.is c.in_ok-rows.ensures))) c.share_both.ensures.runs
 
-pub returns-in-None-clause-indexed : goal.returns-in-None-clause-indexed
-returns-in-None-clause-indexed g c = same_indexed g.K.Ord.cmp g.K.Spot.Ord.cmp g.K.TableKey.spot_of attrs_origin c.args.runs.now c.args.index.now c.share_both.result (λ r. r.0) (λ r. r.1) c.share_both.ensures.runs c.share_both.ensures.index c.requires
+pub returns-in-None-clause-known : goal.returns-in-None-clause-known
+returns-in-None-clause-known g c = same_known g.K.Ord.cmp g.K.Spot.Ord.cmp g.K.TableKey.spot_of attrs_origin c.args.runs.now c.args.index.now c.share_both.result (λ r. r.0) (λ r. r.1) c.share_both.ensures.runs c.share_both.ensures.index c.requires
