@@ -4,6 +4,7 @@ ghost use Rattle.rib_model.specs.Entries.{entry_values};
 ghost use Rattle.router_tables.specs.Building.{Builds};
 ghost use Rattle.router_tables.specs.Tables.{StandsFor};
 
+use crate::indexing::Indexing;
 use crate::last_steps::count_entries;
 use crate::late_steps::LateSteps;
 use crate::rows::Rows;
@@ -42,14 +43,14 @@ impl Model for TablesBuilder {
 }
 
 impl TablesBuilder {
-    /// Has taken no entries.
-    pub fn new(alloc: Global) -> Result<TablesBuilder, NoMemory>
+    /// Has taken no entries. Its tables get an index by origin AS, or none.
+    pub fn new(alloc: Global, indexing: Indexing) -> Result<TablesBuilder, NoMemory>
         ensures { IfOk result (λ builder. Builds builder []) }
     {
         Ok(TablesBuilder {
             alloc,
             session: Session::new(alloc)?,
-            rows: Rows::new(alloc, BTreeMap::new(alloc)),
+            rows: Rows::new(alloc, indexing, BTreeMap::new(alloc)),
             steps: LateSteps::new(alloc)?,
             gathered: 0,
         })

@@ -6,6 +6,7 @@ ghost use Rattle.router_tables.specs.Pending.{AreRowsAfter, AreTablesAfter, IsPe
 ghost use Rattle.router_tables.specs.Tables.{AreRowsOf};
 ghost use Rattle.router_tables.specs.Views.{no_tables};
 
+use crate::indexing::Indexing;
 use crate::pending::Pending;
 use crate::views::Views;
 use bmp_frames::PeerKey;
@@ -19,6 +20,7 @@ use wire_io::NoMemory;
 // without tables.
 pub(crate) fn make_changes(
     alloc: Global,
+    indexing: Indexing,
     mut pending: BTreeMap<PeerKey, Pending>,
     tables: &mut BTreeMap<PeerKey, Views>,
 ) -> Result<(), NoMemory>
@@ -26,7 +28,7 @@ pub(crate) fn make_changes(
         → AreRowsOf tables.new.entries effects) }
 {
     while let Some(peer) = pending.pop_first() {
-        change_peer(alloc, tables, peer.0, peer.1)?;
+        change_peer(alloc, indexing, tables, peer.0, peer.1)?;
     }
     Ok(())
 }
@@ -34,6 +36,7 @@ pub(crate) fn make_changes(
 // Makes the changes of one peer's tables.
 fn change_peer(
     alloc: Global,
+    indexing: Indexing,
     tables: &mut BTreeMap<PeerKey, Views>,
     key: PeerKey,
     changes: Pending,
@@ -41,7 +44,7 @@ fn change_peer(
     ensures { OnOk result (IsPeerAfter key changes tables.old.entries tables.new.entries) }
 {
     let old = so_far(tables.remove(&key));
-    let new = tables_with(alloc, old, changes)?;
+    let new = tables_with(alloc, indexing, old, changes)?;
     if !new.is_none() {
         tables.insert(key, new)?;
     }
@@ -59,28 +62,34 @@ fn so_far(views: Option<Views>) -> Views
 }
 
 // The tables of a peer with these changes made.
-fn tables_with(alloc: Global, views: Views, changes: Pending) -> Result<Views, NoMemory>
+fn tables_with(
+    alloc: Global,
+    indexing: Indexing,
+    views: Views,
+    changes: Pending,
+) -> Result<Views, NoMemory>
     ensures { IfOk result (AreTablesAfter changes views) }
 {
     Ok(Views {
-        in_pre: table_with(alloc, views.in_pre, changes.in_pre)?,
-        in_post: table_with(alloc, views.in_post, changes.in_post)?,
-        out_pre: table_with(alloc, views.out_pre, changes.out_pre)?,
-        out_post: table_with(alloc, views.out_post, changes.out_post)?,
-        loc: table_with(alloc, views.loc, changes.loc)?,
+        in_pre: table_with(alloc, indexing, views.in_pre, changes.in_pre)?,
+        in_post: table_with(alloc, indexing, views.in_post, changes.in_post)?,
+        out_pre: table_with(alloc, indexing, views.out_pre, changes.out_pre)?,
+        out_post: table_with(alloc, indexing, views.out_post, changes.out_post)?,
+        loc: table_with(alloc, indexing, views.loc, changes.loc)?,
     })
 }
 
 // The table with these changes made.
 fn table_with(
     alloc: Global,
+    indexing: Indexing,
     table: Option<Arc<RouteTable>>,
     changes: Option<Changes>,
 ) -> Result<Option<Arc<RouteTable>>, NoMemory>
     ensures { IfOk result (λ new. IsTableAfter (unwrap_or changes []) (option_map arc_value table) (option_map arc_value new)) }
 {
     match changes {
-        Some(changes) => changed_table(alloc, table, changes),
+        Some(changes) => changed_table(alloc, indexing, table, changes),
         None => Ok(table),
     }
 }
@@ -88,6 +97,7 @@ fn table_with(
 // The table with these changes, which are some.
 fn changed_table(
     alloc: Global,
+    indexing: Indexing,
     table: Option<Arc<RouteTable>>,
     changes: Changes,
 ) -> Result<Option<Arc<RouteTable>>, NoMemory>
@@ -96,7 +106,7 @@ fn changed_table(
     let mut changes = changes;
     match table {
         Some(table) => later_table(alloc, &table, &mut changes),
-        None => earliest_table(alloc, &mut changes),
+        None => earliest_table(alloc, indexing, &mut changes),
     }
 }
 
@@ -113,11 +123,25 @@ fn later_table(
 }
 
 // The table with these changes, where there was none.
-fn earliest_table(alloc: Global, changes: &mut Changes) -> Result<Option<Arc<RouteTable>>, NoMemory>
+fn earliest_table(
+    alloc: Global,
+    indexing: Indexing,
+    changes: &mut Changes,
+) -> Result<Option<Arc<RouteTable>>, NoMemory>
     ensures { IfOk result (λ new. IsTableAfter changes.old None (option_map arc_value new)) }
 {
-    let new = RouteTable::new(alloc).with(changes)?;
+    let new = bare_table(alloc, indexing).with(changes)?;
     first_table(alloc, new)
+}
+
+// The table with no route, which has an index by origin or none.
+fn bare_table(alloc: Global, indexing: Indexing) -> RouteTable
+    ensures { result ≡ [] }
+{
+    match indexing {
+        Indexing::ByOrigin => RouteTable::new(alloc),
+        Indexing::Unindexed => RouteTable::unindexed(alloc),
+    }
 }
 
 // A later table of a peer and a RIB; none where no route is left. One whose withdrawals aren't merged with its oldest

@@ -7,7 +7,8 @@
 //!
 //! While entries are taken, the changes of routes are gathered for each peer and RIB, and a peer that comes up or
 //! goes down drops what is gathered for it. At the end each table takes one run for all of them. `TablesBuilder` gathers
-//! them over many calls, for tables that are read only once all entries are taken.
+//! them over many calls, for tables that are read only once all entries are taken, and can leave out their index by origin
+//! AS (`Indexing`).
 //!
 //! Proved: new tables stand for no entries; tables that stand for some entries stand for them with any others behind
 //! them after `with`, `extend` and `apply`, and out of memory they are as before; equal tables have the same
@@ -22,6 +23,7 @@ mod builder;
 mod changed;
 mod counting;
 mod effects;
+mod indexing;
 mod last_steps;
 mod late_steps;
 mod owned;
@@ -38,5 +40,6 @@ mod taken;
 mod views;
 
 pub use builder::TablesBuilder;
+pub use indexing::Indexing;
 pub use state::LaneState;
 pub use tables::RouterTables;

@@ -8,6 +8,7 @@ ghost use Rattle.router_tables.specs.Pending.{route_effect, StandsForRows};
 ghost use Rattle.router_tables.specs.Tables.{AreRowsOf};
 
 use crate::changed::make_changes;
+use crate::indexing::Indexing;
 use crate::pending::{Pending, drop_gathered, gather};
 use crate::views::Views;
 use bmp_frames::PeerKey;
@@ -24,6 +25,8 @@ use wire_io::NoMemory;
 #[derive(Drop)]
 pub(crate) struct Rows {
     alloc: Global,
+    // whether a peer's first tables get an index by origin
+    indexing: Indexing,
     tables: BTreeMap<PeerKey, Views>,
     pending: BTreeMap<PeerKey, Pending>,
 }
@@ -38,11 +41,12 @@ impl Model for Rows {
 
 impl Rows {
     // These tables, with no change.
-    pub(crate) fn new(alloc: Global, tables: BTreeMap<PeerKey, Views>) -> Rows
+    pub(crate) fn new(alloc: Global, indexing: Indexing, tables: BTreeMap<PeerKey, Views>) -> Rows
         ensures { (effects : List EffectValue) → AreRowsOf tables.entries effects → StandsForRows result effects }
     {
         Rows {
             alloc,
+            indexing,
             tables,
             pending: BTreeMap::new(alloc),
         }
@@ -53,7 +57,7 @@ impl Rows {
         ensures { OnOk result ((effects : List EffectValue) → StandsForRows self.old effects → StandsForRows self.new effects) }
     {
         let pending = std::mem::replace(&mut self.pending, BTreeMap::new(self.alloc));
-        make_changes(self.alloc, pending, &mut self.tables)
+        make_changes(self.alloc, self.indexing, pending, &mut self.tables)
     }
 
     // The tables with all changes made. Out of memory, nothing is left.
@@ -61,7 +65,7 @@ impl Rows {
         ensures { IfOk result (λ tables. (effects : List EffectValue) → StandsForRows self effects → AreRowsOf tables.entries effects) }
     {
         let mut tables = self.tables;
-        make_changes(self.alloc, self.pending, &mut tables)?;
+        make_changes(self.alloc, self.indexing, self.pending, &mut tables)?;
         Ok(tables)
     }
 

@@ -5,6 +5,7 @@ ghost use Rattle.rib_model.specs.Entries.{entry_value, entry_values};
 ghost use Rattle.router_tables.specs.State.{state_value};
 ghost use Rattle.router_tables.specs.Tables.{StandsFor, table_at, route_at, steps_told};
 
+use crate::indexing::Indexing;
 use crate::last_steps::steps_with;
 use crate::rows::Rows;
 use crate::session::Session;
@@ -62,7 +63,7 @@ impl RouterTables {
         ensures { IfOk result (λ tables. (so_far : List EntryValue) → StandsFor self.now so_far → StandsFor tables (so_far ++ entry_values entries.now)) }
     {
         let mut session = self.session.share()?;
-        let mut rows = Rows::new(self.alloc, self.tables.clone()?);
+        let mut rows = Rows::new(self.alloc, Indexing::ByOrigin, self.tables.clone()?);
         let steps = steps_with(self.alloc, &self.steps, entries)?;
         take_entries(self.alloc, &mut session, &mut rows, entries)?;
         let tables = rows.into_tables()?;
