@@ -220,6 +220,33 @@ pub record YardValue : Type 0 where
   -- its disks by path, as they now are; of two under one path the first counts
   pub disks : List DiskAt
 
+-- what contracts see of a yard: what it tells, how many of its calls that answer a `Result` were made, what the last
+-- `listen` asked for, how many endings it took, and the last one, where it tells anything
+pub record YardSeen (E : Type 0) : Type 0 where
+  pub told : Option YardValue
+  pub calls : ℕ
+  pub listened : Option Listening
+  pub endings : ℕ
+  pub last_ending : Option E
+
+-- the same of a yard that tells nothing, and whose endings have nothing in them
+abbrev pub counts_only : ℕ → Option Listening → ℕ → YardSeen (Unit {0})
+counts_only calls listened endings = record { told = None; calls = calls; listened = listened; endings = endings; last_ending = None }
+
+-- a call was counted; what is listened for stays, and so do the endings
+pub record CountsCall {E : Type 0} (old new : YardSeen E) : Type 0 where
+  pub calls : new.calls ≡ one_more old.calls
+  pub listened : new.listened ≡ old.listened
+  pub endings : new.endings ≡ old.endings
+  pub ending : new.last_ending ≡ old.last_ending
+
+-- all stays but what the yard tells
+pub record LeavesRest {E : Type 0} (old new : YardSeen E) : Type 0 where
+  pub calls : new.calls ≡ old.calls
+  pub listened : new.listened ≡ old.listened
+  pub endings : new.endings ≡ old.endings
+  pub ending : new.last_ending ≡ old.last_ending
+
 -- how many lanes and askers were asked for, where it was asked to listen
 abbrev pub feeds_of : Option Listening → ℕ
 feeds_of None = 0

@@ -4,7 +4,7 @@ ghost use Rattle.std.specs.Io.KnownBytes.{Keeps};
 ghost use Rattle.bmp_specs.specs.Life.{LastRead};
 ghost use Rattle.wire_io.specs.Aside.{Aside};
 ghost use Rattle.wire_io.specs.Faults.{HasCause};
-ghost use Rattle.station_doors.specs.Doors.{Opens, Reads, Closes, AsPlanned, MadeOver, Went, noted_writes, read_size, YardValue, IsLane, askers_of, Listens, HandsOut, HandsOutLink, TakesBack, TakesLinkBack, KeepsEnding, one_more};
+ghost use Rattle.station_doors.specs.Doors.{Opens, Reads, Closes, AsPlanned, MadeOver, Went, noted_writes, read_size, YardSeen, CountsCall, LeavesRest, IsLane, askers_of, Listens, HandsOut, HandsOutLink, TakesBack, TakesLinkBack, KeepsEnding, one_more};
 ghost use Rattle.station_doors.specs.Disks.{HandsOutDisk, TakesDiskBack};
 ghost use Rattle.station_doors.specs.Files.{GivesFile, HasFileCause};
 ghost use Rattle.station_doors.specs.declared.listening.Listening.{Listening};
@@ -105,108 +105,80 @@ pub trait Yard {
 
     type Ending: Drop;
 
-    /// What it tells, where it tells anything.
-    ghost told: { Self → Option YardValue } = { λ _. None };
-
-    /// The ending that it took last, where it tells anything.
-    ghost last_ending: { Self → Option Self.Ending } = { λ _. None };
-
-    /// How many endings it took.
-    ghost endings: { Self → ℕ };
-
-    /// The values of the last `listen`.
-    ghost listened: { Self → Option Listening };
+    /// What contracts see of it but its count of faults.
+    ghost seen: { Self → YardSeen Self.Ending };
 
     /// The count of faults. It never falls.
     ghost faults: { Self → ℕ };
 
-    /// How many of its calls that answer a `Result` were made.
-    ghost calls: { Self → ℕ };
-
     /// Listens for so many routers and clients, where and how these values say.
     fn listen(&mut self, at: &Listening) -> Result<(), Failed>
-        ensures told { Listens (calls self.old) (told self.old) (told self.new) result }
-        ensures listened { listened self.new ≡ Some at.now }
-        ensures calls { calls self.new ≡ one_more (calls self.old) }
+        ensures told { Listens (seen self.old).calls (seen self.old).told (seen self.new).told result }
+        ensures listened { (seen self.new).listened ≡ Some at.now }
+        ensures calls { (seen self.new).calls ≡ one_more (seen self.old).calls }
         ensures cause { HasCause (faults self.old) (faults self.new) result }
-        ensures endings { endings self.new ≡ endings self.old }
-        ensures ending { last_ending self.new ≡ last_ending self.old };
+        ensures endings { (seen self.new).endings ≡ (seen self.old).endings }
+        ensures ending { (seen self.new).last_ending ≡ (seen self.old).last_ending };
 
     /// Hands out a port under this number: that of a lane, or 0. Where nothing was asked to listen, port 0 is the
     /// program's one input connection.
     fn port(&mut self, lane: u32) -> Result<Self::Port, Failed>
-        requires { IsLane (listened self.old) lane }
-        ensures told { HandsOut Self.Port.aside Self.Port.calls lane (calls self.old) (told self.old) (told self.new) result }
-        ensures listened { listened self.new ≡ listened self.old }
-        ensures calls { calls self.new ≡ one_more (calls self.old) }
-        ensures cause { HasCause (faults self.old) (faults self.new) result }
-        ensures endings { endings self.new ≡ endings self.old }
-        ensures ending { last_ending self.new ≡ last_ending self.old };
+        requires { IsLane (seen self.old).listened lane }
+        ensures told { HandsOut Self.Port.aside Self.Port.calls lane (seen self.old).calls (seen self.old).told (seen self.new).told result }
+        ensures counted { CountsCall (seen self.old) (seen self.new) }
+        ensures cause { HasCause (faults self.old) (faults self.new) result };
 
     /// Hands out the link of this asker.
     fn link(&mut self, number: u32) -> Result<Self::Link, Failed>
-        requires { number < askers_of (listened self.old) }
-        ensures told { HandsOutLink Self.Link.aside Self.Link.told Self.Link.faults Self.Link.calls number (calls self.old) (told self.old) (told self.new) result }
-        ensures listened { listened self.new ≡ listened self.old }
-        ensures calls { calls self.new ≡ one_more (calls self.old) }
-        ensures cause { HasCause (faults self.old) (faults self.new) result }
-        ensures endings { endings self.new ≡ endings self.old }
-        ensures ending { last_ending self.new ≡ last_ending self.old };
+        requires { number < askers_of (seen self.old).listened }
+        ensures told { HandsOutLink Self.Link.aside Self.Link.told Self.Link.faults Self.Link.calls number (seen self.old).calls (seen self.old).told (seen self.new).told result }
+        ensures counted { CountsCall (seen self.old) (seen self.new) }
+        ensures cause { HasCause (faults self.old) (faults self.new) result };
 
     /// Gives the whole file of this path, which has at most 2^26 bytes. A file that has more is `TooLong`, which is no
     /// fault; it fails where there is no such file, or it can't be read. The yard stays as it is.
     fn file(&mut self, alloc: Global, path: &str) -> Result<ByteList, FileFault>
-        ensures told { GivesFile path.now (calls self.old) (told self.old) (told self.new) result }
-        ensures listened { listened self.new ≡ listened self.old }
-        ensures calls { calls self.new ≡ one_more (calls self.old) }
+        ensures told { GivesFile path.now (seen self.old).calls (seen self.old).told (seen self.new).told result }
+        ensures counted { CountsCall (seen self.old) (seen self.new) }
         ensures cause { HasFileCause (faults self.old) (faults self.new) result }
-        ensures later { faults self.old ≤ faults self.new }
-        ensures endings { endings self.new ≡ endings self.old }
-        ensures ending { last_ending self.new ≡ last_ending self.old };
+        ensures later { faults self.old ≤ faults self.new };
 
     /// Hands out the disk of this path. A real yard makes an empty file where there is none. It fails where no disk
     /// stands there, or one that was handed out and not given back since.
     fn disk(&mut self, path: &str) -> Result<Self::Disk, Failed>
-        ensures told { HandsOutDisk Self.Disk.tells Self.Disk.shows Self.Disk.faults path.now (calls self.old) (told self.old) (told self.new) result }
-        ensures listened { listened self.new ≡ listened self.old }
-        ensures calls { calls self.new ≡ one_more (calls self.old) }
-        ensures cause { HasCause (faults self.old) (faults self.new) result }
-        ensures endings { endings self.new ≡ endings self.old }
-        ensures ending { last_ending self.new ≡ last_ending self.old };
+        ensures told { HandsOutDisk Self.Disk.tells Self.Disk.shows Self.Disk.faults path.now (seen self.old).calls (seen self.old).told (seen self.new).told result }
+        ensures counted { CountsCall (seen self.old) (seen self.new) }
+        ensures cause { HasCause (faults self.old) (faults self.new) result };
 
     /// Takes back the port that was handed out under this number. It raises no count.
     fn take_port(&mut self, lane: u32, port: Self::Port)
-        ensures told { TakesBack lane (Self.Port.aside port) (told self.old) (told self.new) }
-        ensures listened { listened self.new ≡ listened self.old }
-        ensures calls { calls self.new ≡ calls self.old }
-        ensures calm { faults self.new ≡ faults self.old }
-        ensures endings { endings self.new ≡ endings self.old }
-        ensures ending { last_ending self.new ≡ last_ending self.old };
+        ensures told { TakesBack lane (Self.Port.aside port) (seen self.old).told (seen self.new).told }
+        ensures rest { LeavesRest (seen self.old) (seen self.new) }
+        ensures calm { faults self.new ≡ faults self.old };
 
     /// Takes back the link that was handed out under this number. It raises no count.
     fn take_link(&mut self, number: u32, link: Self::Link)
-        ensures told { TakesLinkBack (record { number = number; shows = Self.Link.aside link; written = Self.Link.told link; faults = Self.Link.faults link }) (told self.old) (told self.new) }
-        ensures listened { listened self.new ≡ listened self.old }
-        ensures calls { calls self.new ≡ calls self.old }
-        ensures calm { faults self.new ≡ faults self.old }
-        ensures endings { endings self.new ≡ endings self.old }
-        ensures ending { last_ending self.new ≡ last_ending self.old };
+        ensures told { TakesLinkBack (record {
+          number = number;
+          shows = Self.Link.aside link;
+          written = Self.Link.told link;
+          faults = Self.Link.faults link;
+        }) (seen self.old).told (seen self.new).told }
+        ensures rest { LeavesRest (seen self.old) (seen self.new) }
+        ensures calm { faults self.new ≡ faults self.old };
 
     /// Takes back the disk that was handed out under this path, and drops it where none was. It raises no count.
     fn take_disk(&mut self, path: &str, disk: Self::Disk)
-        ensures told { TakesDiskBack path.now (record { value = Self.Disk.shows disk; faults = Self.Disk.faults disk }) (told self.old) (told self.new) }
-        ensures listened { listened self.new ≡ listened self.old }
-        ensures calls { calls self.new ≡ calls self.old }
-        ensures calm { faults self.new ≡ faults self.old }
-        ensures endings { endings self.new ≡ endings self.old }
-        ensures ending { last_ending self.new ≡ last_ending self.old };
+        ensures told { TakesDiskBack path.now (record { value = Self.Disk.shows disk; faults = Self.Disk.faults disk }) (seen self.old).told (seen self.new).told }
+        ensures rest { LeavesRest (seen self.old) (seen self.new) }
+        ensures calm { faults self.new ≡ faults self.old };
 
     /// Takes what the end of a station gave, in the place of an earlier ending. It raises no count.
     fn take_ending(&mut self, ending: Self::Ending)
-        ensures ending { KeepsEnding (told self.old) ending (last_ending self.new) }
-        ensures endings { endings self.new ≡ one_more (endings self.old) }
-        ensures told { told self.new ≡ told self.old }
-        ensures listened { listened self.new ≡ listened self.old }
-        ensures calls { calls self.new ≡ calls self.old }
+        ensures ending { KeepsEnding (seen self.old).told ending (seen self.new).last_ending }
+        ensures endings { (seen self.new).endings ≡ one_more (seen self.old).endings }
+        ensures told { (seen self.new).told ≡ (seen self.old).told }
+        ensures listened { (seen self.new).listened ≡ (seen self.old).listened }
+        ensures calls { (seen self.new).calls ≡ (seen self.old).calls }
         ensures calm { faults self.new ≡ faults self.old };
 }

@@ -1,6 +1,6 @@
 ghost use Rattle.std.specs.Prelude.{◌≡◌, ◌↔◌, None, Some, IfOk, IsOk, IsSome, ◌<◌, slice_get};
 ghost use Rattle.wire_io.specs.Faults.{HasCause};
-ghost use Rattle.station_doors.specs.Doors.{one_more, askers_of};
+ghost use Rattle.station_doors.specs.Doors.{CountsCall, askers_of, counts_only};
 
 use crate::files::read_whole;
 use crate::sockets::{MOST, listen_at, take_listener};
@@ -72,13 +72,9 @@ impl<
 
     type Ending = ();
 
-    ghost endings = { λ y. y.endings };
-
-    ghost listened = { λ y. y.listened };
+    ghost seen = { λ y. counts_only y.calls y.listened y.endings };
 
     ghost faults = { λ y. y.faults };
-
-    ghost calls = { λ y. y.calls };
 
     fn listen(&mut self, at: &Listening) -> Result<(), Failed> {
         self.calls = self.calls.saturating_add(1);
@@ -112,10 +108,8 @@ impl<
         ensures reader { self.old.listened ≡ None → IfOk result (λ port. self.old.input ≡ port.input) }
         ensures input { self.old.listened ≡ None → self.new.input ≡ None }
         ensures lane { IsSome self.old.listened → IfOk result (λ port. (port.input ≡ None) × (slice_get self.old.feeds.items lane ≡ Some port.listener)) }
-        ensures listened { self.new.listened ≡ self.old.listened }
-        ensures calls { self.new.calls ≡ one_more self.old.calls }
+        ensures counted { CountsCall (counts_only self.old.calls self.old.listened self.old.endings) (counts_only self.new.calls self.new.listened self.new.endings) }
         ensures cause { HasCause self.old.faults self.new.faults result }
-        ensures endings { self.new.endings ≡ self.old.endings }
     {
         self.calls = self.calls.saturating_add(1);
         let (input, listener) = if self.listened.is_some() {
@@ -137,10 +131,8 @@ impl<
     fn link(&mut self, number: u32) -> Result<HostLink<'a, N>, Failed>
         requires { number < askers_of self.old.listened }
         ensures asker { IfOk result (λ link. slice_get self.old.askers.items number ≡ Some (Some link.listener)) }
-        ensures listened { self.new.listened ≡ self.old.listened }
-        ensures calls { self.new.calls ≡ one_more self.old.calls }
+        ensures counted { CountsCall (counts_only self.old.calls self.old.listened self.old.endings) (counts_only self.new.calls self.new.listened self.new.endings) }
         ensures cause { HasCause self.old.faults self.new.faults result }
-        ensures endings { self.new.endings ≡ self.old.endings }
     {
         self.calls = self.calls.saturating_add(1);
         match take_listener(&mut self.askers, number) {

@@ -38,7 +38,16 @@ impl Model for MemLink {
 
     ghost Value = { MemLinkValue };
 
-    ghost view = { λ k. record { shows = link_shows k.fails.items k.connections; pieces = k.pieces.items; fails = k.fails.items; written = k.written.items; room = k.room; reads = k.reads; calls = k.calls; faults = k.faults } };
+    ghost view = { λ k. record {
+      shows = link_shows k.fails.items k.connections;
+      pieces = k.pieces.items;
+      fails = k.fails.items;
+      written = k.written.items;
+      room = k.room;
+      reads = k.reads;
+      calls = k.calls;
+      faults = k.faults;
+    } };
 
     ghost invariant = { λ k. All (λ n. 0 < n) k.pieces.items × (vec_len k.written ≤ k.room) × (k.room ≤ vec_capacity k.written) };
 }
@@ -54,7 +63,16 @@ impl MemLink {
         fails: &[u64],
     ) -> Result<MemLink, NoMemory>
         requires { All (λ n. 0 < n) pieces.now }
-        ensures { IfOk result (λ link. link ≡ record { shows = untouched_link (record { connections = connections.now; fails = fails.now }); pieces = pieces.now; fails = fails.now; written = []; room = room; reads = 0; calls = 0; faults = 0 }) }
+        ensures { IfOk result (λ link. link ≡ record {
+          shows = untouched_link (record { connections = connections.now; fails = fails.now });
+          pieces = pieces.now;
+          fails = fails.now;
+          written = [];
+          room = room;
+          reads = 0;
+          calls = 0;
+          faults = 0;
+        }) }
     {
         let connections = Connections::new(alloc, connections)?;
         let pieces = Vec::from_slice(alloc, pieces)?;

@@ -63,7 +63,14 @@ impl<E> Model for MemYard<E> {
 
     ghost Value = { MemYardValue E };
 
-    ghost view = { λ y. record { tells = tells_of y.ports.items y.links.items y.fails.items y.out.items y.links_out.items y.back.items y.links_back.items y.files.items y.disks.items; listened = y.listened; calls = y.calls; faults = y.faults; ending = y.ending; endings = y.endings } };
+    ghost view = { λ y. record {
+      tells = tells_of y.ports.items y.links.items y.fails.items y.out.items y.links_out.items y.back.items y.links_back.items y.files.items y.disks.items;
+      listened = y.listened;
+      calls = y.calls;
+      faults = y.faults;
+      ending = y.ending;
+      endings = y.endings;
+    } };
 
     ghost invariant = { λ y. All IsUntouched y.ports.items × All IsIdle y.links.items
         × (vec_len y.ports + vec_len y.out ≤ vec_capacity y.out) × (vec_len y.ports + vec_len y.out + vec_len y.back ≤ vec_capacity y.back)
@@ -83,7 +90,14 @@ impl<E> MemYard<E> {
     ) -> Result<MemYard<E>, NoMemory>
         requires ports { All IsUntouched ports }
         requires links { All IsIdle links }
-        ensures { IfOk result (λ y. y ≡ record { tells = record { ports = map plan_of ports; links = map link_plan_of links; fails = fails.now; out = []; links_out = []; back = []; links_back = []; files = []; disks = [] }; listened = None; calls = 0; faults = 0; ending = None; endings = 0 }) }
+        ensures { IfOk result (λ y. y ≡ record {
+          tells = record { ports = map plan_of ports; links = map link_plan_of links; fails = fails.now; out = []; links_out = []; back = []; links_back = []; files = []; disks = [] };
+          listened = None;
+          calls = 0;
+          faults = 0;
+          ending = None;
+          endings = 0;
+        }) }
     {
         let ports = ports.into_vec()?;
         let links = links.into_vec()?;
@@ -203,17 +217,9 @@ impl<E: Drop> Yard for MemYard<E> {
 
     type Ending = E;
 
-    ghost told = { λ y. Some y.tells };
-
-    ghost last_ending = { λ y. y.ending };
-
-    ghost endings = { λ y. y.endings };
-
-    ghost listened = { λ y. y.listened };
+    ghost seen = { λ y. record { told = Some y.tells; calls = y.calls; listened = y.listened; endings = y.endings; last_ending = y.ending } };
 
     ghost faults = { λ y. y.faults };
-
-    ghost calls = { λ y. y.calls };
 
     fn listen(&mut self, at: &Listening) -> Result<(), Failed> {
         let call = self.calls;
