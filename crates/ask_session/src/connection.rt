@@ -74,7 +74,8 @@ fn hear_last<K: Link>(
 pub fn converse<K: Link>(pass: &mut AskPass<RouterTables>, link: &mut K) -> Close
     requires { IsTrue (K.aside link.old).is_open }
     ensures sees { Sees pass.old pass.new }
-    ensures talk { (input : Given) × Conversed pass.old.station.lanes pass.new.seen (revision pass.old.seen) (K.aside link.old) (K.aside link.new) input (K.told link.old) (K.told link.new) (K.faults link.old) (K.faults link.new) result }
+    ensures talk { (input : Given) × Conversed pass.old.station.lanes pass.new.seen (revision pass.old.seen)
+        (K.aside link.old) (K.aside link.new) input (K.told link.old) (K.told link.new) (K.faults link.old) (K.faults link.new) result }
 {
     let mut line = Line::new();
     let mut buf = [0u8; 512];

@@ -31,7 +31,8 @@ fn opens<K: Link>(link: &mut K) -> bool
 /// long, was among the last 512 bytes. It takes no memory and no lock.
 pub fn serve_session<K: Link>(pass: &mut AskPass<RouterTables>, link: &mut K, rounds: u32) -> u32
     ensures sees { Sees pass.old pass.new }
-    ensures served { Served pass.old.station.lanes rounds pass.old.seen pass.new.seen (K.aside link.old) (K.aside link.new) (K.told link.old) (K.told link.new) (K.faults link.old) (K.faults link.new) result }
+    ensures served { Served pass.old.station.lanes rounds pass.old.seen pass.new.seen
+        (K.aside link.old) (K.aside link.new) (K.told link.old) (K.told link.new) (K.faults link.old) (K.faults link.new) result }
 {
     let mut served = 0;
     while served < rounds {

@@ -114,7 +114,8 @@ impl<D: Disk> Archive<D> {
     pub fn append(&mut self, piece: &[u8]) -> Result<(), AppendFault>
         requires some { 0 < length piece.now }
         requires most { length piece.now ≤ 65536 }
-        ensures any_moment { D.tells → (content : List ℕ) → HasOnly (D.shows self.old.disk).now content → Passes (IsBeforeOrAfter content piece.now) (D.shows self.old.disk) (D.shows self.new.disk) }
+        ensures any_moment { D.tells → (content : List ℕ) → HasOnly (D.shows self.old.disk).now content
+            → Passes (IsBeforeOrAfter content piece.now) (D.shows self.old.disk) (D.shows self.new.disk) }
         ensures kept { OnOk result (D.tells → (content : List ℕ) → HasOnly (D.shows self.old.disk).now content → HasOnly (D.shows self.new.disk).now (content ++ piece.now)) }
         ensures closed { D.tells → self.old.stopped ≡ false → IsClosedAt (D.shows self.old.disk).now self.old.place }
         ensures answers { AppendAnswers self.old self.new (length piece.now) result }

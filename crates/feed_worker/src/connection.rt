@@ -44,7 +44,8 @@ pub fn take_connection<B: BodyReading + Drop, J: Naming, P: FeedPort<B, J>, R: W
     requires station { pass.old.station ≡ J.site }
     requires room { length pass.old.entries + 2 ^ 44 ≤ 2 ^ 57 }
     requires new { IsNew (P.aside port.old) }
-    ensures { MatchResult result (TakesConnection B.meaning (P.aside port.old) (P.aside port.new) pass.old pass.new) (λ _. BreaksConnection B.meaning (P.aside port.old) (P.aside port.new) pass.old pass.new) }
+    ensures { MatchResult result (TakesConnection B.meaning (P.aside port.old) (P.aside port.new) pass.old pass.new)
+        (λ _. BreaksConnection B.meaning (P.aside port.old) (P.aside port.new) pass.old pass.new) }
 {
     publish_entries(rt, alloc, publisher, pass, &[Entry::Opened])?;
     let mut walk = StreamWalk::<B>::new(alloc);

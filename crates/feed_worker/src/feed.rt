@@ -10,6 +10,7 @@ use bmp_message::BodyReading;
 use cut_publisher::{FeedPass, Naming, Publisher};
 use router_tables::RouterTables;
 use std::alloc::Global;
+use std::fmt;
 use std::sync::Wait;
 use wire_io::NoMemory;
 
@@ -24,6 +25,15 @@ pub enum LaneEnd {
 
     /// Out of memory.
     NoMemory,
+}
+
+impl fmt::Display for LaneEnd {
+    fn fmt<W: fmt::Write>(&self, f: &mut fmt::Formatter<W>) -> fmt::Result {
+        match self {
+            LaneEnd::Over => f.write_str("no further connection is served"),
+            LaneEnd::NoMemory => f.write_str("out of memory"),
+        }
+    }
 }
 
 /// Whether the next connection was opened. There may be none, or opening it may fail.
@@ -48,7 +58,9 @@ fn serve_connection<B: BodyReading + Drop, J: Naming, P: FeedPort<B, J>, R: Wait
     requires station { pass.old.station ≡ J.site }
     requires room { length pass.old.entries + 2 ^ 44 ≤ 2 ^ 57 }
     requires new { IsNew (P.aside port.old) }
-    ensures { MatchResult result (λ _. Concludes B.meaning (IsLifeOf B.meaning) (P.aside port.old) (P.aside port.new) pass.old pass.new) (λ _. Concludes B.meaning (IsBegunOf B.meaning) (P.aside port.old) (P.aside port.new) pass.old pass.new) }
+    ensures { MatchResult result
+        (λ _. Concludes B.meaning (IsLifeOf B.meaning) (P.aside port.old) (P.aside port.new) pass.old pass.new)
+        (λ _. Concludes B.meaning (IsBegunOf B.meaning) (P.aside port.old) (P.aside port.new) pass.old pass.new) }
 {
     match take_connection::<B, J, P, R>(rt, alloc, publisher, pass, port) {
         Ok(cause) => close_connection::<B, J, P, R>(rt, alloc, publisher, pass, port, cause),

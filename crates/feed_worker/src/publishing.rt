@@ -56,7 +56,9 @@ fn gather<B: BodyReading + Drop>(
     alloc: Global,
     walk: &mut StreamWalk<B>,
 ) -> Result<Gathered, NoMemory>
-    ensures gives { IfOk result (λ gathered. (fed : List ℕ) (given : List EntryValue) → HasReached B.meaning B.state fed given walk.old → Gives B.meaning B.state fed (given ++ entry_values gathered.entries) walk.new gathered.end) }
+    ensures gives { IfOk result (λ gathered. (fed : List ℕ) (given : List EntryValue)
+        → HasReached B.meaning B.state fed given walk.old
+        → Gives B.meaning B.state fed (given ++ entry_values gathered.entries) walk.new gathered.end) }
     ensures fed { fed_of walk.new ≡ fed_of walk.old }
 {
     let mut entries = List::new(alloc);
@@ -100,7 +102,10 @@ pub(crate) fn publish_piece<B: BodyReading + Drop, J: Naming, R: Wait>(
 ) -> Result<Option<Cause>, NoMemory>
     requires station { pass.old.station ≡ J.site }
     requires room { HasRoom B.meaning B.state pass.old walk.old (length piece.now) }
-    ensures { MatchResult result (λ end. (first : Fed Entry) (fed : List ℕ) → HasPublished B.meaning B.state first pass.old fed walk.old → Publishes B.meaning B.state first pass.new (fed ++ piece.now) walk.new end) (λ _. pass.new ≡ pass.old) }
+    ensures { MatchResult result
+        (λ end. (first : Fed Entry) (fed : List ℕ) → HasPublished B.meaning B.state first pass.old fed walk.old
+        → Publishes B.meaning B.state first pass.new (fed ++ piece.now) walk.new end)
+        (λ _. pass.new ≡ pass.old) }
 {
     walk.feed(piece)?;
     let gathered = gather(alloc, walk)?;
