@@ -12,11 +12,11 @@ use Rattle.bmp_specs.specs.Meaning.{Meaning}
 use Rattle.cut_publisher.specs.History.{Asker, Fed, Site}
 use Rattle.cut_publisher.specs.Opening.{AreAsksOf, AreFeedsOf, AreFreshAsks}
 use Rattle.rib_model.specs.declared.entry.Entry.{Entry}
-use Rattle.station_doors.specs.Doors.{Returned, ReturnedLink}
+use Rattle.station_doors.specs.Doors.{Returned, ReturnedLink, YardSeen}
 use Rattle.station_doors.specs.declared.listening.Listening.{Listening}
 use Rattle.station_run.specs.Handed.{AllComeBack, Lends, call_after, numbered, numbered_links}
 use Rattle.station_run.specs.Served.{HaveServed, ask_of, first_link_of, first_of, last_link_of, last_of, pass_of}
-use Rattle.station_run.specs.Serve.{AnswersFault, GivesAllBack, ServesAll, YardSeen}
+use Rattle.station_run.specs.Serve.{AnswersFault, GivesAllBack, ServesAll}
 use Rattle.station_run.proofs.Handing.{length-numbered, length-numbered_links}
 use Rattle.station_run.proofs.Returning.{come_back}
 use Rattle.station_run.proofs.Runs.{all_at, asks_of_station, lanes_of_station}

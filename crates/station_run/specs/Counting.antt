@@ -9,12 +9,12 @@ use Rattle.rib_model.specs.declared.entry.Entry.{Entry}
 use Rattle.rib_model.specs.Entries.{entry_values}
 use Rattle.router_tables.specs.Tables.{TablesValue}
 use Rattle.wire_io.specs.Aside.{Plan}
-use Rattle.station_doors.specs.Doors.{YardValue}
+use Rattle.station_doors.specs.Doors.{YardSeen, YardValue}
 use Rattle.station_doors.specs.declared.listening.Listening.{Listening}
 use Rattle.feed_worker.specs.Feed.{Connection, lives_of}
 use Rattle.feed_worker.specs.Planned.{AreWholeLives}
 use Rattle.station_run.specs.Handed.{call_after}
-use Rattle.station_run.specs.Serve.{Ends, YardSeen}
+use Rattle.station_run.specs.Serve.{Ends}
 use Rattle.station_run.specs.Served.{LaneRun}
 use Rattle.station_run.specs.declared.outcome.Outcome.{Outcome}
 use Rattle.station_run.specs.declared.outcome.Outcome.TheVariants.{Done}

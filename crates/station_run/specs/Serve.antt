@@ -8,7 +8,7 @@ use Rattle.rib_model.specs.declared.entry.Entry.{Entry}
 use Rattle.router_tables.specs.Tables.{TablesValue}
 use Rattle.wire_io.specs.Faults.{Rose}
 use Rattle.wire_io.specs.Writes.{AppendsFront}
-use Rattle.station_doors.specs.Doors.{YardValue, Returned, ReturnedLink, KeepsEnding, one_more}
+use Rattle.station_doors.specs.Doors.{YardSeen, Returned, ReturnedLink, KeepsEnding, one_more}
 use Rattle.station_doors.specs.declared.listening.Listening.{Listening}
 use Rattle.station_run.specs.Handed.{ComeBack, Refuses, call_after, numbered, numbered_links}
 use Rattle.station_run.specs.Pairing.{outcome_of}
@@ -23,15 +23,6 @@ ready_line = line (codes "ready") []
 -- what is written at the end: the revision of the history
 abbrev pub done_line : ℕ → List ℕ
 done_line rev = number_line (codes "done") rev
-
--- what contracts see of a yard: what it tells, how many calls it answered, what it listens for, how many endings it took,
--- and the last one
-pub record YardSeen (E : Type 0) : Type 0 where
-  pub told : Option YardValue
-  pub calls : ℕ
-  pub listened : Option Listening
-  pub endings : ℕ
-  pub last_ending : Option E
 
 -- it took no ending
 pub record TakesNone {E : Type 0} (old new : YardSeen E) : Type 0 where

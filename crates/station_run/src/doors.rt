@@ -2,7 +2,9 @@
 ghost use Rattle.std.specs.Prelude.{◌≡◌, ◌+◌, ◌≤◌, ℕ, Some, [], length, vec_len, IfOk, OnOk, OnErr, MatchResult};
 ghost use Rattle.std.specs.Vec.{vec_capacity};
 ghost use Rattle.wire_io.specs.Faults.{HasCause};
+ghost use Rattle.station_doors.specs.Doors.{LeavesRest};
 ghost use Rattle.station_run.specs.Handed.{AllComeBack, FailsAt, Lends, LendsButRefuses, LinksComeBack, PortsComeBack, Refuses, call_after, link_shows, numbered, numbered_links};
+ghost use Rattle.station_run.specs.Serve.{TakesNone};
 
 use crate::room::place;
 use feed_worker::LanePort;
@@ -26,16 +28,17 @@ fn ask_all<Y: Yard>(
     requires ports { (ports.old.items ≡ []) × (at.now.feeds ≤ vec_capacity ports.old) }
     requires links { (links.old.items ≡ []) × (at.now.askers ≤ vec_capacity links.old) }
     ensures asked { OnOk result ((length ports.new.items ≡ at.now.feeds) × (length links.new.items ≡ at.now.askers)) }
-    ensures lends { OnOk result (Lends (Y.told yard.old) (Y.told yard.new) (Y.calls yard.old) (1 + (at.now.feeds + at.now.askers)) (numbered Y.Port.aside 0 ports.new.items) (numbered_links (link_shows Y.Link.aside Y.Link.told Y.Link.faults) 0 links.new.items)) }
-    ensures calls { OnOk result (Y.calls yard.new ≡ call_after (Y.calls yard.old) (1 + (at.now.feeds + at.now.askers))) }
+    ensures lends { OnOk result (Lends (Y.seen yard.old).told (Y.seen yard.new).told (Y.seen yard.old).calls (1 + (at.now.feeds + at.now.askers))
+        (numbered Y.Port.aside 0 ports.new.items) (numbered_links (link_shows Y.Link.aside Y.Link.told Y.Link.faults) 0 links.new.items)) }
+    ensures calls { OnOk result ((Y.seen yard.new).calls ≡ call_after (Y.seen yard.old).calls (1 + (at.now.feeds + at.now.askers))) }
     ensures refused { OnErr result ((before : ℕ) × FailsAt at.now before (length ports.new.items) (length links.new.items)
-        × LendsButRefuses at.now (Y.told yard.old) (Y.told yard.new) (Y.calls yard.old) before (numbered Y.Port.aside 0 ports.new.items) (numbered_links (link_shows Y.Link.aside Y.Link.told Y.Link.faults) 0 links.new.items)
-        × (Y.calls yard.new ≡ call_after (Y.calls yard.old) (before + 1))) }
+        × LendsButRefuses at.now (Y.seen yard.old).told (Y.seen yard.new).told (Y.seen yard.old).calls before
+        (numbered Y.Port.aside 0 ports.new.items) (numbered_links (link_shows Y.Link.aside Y.Link.told Y.Link.faults) 0 links.new.items)
+        × ((Y.seen yard.new).calls ≡ call_after (Y.seen yard.old).calls (before + 1))) }
     ensures room { (vec_capacity ports.old ≤ vec_capacity ports.new) × (vec_capacity links.old ≤ vec_capacity links.new) }
     ensures cause { HasCause (Y.faults yard.old) (Y.faults yard.new) result }
-    ensures listened { Y.listened yard.new ≡ Some at.now }
-    ensures endings { Y.endings yard.new ≡ Y.endings yard.old }
-    ensures ending { Y.last_ending yard.new ≡ Y.last_ending yard.old }
+    ensures listened { (Y.seen yard.new).listened ≡ Some at.now }
+    ensures none { TakesNone (Y.seen yard.old) (Y.seen yard.new) }
 {
     let Ok(()) = yard.listen(at) else {
         return Err(Failed);
@@ -58,12 +61,9 @@ fn ask_all<Y: Yard>(
 // Gives the ports back.
 fn give_ports<Y: Yard>(yard: &mut Y, mut ports: Vec<LanePort<Y::Port>>)
     requires few { length ports.items ≤ 64 }
-    ensures told { PortsComeBack (Y.told yard.old) (Y.told yard.new) (numbered Y.Port.aside 0 ports.items) 0 }
-    ensures calls { Y.calls yard.new ≡ Y.calls yard.old }
+    ensures told { PortsComeBack (Y.seen yard.old).told (Y.seen yard.new).told (numbered Y.Port.aside 0 ports.items) 0 }
+    ensures rest { LeavesRest (Y.seen yard.old) (Y.seen yard.new) }
     ensures calm { Y.faults yard.new ≡ Y.faults yard.old }
-    ensures listened { Y.listened yard.new ≡ Y.listened yard.old }
-    ensures endings { Y.endings yard.new ≡ Y.endings yard.old }
-    ensures ending { Y.last_ending yard.new ≡ Y.last_ending yard.old }
 {
     ports.reverse();
     let mut lane = 0;
@@ -76,12 +76,9 @@ fn give_ports<Y: Yard>(yard: &mut Y, mut ports: Vec<LanePort<Y::Port>>)
 // Gives the links back.
 fn give_links<Y: Yard>(yard: &mut Y, mut links: Vec<Y::Link>)
     requires few { length links.items ≤ 64 }
-    ensures told { LinksComeBack (Y.told yard.old) (Y.told yard.new) (numbered_links (link_shows Y.Link.aside Y.Link.told Y.Link.faults) 0 links.items) 0 }
-    ensures calls { Y.calls yard.new ≡ Y.calls yard.old }
+    ensures told { LinksComeBack (Y.seen yard.old).told (Y.seen yard.new).told (numbered_links (link_shows Y.Link.aside Y.Link.told Y.Link.faults) 0 links.items) 0 }
+    ensures rest { LeavesRest (Y.seen yard.old) (Y.seen yard.new) }
     ensures calm { Y.faults yard.new ≡ Y.faults yard.old }
-    ensures listened { Y.listened yard.new ≡ Y.listened yard.old }
-    ensures endings { Y.endings yard.new ≡ Y.endings yard.old }
-    ensures ending { Y.last_ending yard.new ≡ Y.last_ending yard.old }
 {
     links.reverse();
     let mut number = 0;
@@ -94,12 +91,10 @@ fn give_links<Y: Yard>(yard: &mut Y, mut links: Vec<Y::Link>)
 /// Gives all ports and links back, each under its number. It raises no count.
 pub fn give_back<Y: Yard>(yard: &mut Y, doors: Doors<Y::Port, Y::Link>)
     requires few { (length doors.ports.items ≤ 64) × (length doors.links.items ≤ 64) }
-    ensures told { AllComeBack (Y.told yard.old) (Y.told yard.new) (numbered Y.Port.aside 0 doors.ports.items) (numbered_links (link_shows Y.Link.aside Y.Link.told Y.Link.faults) 0 doors.links.items) }
-    ensures calls { Y.calls yard.new ≡ Y.calls yard.old }
+    ensures told { AllComeBack (Y.seen yard.old).told (Y.seen yard.new).told
+        (numbered Y.Port.aside 0 doors.ports.items) (numbered_links (link_shows Y.Link.aside Y.Link.told Y.Link.faults) 0 doors.links.items) }
+    ensures rest { LeavesRest (Y.seen yard.old) (Y.seen yard.new) }
     ensures calm { Y.faults yard.new ≡ Y.faults yard.old }
-    ensures listened { Y.listened yard.new ≡ Y.listened yard.old }
-    ensures endings { Y.endings yard.new ≡ Y.endings yard.old }
-    ensures ending { Y.last_ending yard.new ≡ Y.last_ending yard.old }
 {
     let Doors { ports, links } = doors;
     give_ports(yard, ports);
@@ -116,14 +111,15 @@ pub fn open_doors<Y: Yard>(
     requires ports { (doors.ports.items ≡ []) × (at.now.feeds ≤ vec_capacity doors.ports) × (at.now.feeds ≤ 64) }
     requires links { (doors.links.items ≡ []) × (at.now.askers ≤ vec_capacity doors.links) × (at.now.askers ≤ 64) }
     ensures asked { IfOk result (λ d. (length d.ports.items ≡ at.now.feeds) × (length d.links.items ≡ at.now.askers)) }
-    ensures lends { IfOk result (λ d. Lends (Y.told yard.old) (Y.told yard.new) (Y.calls yard.old) (1 + (at.now.feeds + at.now.askers)) (numbered Y.Port.aside 0 d.ports.items) (numbered_links (link_shows Y.Link.aside Y.Link.told Y.Link.faults) 0 d.links.items)) }
-    ensures calls { OnOk result (Y.calls yard.new ≡ call_after (Y.calls yard.old) (1 + (at.now.feeds + at.now.askers))) }
-    ensures refused { OnErr result ((before : ℕ) × Refuses at.now (Y.told yard.old) (Y.told yard.new) (Y.calls yard.old) before × (Y.calls yard.new ≡ call_after (Y.calls yard.old) (before + 1))) }
+    ensures lends { IfOk result (λ d. Lends (Y.seen yard.old).told (Y.seen yard.new).told (Y.seen yard.old).calls (1 + (at.now.feeds + at.now.askers))
+        (numbered Y.Port.aside 0 d.ports.items) (numbered_links (link_shows Y.Link.aside Y.Link.told Y.Link.faults) 0 d.links.items)) }
+    ensures calls { OnOk result ((Y.seen yard.new).calls ≡ call_after (Y.seen yard.old).calls (1 + (at.now.feeds + at.now.askers))) }
+    ensures refused { OnErr result ((before : ℕ) × Refuses at.now (Y.seen yard.old).told (Y.seen yard.new).told (Y.seen yard.old).calls before
+        × ((Y.seen yard.new).calls ≡ call_after (Y.seen yard.old).calls (before + 1))) }
     ensures room { IfOk result (λ d. (at.now.feeds ≤ vec_capacity d.ports) × (at.now.askers ≤ vec_capacity d.links)) }
     ensures cause { HasCause (Y.faults yard.old) (Y.faults yard.new) result }
-    ensures listened { Y.listened yard.new ≡ Some at.now }
-    ensures endings { Y.endings yard.new ≡ Y.endings yard.old }
-    ensures ending { Y.last_ending yard.new ≡ Y.last_ending yard.old }
+    ensures listened { (Y.seen yard.new).listened ≡ Some at.now }
+    ensures none { TakesNone (Y.seen yard.old) (Y.seen yard.new) }
 {
     let Doors {
         mut ports,

@@ -81,7 +81,8 @@ fn add_askers(
     asks: &mut AskList<RouterTables>,
     tasks: &mut Vec<DrillTask>,
 ) -> Result<(), NoMemory>
-    ensures { OnOk result ((seed messages : ℕ) (b : Site) (lanes : ℕ) → AreAsksOf b asks.old → AreWorks (Begins seed messages b) lanes tasks.old.items → AreWorks (Begins seed messages b) lanes tasks.new.items) }
+    ensures { OnOk result ((seed messages : ℕ) (b : Site) (lanes : ℕ) → AreAsksOf b asks.old
+        → AreWorks (Begins seed messages b) lanes tasks.old.items → AreWorks (Begins seed messages b) lanes tasks.new.items) }
 {
     let lines = questions(alloc)?;
     while let Some(pass) = asks.pop() {

@@ -107,7 +107,7 @@ where
     requires ports { (room.doors.ports.items ≡ []) × (at.now.feeds ≤ vec_capacity room.doors.ports) }
     requires links { (room.doors.links.items ≡ []) × (at.now.askers ≤ vec_capacity room.doors.links) }
     requires tasks { (room.tasks.items ≡ []) × (at.now.feeds + at.now.askers ≤ vec_capacity room.tasks) }
-    ensures comes { Comes Y.Ending.shows B.meaning at.now rounds (record { told = Y.told yard.old; calls = Y.calls yard.old; listened = Y.listened yard.old; endings = Y.endings yard.old; last_ending = Y.last_ending yard.old }) (record { told = Y.told yard.new; calls = Y.calls yard.new; listened = Y.listened yard.new; endings = Y.endings yard.new; last_ending = Y.last_ending yard.new }) (O.told out.old) (O.told out.new) result }
+    ensures comes { Comes Y.Ending.shows B.meaning at.now rounds (Y.seen yard.old) (Y.seen yard.new) (O.told out.old) (O.told out.new) result }
     ensures out { AnswersFault (O.faults out.old) (O.faults out.new) result Outcome.WriteFault }
     ensures yard { AnswersFault (Y.faults yard.old) (Y.faults yard.new) result Outcome.YardFault }
     ensures aside { O.aside out.new ≡ O.aside out.old }
@@ -187,7 +187,7 @@ where
     Y::Ending: FromEnding,
     requires feeds { (0 < at.now.feeds) × (at.now.feeds ≤ 64) }
     requires askers { (0 < at.now.askers) × (at.now.askers ≤ 64) }
-    ensures comes { Comes Y.Ending.shows B.meaning at.now rounds (record { told = Y.told yard.old; calls = Y.calls yard.old; listened = Y.listened yard.old; endings = Y.endings yard.old; last_ending = Y.last_ending yard.old }) (record { told = Y.told yard.new; calls = Y.calls yard.new; listened = Y.listened yard.new; endings = Y.endings yard.new; last_ending = Y.last_ending yard.new }) (O.told out.old) (O.told out.new) result }
+    ensures comes { Comes Y.Ending.shows B.meaning at.now rounds (Y.seen yard.old) (Y.seen yard.new) (O.told out.old) (O.told out.new) result }
     ensures out { AnswersFault (O.faults out.old) (O.faults out.new) result Outcome.WriteFault }
     ensures yard { AnswersFault (Y.faults yard.old) (Y.faults yard.new) result Outcome.YardFault }
     ensures aside { O.aside out.new ≡ O.aside out.old }

@@ -60,7 +60,10 @@ pub fn serve_doors<
     requires ports { length ports.old.items ≤ vec_capacity ports.old }
     requires links { length links.old.items ≤ vec_capacity links.old }
     requires tasks { (tasks.items ≡ []) × (length ports.old.items + length links.old.items ≤ vec_capacity tasks) }
-    ensures { HaveServed B.meaning rounds J.site (numbered P.aside 0 ports.old.items) (numbered P.aside 0 ports.new.items) (numbered_links (link_shows K.aside K.told K.faults) 0 links.old.items) (numbered_links (link_shows K.aside K.told K.faults) 0 links.new.items) result.1 feeds.new asks.new result.0 }
+    ensures { HaveServed B.meaning rounds J.site
+        (numbered P.aside 0 ports.old.items) (numbered P.aside 0 ports.new.items)
+        (numbered_links (link_shows K.aside K.told K.faults) 0 links.old.items) (numbered_links (link_shows K.aside K.told K.faults) 0 links.new.items)
+        result.1 feeds.new asks.new result.0 }
 {
     pair(feeds, asks, ports, links, rounds, &mut tasks);
     do_all(rt, alloc, publisher, &mut tasks);

@@ -5,13 +5,13 @@ use Rattle.station_run.proofs.doors.give_links.Given as goal
 
 abbrev pub invariant-loop-link : goal.invariant-loop-link
 invariant-loop-link g l = record {
-  back : ReturnLinks (link_shows g.Y.Link.Sink.aside g.Y.Link.Sink.told g.Y.Link.Sink.faults) (g.Y.Yard.told l.fn.yard) (g.Y.Yard.told l.yard) l.fn.links.items l.links.items l.number;
+  back : ReturnLinks (link_shows g.Y.Link.Sink.aside g.Y.Link.Sink.told g.Y.Link.Sink.faults) (g.Y.Yard.seen l.fn.yard).told (g.Y.Yard.seen l.yard).told l.fn.links.items l.links.items l.number;
   few : l.number + length l.links.items ≤ 64;
-  calls : g.Y.Yard.calls l.yard ≡ g.Y.Yard.calls l.fn.yard;
+  calls : (g.Y.Yard.seen l.yard).calls ≡ (g.Y.Yard.seen l.fn.yard).calls;
   faults : g.Y.Yard.faults l.yard ≡ g.Y.Yard.faults l.fn.yard;
-  listened : g.Y.Yard.listened l.yard ≡ g.Y.Yard.listened l.fn.yard;
-  endings : g.Y.Yard.endings l.yard ≡ g.Y.Yard.endings l.fn.yard;
-  ending : g.Y.Yard.last_ending l.yard ≡ g.Y.Yard.last_ending l.fn.yard;
+  listened : (g.Y.Yard.seen l.yard).listened ≡ (g.Y.Yard.seen l.fn.yard).listened;
+  endings : (g.Y.Yard.seen l.yard).endings ≡ (g.Y.Yard.seen l.fn.yard).endings;
+  ending : (g.Y.Yard.seen l.yard).last_ending ≡ (g.Y.Yard.seen l.fn.yard).last_ending;
 }
 
 abbrev pub decreases-loop-link : goal.decreases-loop-link

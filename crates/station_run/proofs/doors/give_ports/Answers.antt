@@ -17,11 +17,11 @@ loop-port-init g c = record {
 
 pub loop-port-preserved : goal.loop-port-preserved
 loop-port-preserved g c = record {
-  back = return_more g.Y.Port.Port.aside _ _ _ _ _ _ _ c.in-Some.port c.loop-port.invariant.back c.in-Some.ensures.items (subst (λ (p : g.row.Y-Port.Denot). TakesBack c.loop-port.lane (g.Y.Port.Port.aside p) (g.Y.Yard.told c.loop-port.yard) (g.Y.Yard.told c.take_port.new.self)) c.into_port.ensures c.take_port.ensures.told);
+  back = return_more g.Y.Port.Port.aside _ _ _ _ _ _ _ c.in-Some.port c.loop-port.invariant.back c.in-Some.ensures.items (subst (λ (p : g.row.Y-Port.Denot). TakesBack c.loop-port.lane (g.Y.Port.Port.aside p) (g.Y.Yard.seen c.loop-port.yard).told (g.Y.Yard.seen c.take_port.new.self).told) c.into_port.ensures c.take_port.ensures.told);
   few = omega (arith, c.loop-port.invariant.few, ap (λ (l : List g.row.Y-Port.Denot). length l) c.in-Some.ensures.items, length-append c.pop.new.self.items (c.in-Some.port ∷ []));
-  calls = c.take_port.ensures.calls ∙ c.loop-port.invariant.calls;
+  calls = c.take_port.ensures.rest.calls ∙ c.loop-port.invariant.calls;
   faults = c.take_port.ensures.calm ∙ c.loop-port.invariant.faults;
-  listened = c.take_port.ensures.listened ∙ c.loop-port.invariant.listened;
-  endings = c.take_port.ensures.endings ∙ c.loop-port.invariant.endings;
-  ending = c.take_port.ensures.ending ∙ c.loop-port.invariant.ending;
+  listened = c.take_port.ensures.rest.listened ∙ c.loop-port.invariant.listened;
+  endings = c.take_port.ensures.rest.endings ∙ c.loop-port.invariant.endings;
+  ending = c.take_port.ensures.rest.ending ∙ c.loop-port.invariant.ending;
 }

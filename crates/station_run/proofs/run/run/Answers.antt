@@ -20,7 +20,7 @@ name-publisher-requires-clause-asks g c = asks_are_of _ _ _ _ c.requires.opened.
 pub returns-in_default-clause-comes : goal.returns-in_default-clause-comes
 returns-in_default-clause-comes g c =
     let (before, refuses, calls) = c.in_default.ensures.refused in
-    refused before refl refuses calls c.in_default.ensures.listened (record { endings = c.in_default.ensures.endings; last = c.in_default.ensures.ending }) (keeps_self (g.O.Sink.told c.args.out.now))
+    refused before refl refuses calls c.in_default.ensures.listened c.in_default.ensures.none (keeps_self (g.O.Sink.told c.args.out.now))
 
 pub returns-in_default-clause-yard : goal.returns-in_default-clause-yard
 returns-in_default-clause-yard g c = answers _ _ YardFault c.in_default.ensures.cause.failed
@@ -32,9 +32,9 @@ returns-in_default-put_ready-clause-comes g c =
     let ks = numbered_links shows 0 c.in-Ok.doors.links.items in
     let o = c.in-Ok.ensures in
     let b = c.give_back.ensures in
-    unready ps ks refl (gives_back c.args.at.now _ (record { told = g.Y.Yard.told c.open_doors.new.yard; calls = g.Y.Yard.calls c.open_doors.new.yard; listened = g.Y.Yard.listened c.open_doors.new.yard; endings = g.Y.Yard.endings c.open_doors.new.yard; last_ending = g.Y.Yard.last_ending c.open_doors.new.yard }) _ ps ps ks ks
-    o.listened o.calls (length-numbered g.Y.Port.Port.aside 0 c.in-Ok.doors.ports.items ∙ o.asked.0) (length-numbered_links shows 0 c.in-Ok.doors.links.items ∙ o.asked.1) o.lends b.listened b.calls refl refl b.told)
-    (record { endings = b.endings ∙ o.endings; last = b.ending ∙ o.ending }) c.in_default-put_ready.ensures.front
+    unready ps ks refl (gives_back c.args.at.now _ (g.Y.Yard.seen c.open_doors.new.yard) _ ps ps ks ks
+    o.listened o.calls (length-numbered g.Y.Port.Port.aside 0 c.in-Ok.doors.ports.items ∙ o.asked.0) (length-numbered_links shows 0 c.in-Ok.doors.links.items ∙ o.asked.1) o.lends b.rest.listened b.rest.calls refl refl b.told)
+    (record { endings = b.rest.endings ∙ o.none.endings; last = b.rest.ending ∙ o.none.last }) c.in_default-put_ready.ensures.front
 
 pub returns-in_default-put_ready-clause-out : goal.returns-in_default-put_ready-clause-out
 returns-in_default-put_ready-clause-out g c = answers _ _ WriteFault c.in_default-put_ready.ensures.cause.failed
@@ -58,10 +58,10 @@ returns-then-not-kept-clause-comes g c =
     let s = c.serve_doors-outcome.ensures in
     let o = c.in-Ok.ensures in
     let b = c.give_back-2.ensures in
-    unfinished refl (serves_all _ _ _ _ _ _ _ _ _ _ _ s c.args.at.now _ _ (sym (ap (λ (x : Site). x.lanes) c.requires.named) ∙ c.requires.opened.wide) (gives_back c.args.at.now _ (record { told = g.Y.Yard.told c.open_doors.new.yard; calls = g.Y.Yard.calls c.open_doors.new.yard; listened = g.Y.Yard.listened c.open_doors.new.yard; endings = g.Y.Yard.endings c.open_doors.new.yard; last_ending = g.Y.Yard.last_ending c.open_doors.new.yard }) _ _ _ _ _
-    o.listened o.calls (length-numbered g.Y.Port.Port.aside 0 c.in-Ok.doors.ports.items ∙ o.asked.0) (length-numbered_links shows 0 c.in-Ok.doors.links.items ∙ o.asked.1) o.lends b.listened b.calls
+    unfinished refl (serves_all _ _ _ _ _ _ _ _ _ _ _ s c.args.at.now _ _ (sym (ap (λ (x : Site). x.lanes) c.requires.named) ∙ c.requires.opened.wide) (gives_back c.args.at.now _ (g.Y.Yard.seen c.open_doors.new.yard) _ _ _ _ _
+    o.listened o.calls (length-numbered g.Y.Port.Port.aside 0 c.in-Ok.doors.ports.items ∙ o.asked.0) (length-numbered_links shows 0 c.in-Ok.doors.links.items ∙ o.asked.1) o.lends b.rest.listened b.rest.calls
     (as_many_back _ _ _ _ _ _ _ _ _ _ _ s) (as_many_links_back _ _ _ _ _ _ _ _ _ _ _ s) b.told))
-    (record { endings = b.endings ∙ o.endings; last = b.ending ∙ o.ending }) c.in-Ok-put_ready.ensures.whole
+    (record { endings = b.rest.endings ∙ o.none.endings; last = b.rest.ending ∙ o.none.last }) c.in-Ok-put_ready.ensures.whole
 
 pub returns-then-not-kept-clause-out : goal.returns-then-not-kept-clause-out
 returns-then-not-kept-clause-out g c = answers_not _ _ _ _ no_memory_write c.in-Ok-put_ready.ensures.cause.fine
@@ -84,7 +84,7 @@ returns-in-Ok-put_done-clause-comes g c =
     let t = c.take_ending.ensures in
     let ports_count = length-numbered g.Y.Port.Port.aside 0 c.in-Ok.doors.ports.items ∙ o.asked.0 in
     let links_count = length-numbered_links shows 0 c.in-Ok.doors.links.items ∙ o.asked.1 in
-    let told = subst (λ (y : Option YardValue). AllComeBack (g.Y.Yard.told c.open_doors.new.yard) y (numbered g.Y.Port.Port.aside 0 c.serve_doors-outcome.new.ports.items) (numbered_links shows 0 c.serve_doors-outcome.new.links.items)) (sym t.told) b.told in
+    let told = subst (λ (y : Option YardValue). AllComeBack (g.Y.Yard.seen c.open_doors.new.yard).told y (numbered g.Y.Port.Port.aside 0 c.serve_doors-outcome.new.ports.items) (numbered_links shows 0 c.serve_doors-outcome.new.links.items)) (sym t.told) b.told in
     let writes = join {faults = g.O.Sink.faults} {told = g.O.Sink.told} {aside = g.O.Sink.aside} c.args.out.now c.put_ready.new.out c.put_done.new.out ready_line (done_line c.rev-rev.result) _ c.in-Ok-put_ready.field-0 (Ok c.in-Ok-put_done.field-0) c.in-Ok-put_ready.ensures c.in-Ok-put_done.ensures refl in
     finished c.rev-rev.result (record {
       runs = s.runs;
@@ -92,14 +92,14 @@ returns-in-Ok-put_done-clause-comes g c =
       cut = arc_value c.in-Ok-finish.ending.cut;
       feeds = c.in-Ok-finish.ending.feeds;
       asks = c.in-Ok-finish.ending.asks;
-      back = by_runs _ _ _ _ _ _ _ _ _ _ _ s c.args.at.now _ _ (gives_back c.args.at.now _ (record { told = g.Y.Yard.told c.open_doors.new.yard; calls = g.Y.Yard.calls c.open_doors.new.yard; listened = g.Y.Yard.listened c.open_doors.new.yard; endings = g.Y.Yard.endings c.open_doors.new.yard; last_ending = g.Y.Yard.last_ending c.open_doors.new.yard }) _ _ _ _ _
-          o.listened o.calls ports_count links_count o.lends (t.listened ∙ b.listened) (t.calls ∙ b.calls) (as_many_back _ _ _ _ _ _ _ _ _ _ _ s) (as_many_links_back _ _ _ _ _ _ _ _ _ _ _ s) told);
+      back = by_runs _ _ _ _ _ _ _ _ _ _ _ s c.args.at.now _ _ (gives_back c.args.at.now _ (g.Y.Yard.seen c.open_doors.new.yard) _ _ _ _ _
+          o.listened o.calls ports_count links_count o.lends (t.listened ∙ b.rest.listened) (t.calls ∙ b.rest.calls) (as_many_back _ _ _ _ _ _ _ _ _ _ _ s) (as_many_links_back _ _ _ _ _ _ _ _ _ _ _ s) told);
       served = is_served g.B.BodyReading.meaning c.args.rounds c.args.at.now.feeds c.args.at.now.askers g.J.Naming.site s.runs s.ask_runs (arc_value c.in-Ok-finish.ending.cut) _ c.in-Ok-finish.ending.feeds _ c.in-Ok-finish.ending.asks c.rev-rev.result
           (sym (ap (λ (x : Site). x.lanes) c.requires.named) ∙ c.requires.opened.wide) (runs_are _ _ _ _ _ _ _ _ _ _ _ s ∙ ports_count) (ask_runs_are _ _ _ _ _ _ _ _ _ _ _ s ∙ links_count)
           s.lanes s.askers (s.feeds_are c.if-not-kept.false) (s.asks_are c.if-not-kept.false) c.in-Ok-finish.ensures (c.rev-rev.ensures ∙ ap (λ (x : List (TablesValue × ℕ)). total x) c.deref.ensures);
       ending = c.of.result;
       shows = c.of.ensures;
-      takes = record { endings = t.endings ∙ ap (λ (n : ℕ). one_more n) (b.endings ∙ o.endings); last = subst (λ (y : Option YardValue). KeepsEnding y c.of.result (g.Y.Yard.last_ending c.take_ending.new.self)) (sym t.told) t.ending };
+      takes = record { endings = t.endings ∙ ap (λ (n : ℕ). one_more n) (b.rest.endings ∙ o.none.endings); last = subst (λ (y : Option YardValue). KeepsEnding y c.of.result (g.Y.Yard.seen c.take_ending.new.self).last_ending) (sym t.told) t.ending };
       outcome_is = s.outcome_is;
     }) writes.whole
 
@@ -122,7 +122,7 @@ returns-in-Err-clause-comes g c =
     let t = c.take_ending.ensures in
     let ports_count = length-numbered g.Y.Port.Port.aside 0 c.in-Ok.doors.ports.items ∙ o.asked.0 in
     let links_count = length-numbered_links shows 0 c.in-Ok.doors.links.items ∙ o.asked.1 in
-    let told = subst (λ (y : Option YardValue). AllComeBack (g.Y.Yard.told c.open_doors.new.yard) y (numbered g.Y.Port.Port.aside 0 c.serve_doors-outcome.new.ports.items) (numbered_links shows 0 c.serve_doors-outcome.new.links.items)) (sym t.told) b.told in
+    let told = subst (λ (y : Option YardValue). AllComeBack (g.Y.Yard.seen c.open_doors.new.yard).told y (numbered g.Y.Port.Port.aside 0 c.serve_doors-outcome.new.ports.items) (numbered_links shows 0 c.serve_doors-outcome.new.links.items)) (sym t.told) b.told in
     let writes = join {faults = g.O.Sink.faults} {told = g.O.Sink.told} {aside = g.O.Sink.aside} c.args.out.now c.put_ready.new.out c.put_done.new.out ready_line (done_line c.rev-rev.result) _ c.in-Ok-put_ready.field-0 (Err c.in-Err.field-0) c.in-Ok-put_ready.ensures c.in-Err.ensures refl in
     undone c.rev-rev.result c.serve_doors-outcome.result.0 refl (record {
       runs = s.runs;
@@ -130,14 +130,14 @@ returns-in-Err-clause-comes g c =
       cut = arc_value c.in-Ok-finish.ending.cut;
       feeds = c.in-Ok-finish.ending.feeds;
       asks = c.in-Ok-finish.ending.asks;
-      back = by_runs _ _ _ _ _ _ _ _ _ _ _ s c.args.at.now _ _ (gives_back c.args.at.now _ (record { told = g.Y.Yard.told c.open_doors.new.yard; calls = g.Y.Yard.calls c.open_doors.new.yard; listened = g.Y.Yard.listened c.open_doors.new.yard; endings = g.Y.Yard.endings c.open_doors.new.yard; last_ending = g.Y.Yard.last_ending c.open_doors.new.yard }) _ _ _ _ _
-          o.listened o.calls ports_count links_count o.lends (t.listened ∙ b.listened) (t.calls ∙ b.calls) (as_many_back _ _ _ _ _ _ _ _ _ _ _ s) (as_many_links_back _ _ _ _ _ _ _ _ _ _ _ s) told);
+      back = by_runs _ _ _ _ _ _ _ _ _ _ _ s c.args.at.now _ _ (gives_back c.args.at.now _ (g.Y.Yard.seen c.open_doors.new.yard) _ _ _ _ _
+          o.listened o.calls ports_count links_count o.lends (t.listened ∙ b.rest.listened) (t.calls ∙ b.rest.calls) (as_many_back _ _ _ _ _ _ _ _ _ _ _ s) (as_many_links_back _ _ _ _ _ _ _ _ _ _ _ s) told);
       served = is_served g.B.BodyReading.meaning c.args.rounds c.args.at.now.feeds c.args.at.now.askers g.J.Naming.site s.runs s.ask_runs (arc_value c.in-Ok-finish.ending.cut) _ c.in-Ok-finish.ending.feeds _ c.in-Ok-finish.ending.asks c.rev-rev.result
           (sym (ap (λ (x : Site). x.lanes) c.requires.named) ∙ c.requires.opened.wide) (runs_are _ _ _ _ _ _ _ _ _ _ _ s ∙ ports_count) (ask_runs_are _ _ _ _ _ _ _ _ _ _ _ s ∙ links_count)
           s.lanes s.askers (s.feeds_are c.if-not-kept.false) (s.asks_are c.if-not-kept.false) c.in-Ok-finish.ensures (c.rev-rev.ensures ∙ ap (λ (x : List (TablesValue × ℕ)). total x) c.deref.ensures);
       ending = c.of.result;
       shows = c.of.ensures;
-      takes = record { endings = t.endings ∙ ap (λ (n : ℕ). one_more n) (b.endings ∙ o.endings); last = subst (λ (y : Option YardValue). KeepsEnding y c.of.result (g.Y.Yard.last_ending c.take_ending.new.self)) (sym t.told) t.ending };
+      takes = record { endings = t.endings ∙ ap (λ (n : ℕ). one_more n) (b.rest.endings ∙ o.none.endings); last = subst (λ (y : Option YardValue). KeepsEnding y c.of.result (g.Y.Yard.seen c.take_ending.new.self).last_ending) (sym t.told) t.ending };
       outcome_is = s.outcome_is;
     }) writes.front
 
@@ -155,10 +155,10 @@ returns-in-Err-NoMemory-clause-comes g c =
     let s = c.serve_doors-outcome.ensures in
     let o = c.in-Ok.ensures in
     let b = c.give_back-2.ensures in
-    unfinished refl (serves_all _ _ _ _ _ _ _ _ _ _ _ s c.args.at.now _ _ (sym (ap (λ (x : Site). x.lanes) c.requires.named) ∙ c.requires.opened.wide) (gives_back c.args.at.now _ (record { told = g.Y.Yard.told c.open_doors.new.yard; calls = g.Y.Yard.calls c.open_doors.new.yard; listened = g.Y.Yard.listened c.open_doors.new.yard; endings = g.Y.Yard.endings c.open_doors.new.yard; last_ending = g.Y.Yard.last_ending c.open_doors.new.yard }) _ _ _ _ _
-    o.listened o.calls (length-numbered g.Y.Port.Port.aside 0 c.in-Ok.doors.ports.items ∙ o.asked.0) (length-numbered_links shows 0 c.in-Ok.doors.links.items ∙ o.asked.1) o.lends b.listened b.calls
+    unfinished refl (serves_all _ _ _ _ _ _ _ _ _ _ _ s c.args.at.now _ _ (sym (ap (λ (x : Site). x.lanes) c.requires.named) ∙ c.requires.opened.wide) (gives_back c.args.at.now _ (g.Y.Yard.seen c.open_doors.new.yard) _ _ _ _ _
+    o.listened o.calls (length-numbered g.Y.Port.Port.aside 0 c.in-Ok.doors.ports.items ∙ o.asked.0) (length-numbered_links shows 0 c.in-Ok.doors.links.items ∙ o.asked.1) o.lends b.rest.listened b.rest.calls
     (as_many_back _ _ _ _ _ _ _ _ _ _ _ s) (as_many_links_back _ _ _ _ _ _ _ _ _ _ _ s) b.told))
-    (record { endings = b.endings ∙ o.endings; last = b.ending ∙ o.ending }) c.in-Ok-put_ready.ensures.whole
+    (record { endings = b.rest.endings ∙ o.none.endings; last = b.rest.ending ∙ o.none.last }) c.in-Ok-put_ready.ensures.whole
 
 pub returns-in-Err-NoMemory-clause-out : goal.returns-in-Err-NoMemory-clause-out
 returns-in-Err-NoMemory-clause-out g c = answers_not _ _ _ _ no_memory_write c.in-Ok-put_ready.ensures.cause.fine
