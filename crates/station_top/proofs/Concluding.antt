@@ -20,7 +20,7 @@ use Rattle.wire_io.proofs.Joins.{join, appends_none, keeps_appends}
 use Rattle.bmp_message.specs.Effects.{GivesMessages}
 use Rattle.station_doors.specs.Doors.{YardValue, HandsOut, TakesBack, one_more, untouched}
 use Rattle.query_eval.specs.Replies.{PutsReply}
-use Rattle.station_top.specs.Station.{Explains, explained, judged_by, LendsWhereTold, IsTaken, FromYard, IsReplyTo, IsStopped, TakesOneInput, Runs, refused, replied, starved, unready, called, Concludes, CallConcludes, RovConcludes, Answers, replied_to, served, drilled, relayed_to, archived_to, recalled_from, drilled_whole, drill_starved, DrillConcludes, AnswersFault, ServesNobody}
+use Rattle.station_top.specs.Station.{Explains, explained, judged_by, LendsWhereTold, IsTaken, FromYard, IsReplyTo, IsStopped, TakesOneInput, Runs, refused, replied, starved, unready, called, Concludes, CallConcludes, RovConcludes, Answers, replied_to, served, drilled, relayed_to, archived_to, recalled_from, drilled_whole, drill_starved, DrillConcludes, AnswersFault}
 use Rattle.station_top.specs.ArchiveRuns.{ArchiveConcludes}
 use Rattle.station_top.specs.RecallRuns.{RecallConcludes}
 use Rattle.station_top.specs.Status.{status_of, status_served}
@@ -29,7 +29,6 @@ use Rattle.station_top.specs.Words.{IsCall, file_in}
 use Rattle.station_top.specs.Written.{IsWritten}
 use Rattle.station_top.specs.Explain.{help_text, version_line}
 use Rattle.station_run.specs.Serve.{AnswersFault as EndsFault}
-use Rattle.station_doors.specs.declared.listening.Listening.{Listening}
 use Rattle.station_run.specs.declared.outcome.Outcome.{Outcome}
 use Rattle.station_run.specs.declared.outcome.Outcome.TheVariants as outcome
 use Rattle.station_top.specs.Drill.{IsDrillText}
@@ -126,14 +125,6 @@ module _ {O : Type 0} {faults : O → ℕ} {told : O → Option (List ℕ)} {asi
 -- there was no memory for a drill
 pub concludes_no_drill : (drill : DrillWords) (told : Option (List ℕ)) → DrillConcludes drill told told NoMemory
 concludes_no_drill drill told = record { meant = NoMemory; text = []; means = drill_starved; written = inl (refl, appends_none told) }
-
--- a yard of which no call was made
-pub left_alone : {Ending : Type 0} (listened : Option Listening) (endings : ℕ) (ending : Option Ending) → ServesNobody listened listened endings endings ending ending
-left_alone listened endings ending = record { listened = refl; endings = refl; ending = refl }
-
--- one call of the yard after another
-pub nobody_then : {Ending : Type 0} (l0 l1 l2 : Option Listening) (n0 n1 n2 : ℕ) (e0 e1 e2 : Option Ending) → l1 ≡ l0 → n1 ≡ n0 → e1 ≡ e0 → ServesNobody l1 l2 n1 n2 e1 e2 → ServesNobody l0 l2 n0 n2 e0 e2
-nobody_then l0 l1 l2 n0 n1 n2 e0 e1 e2 listened endings ending s = record { listened = s.listened ∙ listened; endings = s.endings ∙ endings; ending = s.ending ∙ ending }
 
 -- no cause has the status of a failed write
 pub no_write_fault : (cause : Cause) → status_of cause ≡ WriteFault → ⊥

@@ -23,11 +23,10 @@ use Rattle.query_lang.specs.Queries.{query_value}
 use Rattle.rov_reply.specs.RovLines.{IsRovReply}
 use Rattle.rov_table.specs.declared.vrp.Vrp.{Vrp}
 use Rattle.rov_table.specs.VrpFile.{AreVrps, IsFirstBad, file_records}
-use Rattle.station_doors.specs.Doors.{YardValue, one_more}
+use Rattle.station_doors.specs.Doors.{YardSeen, YardValue, one_more}
 use Rattle.station_doors.specs.Files.{GivesFile}
 use Rattle.station_doors.specs.declared.files.FileFault.{FileFault}
 use Rattle.station_doors.specs.declared.files.FileFault.TheVariants as fault
-use Rattle.station_doors.specs.declared.listening.Listening.{Listening}
 use Rattle.station_run.specs.declared.outcome.Outcome.{Outcome}
 use Rattle.station_top.specs.ArchiveRuns.{ArchiveConcludes}
 use Rattle.station_top.specs.RecallRuns.{RecallConcludes}
@@ -115,10 +114,10 @@ IsServing Help = ⊥
 IsServing Version = ⊥
 
 -- the yard wasn't asked to listen, and took no ending
-pub record ServesNobody {Ending : Type 0} (listened0 listened1 : Option Listening) (endings0 endings1 : ℕ) (ending0 ending1 : Option Ending) : Type 0 where
-  pub listened : listened1 ≡ listened0
-  pub endings : endings1 ≡ endings0
-  pub ending : ending1 ≡ ending0
+pub record ServesNobody {Ending : Type 0} (old new : YardSeen Ending) : Type 0 where
+  pub listened : new.listened ≡ old.listened
+  pub endings : new.endings ≡ old.endings
+  pub ending : new.last_ending ≡ old.last_ending
 
 -- the bytes are a reply, and then the line of the cause
 abbrev pub IsStopped : (List ℕ → Type 0) → Cause → List ℕ → Type 0

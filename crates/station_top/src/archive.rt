@@ -52,7 +52,9 @@ fn keep<P: Port, D: Disk, R: BodyReading + Drop>(
     archive: Archive<D>,
 ) -> (P, D, Kept)
     requires { archive.stopped ≡ false }
-    ensures { IsTakenIn R.meaning (HandsEmpty D.tells (P.aside port) (P.calls port) (record { value = D.shows archive.disk; faults = D.faults archive.disk }) archive.place (P.aside result.0) (record { value = D.shows result.1; faults = D.faults result.1 })) result.2 }
+    ensures { IsTakenIn R.meaning (HandsEmpty D.tells (P.aside port) (P.calls port)
+        (record { value = D.shows archive.disk; faults = D.faults archive.disk }) archive.place
+        (P.aside result.0) (record { value = D.shows result.1; faults = D.faults result.1 })) result.2 }
 {
     let mut keeping = KeepPort::new(port, archive);
     let taken = take_input::<KeepPort<P, D>, Counts, R>(alloc, &mut keeping);
@@ -88,7 +90,9 @@ fn archive_input<P: Port, D: Disk, R: BodyReading + Drop>(
     port: P,
     disk: D,
 ) -> (P, D, Kept)
-    ensures { IsKept R.meaning (HandsBoth D.tells (P.aside port) (P.calls port) (record { value = D.shows disk; faults = D.faults disk }) (P.aside result.0) (record { value = D.shows result.1; faults = D.faults result.1 })) result.2 }
+    ensures { IsKept R.meaning (HandsBoth D.tells (P.aside port) (P.calls port)
+        (record { value = D.shows disk; faults = D.faults disk })
+        (P.aside result.0) (record { value = D.shows result.1; faults = D.faults result.1 })) result.2 }
 {
     let mut disk = disk;
     match create(&mut disk) {
@@ -111,9 +115,9 @@ fn archive_from<R: BodyReading + Drop, Y: Yard>(
     path: &str,
     yard: &mut Y,
 ) -> Result<Kept, Failed>
-    ensures uses { UsesBoth R.meaning path.now (Y.told yard.old) (Y.told yard.new) (Y.calls yard.old) (Y.calls yard.new) result }
+    ensures uses { UsesBoth R.meaning path.now (Y.seen yard.old).told (Y.seen yard.new).told (Y.seen yard.old).calls (Y.seen yard.new).calls result }
     ensures cause { HasCause (Y.faults yard.old) (Y.faults yard.new) result }
-    ensures nobody { ServesNobody (Y.listened yard.old) (Y.listened yard.new) (Y.endings yard.old) (Y.endings yard.new) (Y.last_ending yard.old) (Y.last_ending yard.new) }
+    ensures nobody { ServesNobody (Y.seen yard.old) (Y.seen yard.new) }
 {
     let disk = yard.disk(path)?;
     let port = match yard.port(0) {
@@ -201,11 +205,11 @@ fn run_archive<R: BodyReading + Drop, Y: Yard, O: Sink>(
     yard: &mut Y,
     out: &mut O,
 ) -> Status
-    ensures concludes { ArchiveConcludes R.meaning path.now (Y.told yard.old) (Y.told yard.new) (Y.calls yard.old) (Y.calls yard.new) (O.told out.old) (O.told out.new) result }
+    ensures concludes { ArchiveConcludes R.meaning path.now (Y.seen yard.old).told (Y.seen yard.new).told (Y.seen yard.old).calls (Y.seen yard.new).calls (O.told out.old) (O.told out.new) result }
     ensures out { AnswersFault (O.faults out.old) (O.faults out.new) result Status.WriteFault }
     ensures yard { AnswersFault (Y.faults yard.old) (Y.faults yard.new) result Status.YardFault }
     ensures aside { O.aside out.new ≡ O.aside out.old }
-    ensures nobody { ServesNobody (Y.listened yard.old) (Y.listened yard.new) (Y.endings yard.old) (Y.endings yard.new) (Y.last_ending yard.old) (Y.last_ending yard.new) }
+    ensures nobody { ServesNobody (Y.seen yard.old) (Y.seen yard.new) }
 {
     match archive_from::<R, Y>(alloc, path, yard) {
         Ok(kept) => tell(out, kept),
@@ -221,11 +225,12 @@ pub(crate) fn run_archive_by<Y: Yard, O: Sink>(
     yard: &mut Y,
     out: &mut O,
 ) -> Status
-    ensures concludes { ArchiveConcludes (meaning_of lenient) path.now (Y.told yard.old) (Y.told yard.new) (Y.calls yard.old) (Y.calls yard.new) (O.told out.old) (O.told out.new) result }
+    ensures concludes { ArchiveConcludes (meaning_of lenient) path.now (Y.seen yard.old).told (Y.seen yard.new).told (Y.seen yard.old).calls (Y.seen yard.new).calls
+        (O.told out.old) (O.told out.new) result }
     ensures out { AnswersFault (O.faults out.old) (O.faults out.new) result Status.WriteFault }
     ensures yard { AnswersFault (Y.faults yard.old) (Y.faults yard.new) result Status.YardFault }
     ensures aside { O.aside out.new ≡ O.aside out.old }
-    ensures nobody { ServesNobody (Y.listened yard.old) (Y.listened yard.new) (Y.endings yard.old) (Y.endings yard.new) (Y.last_ending yard.old) (Y.last_ending yard.new) }
+    ensures nobody { ServesNobody (Y.seen yard.old) (Y.seen yard.new) }
 {
     if lenient {
         run_archive::<LenientReading, Y, O>(alloc, path, yard, out)

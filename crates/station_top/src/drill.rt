@@ -29,7 +29,9 @@ fn put_replies<O: Sink>(out: &mut O, cut: &Cut<RouterTables>) -> Result<(), Fail
 // Writes the replies through a buffer, and hands on all that is held.
 fn put_all<O: Sink>(buffer: &mut BufferedSink<O>, cut: &Cut<RouterTables>) -> Result<(), Failed>
     ensures empty { OnOk result (buffer.new.held ≡ []) }
-    ensures writes { (history : List (Event Entry)) → StandsForHistory cut.now history → PutsReply (λ p. O.faults p.below) (λ p. append_known (O.told p.below) p.held) (λ p. laid_over (O.told p.first) (O.aside p.below)) (AreReplies (lanes_of (length cut.now) history)) buffer.old result buffer.new }
+    ensures writes { (history : List (Event Entry)) → StandsForHistory cut.now history
+        → PutsReply (λ p. O.faults p.below) (λ p. append_known (O.told p.below) p.held) (λ p. laid_over (O.told p.first) (O.aside p.below))
+        (AreReplies (lanes_of (length cut.now) history)) buffer.old result buffer.new }
 {
     put_replies(buffer, cut)?;
     buffer.flush()

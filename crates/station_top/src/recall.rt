@@ -94,9 +94,9 @@ fn run_recall<A: Account + Drop, R: BodyReading + Drop, Y: Yard, O: Sink>(
     out: &mut O,
 ) -> Status
     requires { A.Told.may_ask ask.now }
-    ensures concludes { RecallConcludes R.meaning (A.Told.replies ask.now) path.now (Y.told yard.old) (Y.told yard.new) (Y.calls yard.old) (O.told out.old) (O.told out.new) result }
-    ensures calls { Y.calls yard.new ≡ one_more (Y.calls yard.old) }
-    ensures nobody { ServesNobody (Y.listened yard.old) (Y.listened yard.new) (Y.endings yard.old) (Y.endings yard.new) (Y.last_ending yard.old) (Y.last_ending yard.new) }
+    ensures concludes { RecallConcludes R.meaning (A.Told.replies ask.now) path.now (Y.seen yard.old).told (Y.seen yard.new).told (Y.seen yard.old).calls (O.told out.old) (O.told out.new) result }
+    ensures calls { (Y.seen yard.new).calls ≡ one_more (Y.seen yard.old).calls }
+    ensures nobody { ServesNobody (Y.seen yard.old) (Y.seen yard.new) }
     ensures out { AnswersFault (O.faults out.old) (O.faults out.new) result Status.WriteFault }
     ensures yard { AnswersFault (Y.faults yard.old) (Y.faults yard.new) result Status.YardFault }
     ensures aside { O.aside out.new ≡ O.aside out.old }
@@ -123,9 +123,10 @@ pub(crate) fn run_recall_by<A: Account + Drop, Y: Yard, O: Sink>(
     out: &mut O,
 ) -> Status
     requires { A.Told.may_ask ask.now }
-    ensures concludes { RecallConcludes (meaning_of lenient) (A.Told.replies ask.now) path.now (Y.told yard.old) (Y.told yard.new) (Y.calls yard.old) (O.told out.old) (O.told out.new) result }
-    ensures calls { Y.calls yard.new ≡ one_more (Y.calls yard.old) }
-    ensures nobody { ServesNobody (Y.listened yard.old) (Y.listened yard.new) (Y.endings yard.old) (Y.endings yard.new) (Y.last_ending yard.old) (Y.last_ending yard.new) }
+    ensures concludes { RecallConcludes (meaning_of lenient) (A.Told.replies ask.now) path.now (Y.seen yard.old).told (Y.seen yard.new).told (Y.seen yard.old).calls
+        (O.told out.old) (O.told out.new) result }
+    ensures calls { (Y.seen yard.new).calls ≡ one_more (Y.seen yard.old).calls }
+    ensures nobody { ServesNobody (Y.seen yard.old) (Y.seen yard.new) }
     ensures out { AnswersFault (O.faults out.old) (O.faults out.new) result Status.WriteFault }
     ensures yard { AnswersFault (Y.faults yard.old) (Y.faults yard.new) result Status.YardFault }
     ensures aside { O.aside out.new ≡ O.aside out.old }

@@ -121,11 +121,12 @@ pub(crate) fn run_rov<Y: Yard, O: Sink>(
     yard: &mut Y,
     out: &mut O,
 ) -> Status
-    ensures concludes { RovConcludes (meaning_of lenient) path.now prefix (Y.told yard.old) (Y.told yard.new) (Y.calls yard.old) (Y.calls yard.new) (O.told out.old) (O.told out.new) result }
+    ensures concludes { RovConcludes (meaning_of lenient) path.now prefix (Y.seen yard.old).told (Y.seen yard.new).told (Y.seen yard.old).calls (Y.seen yard.new).calls
+        (O.told out.old) (O.told out.new) result }
     ensures out { AnswersFault (O.faults out.old) (O.faults out.new) result Status.WriteFault }
     ensures yard { AnswersFault (Y.faults yard.old) (Y.faults yard.new) result Status.YardFault }
     ensures aside { O.aside out.new ≡ O.aside out.old }
-    ensures nobody { ServesNobody (Y.listened yard.old) (Y.listened yard.new) (Y.endings yard.old) (Y.endings yard.new) (Y.last_ending yard.old) (Y.last_ending yard.new) }
+    ensures nobody { ServesNobody (Y.seen yard.old) (Y.seen yard.new) }
 {
     let file = match yard.file(alloc, path) {
         Ok(file) => file,

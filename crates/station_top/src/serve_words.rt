@@ -155,7 +155,8 @@ fn rounds_of(value: &str) -> Option<u32>
 // The rounds that the words give, once.
 fn find_rounds(matches: &ArgMatches<'_>) -> Option<u32>
     ensures some { (words : List (List ℕ)) → AreMatches words matches.now → IfSome result (λ n. Has (Gives (dashed (codes "rounds")) (λ value. IsRounds value n)) words) }
-    ensures only { (words : List (List ℕ)) → AreMatches words matches.now → IfSome result (λ n. (m : ℕ) → Has (Gives (dashed (codes "rounds")) (λ value. IsRounds value m)) words → m ≡ n) }
+    ensures only { (words : List (List ℕ)) → AreMatches words matches.now
+        → IfSome result (λ n. (m : ℕ) → Has (Gives (dashed (codes "rounds")) (λ value. IsRounds value m)) words → m ≡ n) }
     ensures none { (words : List (List ℕ)) → AreMatches words matches.now → IfNone result ((n : ℕ) → Has (Gives (dashed (codes "rounds")) (λ value. IsRounds value n)) words → ⊥) }
 {
     match matches.get_str("rounds") {
@@ -166,9 +167,12 @@ fn find_rounds(matches: &ArgMatches<'_>) -> Option<u32>
 
 // The address that the words give, where they give it once, or 127.0.0.1 where they give none.
 fn find_address(matches: &ArgMatches<'_>) -> Option<Addr>
-    ensures some { (words : List (List ℕ)) → AreMatches words matches.now → IfSome result (λ address. Has (MayGive (dashed (codes "address")) (λ value. IsAddressText value address) (address ≡ loopback)) words) }
-    ensures only { (words : List (List ℕ)) → AreMatches words matches.now → IfSome result (λ address. (other : AddressValue) → Has (MayGive (dashed (codes "address")) (λ value. IsAddressText value other) (other ≡ loopback)) words → other ≡ address) }
-    ensures none { (words : List (List ℕ)) → AreMatches words matches.now → IfNone result ((address : AddressValue) → Has (MayGive (dashed (codes "address")) (λ value. IsAddressText value address) (address ≡ loopback)) words → ⊥) }
+    ensures some { (words : List (List ℕ)) → AreMatches words matches.now
+        → IfSome result (λ address. Has (MayGive (dashed (codes "address")) (λ value. IsAddressText value address) (address ≡ loopback)) words) }
+    ensures only { (words : List (List ℕ)) → AreMatches words matches.now
+        → IfSome result (λ address. (other : AddressValue) → Has (MayGive (dashed (codes "address")) (λ value. IsAddressText value other) (other ≡ loopback)) words → other ≡ address) }
+    ensures none { (words : List (List ℕ)) → AreMatches words matches.now
+        → IfNone result ((address : AddressValue) → Has (MayGive (dashed (codes "address")) (λ value. IsAddressText value address) (address ≡ loopback)) words → ⊥) }
 {
     match matches.get_str("address") {
         Some(value) => parse_addr(value.as_bytes()),
@@ -192,9 +196,12 @@ fn ports_of(value: &str) -> Option<bool>
 
 // Whether the ports are shared, by the words.
 fn find_ports(matches: &ArgMatches<'_>) -> Option<bool>
-    ensures some { (words : List (List ℕ)) → AreMatches words matches.now → IfSome result (λ shared. Has (MayGive (dashed (codes "ports")) (λ value. IsPorts value shared) (shared ≡ false)) words) }
-    ensures only { (words : List (List ℕ)) → AreMatches words matches.now → IfSome result (λ shared. (other : Bool) → Has (MayGive (dashed (codes "ports")) (λ value. IsPorts value other) (other ≡ false)) words → other ≡ shared) }
-    ensures none { (words : List (List ℕ)) → AreMatches words matches.now → IfNone result ((shared : Bool) → Has (MayGive (dashed (codes "ports")) (λ value. IsPorts value shared) (shared ≡ false)) words → ⊥) }
+    ensures some { (words : List (List ℕ)) → AreMatches words matches.now
+        → IfSome result (λ shared. Has (MayGive (dashed (codes "ports")) (λ value. IsPorts value shared) (shared ≡ false)) words) }
+    ensures only { (words : List (List ℕ)) → AreMatches words matches.now
+        → IfSome result (λ shared. (other : Bool) → Has (MayGive (dashed (codes "ports")) (λ value. IsPorts value other) (other ≡ false)) words → other ≡ shared) }
+    ensures none { (words : List (List ℕ)) → AreMatches words matches.now
+        → IfNone result ((shared : Bool) → Has (MayGive (dashed (codes "ports")) (λ value. IsPorts value shared) (shared ≡ false)) words → ⊥) }
 {
     match matches.get_str("ports") {
         Some(value) => ports_of(value),
@@ -227,8 +234,10 @@ fn seconds_of(value: &str) -> Option<Option<u32>>
 // The time that the words give for this name, if they give one.
 fn find_seconds(matches: &ArgMatches<'_>, name: &str) -> Option<Option<u32>>
     ensures some { (words : List (List ℕ)) → AreMatches words matches.now → IfSome result (λ time. Has (MayGive (dashed name.now) (λ value. IsSeconds value time) (time ≡ None)) words) }
-    ensures only { (words : List (List ℕ)) → AreMatches words matches.now → IfSome result (λ time. (other : Option ℕ) → Has (MayGive (dashed name.now) (λ value. IsSeconds value other) (other ≡ None)) words → other ≡ time) }
-    ensures none { (words : List (List ℕ)) → AreMatches words matches.now → IfNone result ((time : Option ℕ) → Has (MayGive (dashed name.now) (λ value. IsSeconds value time) (time ≡ None)) words → ⊥) }
+    ensures only { (words : List (List ℕ)) → AreMatches words matches.now
+        → IfSome result (λ time. (other : Option ℕ) → Has (MayGive (dashed name.now) (λ value. IsSeconds value other) (other ≡ None)) words → other ≡ time) }
+    ensures none { (words : List (List ℕ)) → AreMatches words matches.now
+        → IfNone result ((time : Option ℕ) → Has (MayGive (dashed name.now) (λ value. IsSeconds value time) (time ≡ None)) words → ⊥) }
 {
     match matches.get_str(name) {
         Some(value) => seconds_of(value),
@@ -288,7 +297,8 @@ fn may_serve(serve: &ServeWords) -> bool
 
 // Where the settings ask to listen, and for how many rounds.
 fn serve_of(matches: &ArgMatches<'_>) -> Option<ServeWords>
-    ensures some { (words : List (List ℕ)) → AreMatches words matches.now → (lenient : Bool) → Has (MayGive flag (λ value. lenient ≡ true) (lenient ≡ false)) words → IfSome result (λ serve. IsServe serve lenient words) }
+    ensures some { (words : List (List ℕ)) → AreMatches words matches.now → (lenient : Bool) → Has (MayGive flag (λ value. lenient ≡ true) (lenient ≡ false)) words
+        → IfSome result (λ serve. IsServe serve lenient words) }
     ensures none { (words : List (List ℕ)) → AreMatches words matches.now → IfNone result ((serve : AnyServe) (lenient : Bool) → IsServe serve lenient words → ⊥) }
 {
     let Some(feeds) = find_number(matches, "feeds") else {

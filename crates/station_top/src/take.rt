@@ -132,7 +132,9 @@ fn drain<A: Account, R: BodyReading>(
     account: &mut A,
     revision: &mut u64,
 ) -> Result<Option<Cause>, NoMemory>
-    ensures draws { IfOk result (λ end. (fed : List ℕ) → HasDrawn R.meaning R.state (A.stands account.old) fed walk.old revision.old → Draws R.meaning R.state (A.stands account.new) fed walk.new revision.new end) }
+    ensures draws { IfOk result (λ end. (fed : List ℕ)
+        → HasDrawn R.meaning R.state (A.stands account.old) fed walk.old revision.old
+        → Draws R.meaning R.state (A.stands account.new) fed walk.new revision.new end) }
     ensures fed { IfOk result (λ end. fed_of walk.new ≡ fed_of walk.old) }
 {
     loop {

@@ -52,11 +52,11 @@ fn take_from<Y: Yard, A: Account + Drop, R: BodyReading + Drop>(
     alloc: Global,
     yard: &mut Y,
 ) -> Result<(A, Taken), Status>
-    ensures from { FromYard R.meaning A.stands (Y.told yard.old) (Y.told yard.new) (Y.calls yard.old) result }
+    ensures from { FromYard R.meaning A.stands (Y.seen yard.old).told (Y.seen yard.new).told (Y.seen yard.old).calls result }
     ensures rose { result ≡ Err Status.YardFault → Rose (Y.faults yard.old) (Y.faults yard.new) }
     ensures calm { (result ≡ Err Status.YardFault → ⊥) → Y.faults yard.new ≡ Y.faults yard.old }
-    ensures calls { Y.calls yard.new ≡ one_more (Y.calls yard.old) }
-    ensures nobody { ServesNobody (Y.listened yard.old) (Y.listened yard.new) (Y.endings yard.old) (Y.endings yard.new) (Y.last_ending yard.old) (Y.last_ending yard.new) }
+    ensures calls { (Y.seen yard.new).calls ≡ one_more (Y.seen yard.old).calls }
+    ensures nobody { ServesNobody (Y.seen yard.old) (Y.seen yard.new) }
 {
     let Ok(mut port) = yard.port(0) else {
         return Err(Status::YardFault);
@@ -78,7 +78,9 @@ fn put_all<T: Replies, O: Sink>(
 ) -> Result<(), Failed>
     requires { T.may_ask ask.now }
     ensures empty { OnOk result (buffer.new.held ≡ []) }
-    ensures writes { (entries : List EntryValue) → T.tells told.now entries → PutsReply (λ p. O.faults p.below) (λ p. append_known (O.told p.below) p.held) (λ p. laid_over (O.told p.first) (O.aside p.below)) (IsStopped (T.replies ask.now entries) cause) buffer.old result buffer.new }
+    ensures writes { (entries : List EntryValue) → T.tells told.now entries
+        → PutsReply (λ p. O.faults p.below) (λ p. append_known (O.told p.below) p.held) (λ p. laid_over (O.told p.first) (O.aside p.below))
+        (IsStopped (T.replies ask.now entries) cause) buffer.old result buffer.new }
 {
     told.put_reply(buffer, ask)?;
     put_stop(buffer, &cause)?;
@@ -143,9 +145,9 @@ fn run<A: Account + Drop, R: BodyReading + Drop, Y: Yard, O: Sink>(
     out: &mut O,
 ) -> Status
     requires { A.Told.may_ask ask.now }
-    ensures concludes { Concludes R.meaning (A.Told.replies ask.now) (Y.told yard.old) (Y.told yard.new) (Y.calls yard.old) (O.told out.old) (O.told out.new) result }
-    ensures calls { Y.calls yard.new ≡ one_more (Y.calls yard.old) }
-    ensures nobody { ServesNobody (Y.listened yard.old) (Y.listened yard.new) (Y.endings yard.old) (Y.endings yard.new) (Y.last_ending yard.old) (Y.last_ending yard.new) }
+    ensures concludes { Concludes R.meaning (A.Told.replies ask.now) (Y.seen yard.old).told (Y.seen yard.new).told (Y.seen yard.old).calls (O.told out.old) (O.told out.new) result }
+    ensures calls { (Y.seen yard.new).calls ≡ one_more (Y.seen yard.old).calls }
+    ensures nobody { ServesNobody (Y.seen yard.old) (Y.seen yard.new) }
     ensures out { AnswersFault (O.faults out.old) (O.faults out.new) result Status.WriteFault }
     ensures yard { AnswersFault (Y.faults yard.old) (Y.faults yard.new) result Status.YardFault }
     ensures aside { O.aside out.new ≡ O.aside out.old }
@@ -173,9 +175,9 @@ pub(crate) fn run_by<A: Account + Drop, Y: Yard, O: Sink>(
     out: &mut O,
 ) -> Status
     requires { A.Told.may_ask ask.now }
-    ensures concludes { Concludes (meaning_of lenient) (A.Told.replies ask.now) (Y.told yard.old) (Y.told yard.new) (Y.calls yard.old) (O.told out.old) (O.told out.new) result }
-    ensures calls { Y.calls yard.new ≡ one_more (Y.calls yard.old) }
-    ensures nobody { ServesNobody (Y.listened yard.old) (Y.listened yard.new) (Y.endings yard.old) (Y.endings yard.new) (Y.last_ending yard.old) (Y.last_ending yard.new) }
+    ensures concludes { Concludes (meaning_of lenient) (A.Told.replies ask.now) (Y.seen yard.old).told (Y.seen yard.new).told (Y.seen yard.old).calls (O.told out.old) (O.told out.new) result }
+    ensures calls { (Y.seen yard.new).calls ≡ one_more (Y.seen yard.old).calls }
+    ensures nobody { ServesNobody (Y.seen yard.old) (Y.seen yard.new) }
     ensures out { AnswersFault (O.faults out.old) (O.faults out.new) result Status.WriteFault }
     ensures yard { AnswersFault (Y.faults yard.old) (Y.faults yard.new) result Status.YardFault }
     ensures aside { O.aside out.new ≡ O.aside out.old }
@@ -205,9 +207,9 @@ fn run_relay<R: BodyReading + Drop, Y: Yard, O: Sink>(
     yard: &mut Y,
     out: &mut O,
 ) -> Status
-    ensures concludes { RelayConcludes R.meaning (Y.told yard.old) (Y.told yard.new) (Y.calls yard.old) (O.told out.old) (O.told out.new) result }
-    ensures calls { Y.calls yard.new ≡ one_more (Y.calls yard.old) }
-    ensures nobody { ServesNobody (Y.listened yard.old) (Y.listened yard.new) (Y.endings yard.old) (Y.endings yard.new) (Y.last_ending yard.old) (Y.last_ending yard.new) }
+    ensures concludes { RelayConcludes R.meaning (Y.seen yard.old).told (Y.seen yard.new).told (Y.seen yard.old).calls (O.told out.old) (O.told out.new) result }
+    ensures calls { (Y.seen yard.new).calls ≡ one_more (Y.seen yard.old).calls }
+    ensures nobody { ServesNobody (Y.seen yard.old) (Y.seen yard.new) }
     ensures out { AnswersFault (O.faults out.old) (O.faults out.new) result Status.WriteFault }
     ensures yard { AnswersFault (Y.faults yard.old) (Y.faults yard.new) result Status.YardFault }
     ensures aside { O.aside out.new ≡ O.aside out.old }
@@ -228,9 +230,9 @@ fn run_relay<R: BodyReading + Drop, Y: Yard, O: Sink>(
 
 // The same, where bodies are read leniently or by the RFCs alone.
 fn run_relay_by<Y: Yard, O: Sink>(alloc: Global, lenient: bool, yard: &mut Y, out: &mut O) -> Status
-    ensures concludes { RelayConcludes (meaning_of lenient) (Y.told yard.old) (Y.told yard.new) (Y.calls yard.old) (O.told out.old) (O.told out.new) result }
-    ensures calls { Y.calls yard.new ≡ one_more (Y.calls yard.old) }
-    ensures nobody { ServesNobody (Y.listened yard.old) (Y.listened yard.new) (Y.endings yard.old) (Y.endings yard.new) (Y.last_ending yard.old) (Y.last_ending yard.new) }
+    ensures concludes { RelayConcludes (meaning_of lenient) (Y.seen yard.old).told (Y.seen yard.new).told (Y.seen yard.old).calls (O.told out.old) (O.told out.new) result }
+    ensures calls { (Y.seen yard.new).calls ≡ one_more (Y.seen yard.old).calls }
+    ensures nobody { ServesNobody (Y.seen yard.old) (Y.seen yard.new) }
     ensures out { AnswersFault (O.faults out.old) (O.faults out.new) result Status.WriteFault }
     ensures yard { AnswersFault (Y.faults yard.old) (Y.faults yard.new) result Status.YardFault }
     ensures aside { O.aside out.new ≡ O.aside out.old }
@@ -266,7 +268,7 @@ fn serve_by<Y: Yard, O: Sink, R: Threads + Wait + Sync>(
 where
     Y::Ending: FromEnding,
     requires { MayServe words.now }
-    ensures serves { Comes Y.Ending.shows (meaning_of lenient) words.now.at words.now.rounds (record { told = Y.told yard.old; calls = Y.calls yard.old; listened = Y.listened yard.old; endings = Y.endings yard.old; last_ending = Y.last_ending yard.old }) (record { told = Y.told yard.new; calls = Y.calls yard.new; listened = Y.listened yard.new; endings = Y.endings yard.new; last_ending = Y.last_ending yard.new }) (O.told out.old) (O.told out.new) result }
+    ensures serves { Comes Y.Ending.shows (meaning_of lenient) words.now.at words.now.rounds (Y.seen yard.old) (Y.seen yard.new) (O.told out.old) (O.told out.new) result }
     ensures out { EndsFault (O.faults out.old) (O.faults out.new) result Outcome.WriteFault }
     ensures yard { EndsFault (Y.faults yard.old) (Y.faults yard.new) result Outcome.YardFault }
     ensures aside { O.aside out.new ≡ O.aside out.old }
@@ -319,11 +321,14 @@ fn run_call<Y: Yard, O: Sink, R: Threads + Wait + Sync>(
 where
     Y::Ending: FromEnding,
     requires { MayAsk call.command }
-    ensures concludes { CallConcludes (λ serve outcome. Comes Y.Ending.shows (meaning_of call.lenient) serve.at serve.rounds (record { told = Y.told yard.old; calls = Y.calls yard.old; listened = Y.listened yard.old; endings = Y.endings yard.old; last_ending = Y.last_ending yard.old }) (record { told = Y.told yard.new; calls = Y.calls yard.new; listened = Y.listened yard.new; endings = Y.endings yard.new; last_ending = Y.last_ending yard.new }) (O.told out.old) (O.told out.new) outcome) call.command (file_in call.lenient (map string_bytes words.now)) (meaning_of call.lenient) (Y.told yard.old) (Y.told yard.new) (Y.calls yard.old) (Y.calls yard.new) (O.told out.old) (O.told out.new) result }
+    ensures concludes { CallConcludes
+        (λ serve outcome. Comes Y.Ending.shows (meaning_of call.lenient) serve.at serve.rounds (Y.seen yard.old) (Y.seen yard.new) (O.told out.old) (O.told out.new) outcome)
+        call.command (file_in call.lenient (map string_bytes words.now)) (meaning_of call.lenient)
+        (Y.seen yard.old).told (Y.seen yard.new).told (Y.seen yard.old).calls (Y.seen yard.new).calls (O.told out.old) (O.told out.new) result }
     ensures out { AnswersFault (O.faults out.old) (O.faults out.new) result Status.WriteFault }
     ensures yard { AnswersFault (Y.faults yard.old) (Y.faults yard.new) result Status.YardFault }
     ensures aside { O.aside out.new ≡ O.aside out.old }
-    ensures others { (IsServing call.command → ⊥) → ServesNobody (Y.listened yard.old) (Y.listened yard.new) (Y.endings yard.old) (Y.endings yard.new) (Y.last_ending yard.old) (Y.last_ending yard.new) }
+    ensures others { (IsServing call.command → ⊥) → ServesNobody (Y.seen yard.old) (Y.seen yard.new) }
 {
     let Call { command, lenient } = call;
     // The file, where the command has one.
@@ -400,7 +405,9 @@ pub fn station<Y: Yard, O: Sink, R: Threads + Wait + Sync>(
 where
     Y::Ending: FromEnding,
     // Which status, by the words and what the yard tells; what was written; how many calls of the yard were made.
-    ensures answers { Answers (λ meaning serve outcome. Comes Y.Ending.shows meaning serve.at serve.rounds (record { told = Y.told yard.old; calls = Y.calls yard.old; listened = Y.listened yard.old; endings = Y.endings yard.old; last_ending = Y.last_ending yard.old }) (record { told = Y.told yard.new; calls = Y.calls yard.new; listened = Y.listened yard.new; endings = Y.endings yard.new; last_ending = Y.last_ending yard.new }) (O.told out.old) (O.told out.new) outcome) (map string_bytes words.now) (Y.told yard.old) (Y.told yard.new) (Y.calls yard.old) (Y.calls yard.new) (O.told out.old) (O.told out.new) result }
+    ensures answers { Answers (λ meaning serve outcome. Comes Y.Ending.shows meaning serve.at serve.rounds (Y.seen yard.old) (Y.seen yard.new) (O.told out.old) (O.told out.new) outcome)
+        (map string_bytes words.now)
+        (Y.seen yard.old).told (Y.seen yard.new).told (Y.seen yard.old).calls (Y.seen yard.new).calls (O.told out.old) (O.told out.new) result }
 
     // A write fault is answered exactly where a write failed, and a yard's fault exactly where the yard failed. The fault
     // ended the command: the count rose by one.
@@ -410,7 +417,7 @@ where
     ensures aside { O.aside out.new ≡ O.aside out.old }
 
     // Where the words are no call of `serve`, the yard isn't asked to listen, and is handed no ending.
-    ensures others { ((call : AnyCall) → IsCall call (map string_bytes words.now) → IsServing call.command → ⊥) → ServesNobody (Y.listened yard.old) (Y.listened yard.new) (Y.endings yard.old) (Y.endings yard.new) (Y.last_ending yard.old) (Y.last_ending yard.new) }
+    ensures others { ((call : AnyCall) → IsCall call (map string_bytes words.now) → IsServing call.command → ⊥) → ServesNobody (Y.seen yard.old) (Y.seen yard.new) }
 {
     match read_words(alloc, words) {
         Ok(call) => run_call(rt, alloc, call, words, yard, out),

@@ -32,12 +32,12 @@ pub returns-in-Relay-clause-concludes : goal.returns-in-Relay-clause-concludes
 returns-in-Relay-clause-concludes g c = rw c.in-Relay.is (c.run_relay_by.ensures.calls, c.run_relay_by.ensures.concludes)
 
 pub returns-in-Rov-clause-concludes : goal.returns-in-Rov-clause-concludes
-returns-in-Rov-clause-concludes g c = rw c.in-Rov.is (subst (λ (path : List ℕ). RovConcludes (meaning_of c.args.call.lenient) path c.in-Rov.prefix (g.Y.Yard.told c.args.yard.now) (g.Y.Yard.told c.run_rov.new.yard) (g.Y.Yard.calls c.args.yard.now) (g.Y.Yard.calls c.run_rov.new.yard) (g.O.Sink.told c.args.out.now) (g.O.Sink.told c.run_rov.new.out) c.run_rov.result) c.file_word-path.ensures c.run_rov.ensures.concludes)
+returns-in-Rov-clause-concludes g c = rw c.in-Rov.is (subst (λ (path : List ℕ). RovConcludes (meaning_of c.args.call.lenient) path c.in-Rov.prefix (g.Y.Yard.seen c.args.yard.now).told (g.Y.Yard.seen c.run_rov.new.yard).told (g.Y.Yard.seen c.args.yard.now).calls (g.Y.Yard.seen c.run_rov.new.yard).calls (g.O.Sink.told c.args.out.now) (g.O.Sink.told c.run_rov.new.out) c.run_rov.result) c.file_word-path.ensures c.run_rov.ensures.concludes)
 
 pub returns-in-Recall-clause-concludes : goal.returns-in-Recall-clause-concludes
 returns-in-Recall-clause-concludes g c =
-    rw c.in-Recall.is (c.run_recall_by.ensures.calls, subst (λ (path : List ℕ). RecallConcludes (meaning_of c.args.call.lenient) (IsReplyTo (Recall c.in-Recall.query)) path (g.Y.Yard.told c.args.yard.now) (g.Y.Yard.told c.run_recall_by.new.yard) (g.Y.Yard.calls c.args.yard.now) (g.O.Sink.told c.args.out.now) (g.O.Sink.told c.run_recall_by.new.out) c.run_recall_by.result) c.file_word-path.ensures c.run_recall_by.ensures.concludes)
+    rw c.in-Recall.is (c.run_recall_by.ensures.calls, subst (λ (path : List ℕ). RecallConcludes (meaning_of c.args.call.lenient) (IsReplyTo (Recall c.in-Recall.query)) path (g.Y.Yard.seen c.args.yard.now).told (g.Y.Yard.seen c.run_recall_by.new.yard).told (g.Y.Yard.seen c.args.yard.now).calls (g.O.Sink.told c.args.out.now) (g.O.Sink.told c.run_recall_by.new.out) c.run_recall_by.result) c.file_word-path.ensures c.run_recall_by.ensures.concludes)
 
 pub returns-in-Archive-clause-concludes : goal.returns-in-Archive-clause-concludes
 returns-in-Archive-clause-concludes g c =
-    rw c.in-Archive.is (subst (λ (path : List ℕ). ArchiveConcludes (meaning_of c.args.call.lenient) path (g.Y.Yard.told c.args.yard.now) (g.Y.Yard.told c.run_archive_by.new.yard) (g.Y.Yard.calls c.args.yard.now) (g.Y.Yard.calls c.run_archive_by.new.yard) (g.O.Sink.told c.args.out.now) (g.O.Sink.told c.run_archive_by.new.out) c.run_archive_by.result) c.file_word-path.ensures c.run_archive_by.ensures.concludes)
+    rw c.in-Archive.is (subst (λ (path : List ℕ). ArchiveConcludes (meaning_of c.args.call.lenient) path (g.Y.Yard.seen c.args.yard.now).told (g.Y.Yard.seen c.run_archive_by.new.yard).told (g.Y.Yard.seen c.args.yard.now).calls (g.Y.Yard.seen c.run_archive_by.new.yard).calls (g.O.Sink.told c.args.out.now) (g.O.Sink.told c.run_archive_by.new.out) c.run_archive_by.result) c.file_word-path.ensures c.run_archive_by.ensures.concludes)

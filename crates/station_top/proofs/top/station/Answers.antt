@@ -10,7 +10,7 @@ use Rattle.station_top.proofs.top.station.Goals as goal
 pub returns-in-Ok-clause-answers : goal.returns-in-Ok-clause-answers
 returns-in-Ok-clause-answers g c =
     let after = c.run_call.new in
-    answers_called _ c.in-Ok.call (map string_bytes c.args.words.now) (g.Y.Yard.told c.args.yard.now) (g.Y.Yard.told after.yard) (g.Y.Yard.calls c.args.yard.now) (g.Y.Yard.calls after.yard) (g.O.Sink.told c.args.out.now) (g.O.Sink.told after.out) c.run_call.result
+    answers_called _ c.in-Ok.call (map string_bytes c.args.words.now) (g.Y.Yard.seen c.args.yard.now).told (g.Y.Yard.seen after.yard).told (g.Y.Yard.seen c.args.yard.now).calls (g.Y.Yard.seen after.yard).calls (g.O.Sink.told c.args.out.now) (g.O.Sink.told after.out) c.run_call.result
     c.in-Ok.ensures.ok c.run_call.ensures.concludes
 
 pub returns-in-Err-Usage-clause-answers : goal.returns-in-Err-Usage-clause-answers
