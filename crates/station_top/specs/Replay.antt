@@ -13,12 +13,16 @@ use Rattle.rib_model.specs.Entries.{entry_values}
 use Rattle.router_tables.specs.Building.{Builds}
 use Rattle.router_tables.specs.Tables.{TablesValue}
 use Rattle.station_top.specs.declared.replay.Replay.{Replay}
+use Rattle.station_top.specs.declared.replay.ReplayByOrigin.{ReplayByOrigin}
 
 -- they are the entries that the tables in the making have taken, and then those that are gathered
 pub record Gathers (replay : Replay) (entries : List EntryValue) : Type 0 where
   pub taken : List Entry
   pub builds : Builds replay.builder (entry_values taken)
   pub values : entries ≡ entry_values (taken ++ replay.gathered)
+
+abbrev pub GathersByOrigin : ReplayByOrigin → List EntryValue → Type 0
+GathersByOrigin account entries = Gathers account.replay entries
 
 -- the tables in the making have taken all of them
 pub record Settled (replay : Replay) (entries : List EntryValue) : Type 0 where

@@ -1,7 +1,7 @@
 //! The tables that the input leaves, brought up to date with many messages at once.
 
 ghost use Rattle.std.specs.Prelude.{◌++◌, ◌∷◌, [], List, IfOk, OnOk};
-ghost use Rattle.bmp_specs.specs.Values.{EntryValue};
+ghost use Rattle.bmp_specs.specs.Values.{EntryValue, opened};
 ghost use Rattle.rib_model.specs.Entries.{entry_value};
 
 use crate::account::{Account, Replies};
@@ -10,7 +10,7 @@ use cut_publisher::{Cut, CutLane};
 use query_eval::answer;
 use query_lang::Query;
 use rib_model::Entry;
-use router_tables::{RouterTables, TablesBuilder};
+use router_tables::{Indexing, RouterTables, TablesBuilder};
 use std::alloc::Global;
 use std::mem;
 use std::sync::Arc;
@@ -20,7 +20,8 @@ use wire_io::{Failed, List, NoMemory, Sink, Unplaced};
 /// connection has at most: they are taken while they are still in the processor's caches.
 const BATCH: u64 = 65_536;
 
-/// The tables of the one router in the making, and the entries that were gathered since they took some.
+/// The tables of the one router in the making, and the entries that were gathered since they took some. As an account
+/// they have no index by origin AS: `ReplayByOrigin` is for the query that reads it.
 #[derive(Drop)]
 pub struct Replay {
     alloc: Global,
@@ -40,6 +41,20 @@ fn bytes_of(entry: &Entry) -> u64 {
 
 impl Replay {
     ghost use Rattle.station_top.specs.Replay.{Gathers, Settled};
+
+    // The tables of an opening.
+    fn new(alloc: Global, indexing: Indexing) -> Result<Replay, NoMemory>
+        ensures { IfOk result (λ replay. Gathers replay (opened ∷ [])) }
+    {
+        let mut replay = Replay {
+            alloc,
+            builder: TablesBuilder::new(alloc, indexing)?,
+            gathered: List::new(alloc),
+            bytes: 0,
+        };
+        replay.gather(Entry::Opened)?;
+        Ok(replay)
+    }
 
     // Lets the tables take what was gathered.
     fn settle(&mut self) -> Result<(), NoMemory>
@@ -88,14 +103,7 @@ impl Account for Replay {
     ghost stands = { Gathers };
 
     fn begin(alloc: Global) -> Result<Replay, NoMemory> {
-        let mut replay = Replay {
-            alloc,
-            builder: TablesBuilder::new(alloc)?,
-            gathered: List::new(alloc),
-            bytes: 0,
-        };
-        replay.gather(Entry::Opened)?;
-        Ok(replay)
+        Replay::new(alloc, Indexing::Unindexed)
     }
 
     fn note(&mut self, entry: Entry) -> Result<(), NoMemory> {
@@ -116,6 +124,35 @@ impl Account for Replay {
             Ok(cut) => Ok(cut),
             Err(_) => Err(NoMemory),
         }
+    }
+}
+
+/// The same for a query that asks by origin AS: its tables have an index by it.
+#[derive(Drop)]
+pub struct ReplayByOrigin {
+    replay: Replay,
+}
+
+impl Account for ReplayByOrigin {
+    ghost use Rattle.station_top.specs.Replay.{GathersByOrigin};
+
+    type Wants = Entries;
+
+    type Told = Cut<RouterTables>;
+
+    ghost stands = { GathersByOrigin };
+
+    fn begin(alloc: Global) -> Result<ReplayByOrigin, NoMemory> {
+        let replay = Replay::new(alloc, Indexing::ByOrigin)?;
+        Ok(ReplayByOrigin { replay })
+    }
+
+    fn note(&mut self, entry: Entry) -> Result<(), NoMemory> {
+        self.replay.note(entry)
+    }
+
+    fn ready(self, alloc: Global, revision: u64) -> Result<Cut<RouterTables>, NoMemory> {
+        self.replay.ready(alloc, revision)
     }
 }
 

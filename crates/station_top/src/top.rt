@@ -10,6 +10,8 @@ ghost use Rattle.query_eval.specs.Replies.{PutsReply};
 ghost use Rattle.station_run.specs.Serve.{AnswersFault as EndsFault, Comes};
 ghost use Rattle.station_top.specs.Status.{status_of, status_relayed, status_served};
 ghost use Rattle.station_top.specs.DrillWords.{MayDrill};
+ghost use Rattle.station_top.specs.RecallRuns.{RecallConcludes};
+ghost use Rattle.station_top.specs.Replay.{IsAsked, IsReplyOf};
 ghost use Rattle.station_top.specs.ServeWords.{MayServe};
 ghost use Rattle.station_top.specs.Words.{IsCall, file_in};
 ghost use Rattle.station_top.specs.Station.{Answers, CallConcludes, Concludes, RelayConcludes, DrillConcludes, FromYard, AnswersFault, IsStopped, IsServing, MayAsk, ServesNobody};
@@ -24,7 +26,7 @@ use crate::drill::write_drill;
 use crate::drill_words::DrillWords;
 use crate::explain::{help, version};
 use crate::recall::run_recall_by;
-use crate::replay::Replay;
+use crate::replay::{Replay, ReplayByOrigin};
 use crate::rov::run_rov;
 use crate::serve_words::ServeWords;
 use crate::take::{Taken, take_input};
@@ -32,6 +34,7 @@ use crate::words::{Call, Command, WordsFault, file_word, read_words};
 use bmp_message::{BodyReading, LenientReading, Reading};
 use bmp_specs::Cause;
 use core::mem::replace_with;
+use query_lang::Query;
 use relay_out::{EmitFault, emit};
 use reply_text::put_stop;
 use station_doors::Yard;
@@ -201,6 +204,61 @@ fn status_relayed_by(relay: Result<(), EmitFault>, cause: Cause) -> Status
     }
 }
 
+// Whether a query reads the index by origin AS.
+fn reads_origins(query: &Query) -> bool {
+    match query {
+        Query::Origin(_, _) => true,
+        _ => false,
+    }
+}
+
+// Takes the input into tables, with an index by origin where the query reads it, and writes the reply and the stop line.
+fn run_replay<Y: Yard, O: Sink>(
+    alloc: Global,
+    lenient: bool,
+    query: &Query,
+    yard: &mut Y,
+    out: &mut O,
+) -> Status
+    requires { IsAsked query.now }
+    ensures concludes { Concludes (meaning_of lenient) (IsReplyOf query.now) (Y.seen yard.old).told (Y.seen yard.new).told (Y.seen yard.old).calls (O.told out.old) (O.told out.new) result }
+    ensures calls { (Y.seen yard.new).calls ≡ one_more (Y.seen yard.old).calls }
+    ensures nobody { ServesNobody (Y.seen yard.old) (Y.seen yard.new) }
+    ensures out { AnswersFault (O.faults out.old) (O.faults out.new) result Status.WriteFault }
+    ensures yard { AnswersFault (Y.faults yard.old) (Y.faults yard.new) result Status.YardFault }
+    ensures aside { O.aside out.new ≡ O.aside out.old }
+{
+    if reads_origins(query) {
+        run_by::<ReplayByOrigin, Y, O>(alloc, lenient, query, yard, out)
+    } else {
+        run_by::<Replay, Y, O>(alloc, lenient, query, yard, out)
+    }
+}
+
+// The same of what the archive of this path keeps.
+fn run_recall_of<Y: Yard, O: Sink>(
+    alloc: Global,
+    lenient: bool,
+    path: &str,
+    query: &Query,
+    yard: &mut Y,
+    out: &mut O,
+) -> Status
+    requires { IsAsked query.now }
+    ensures concludes { RecallConcludes (meaning_of lenient) (IsReplyOf query.now) path.now (Y.seen yard.old).told (Y.seen yard.new).told (Y.seen yard.old).calls (O.told out.old) (O.told out.new) result }
+    ensures calls { (Y.seen yard.new).calls ≡ one_more (Y.seen yard.old).calls }
+    ensures nobody { ServesNobody (Y.seen yard.old) (Y.seen yard.new) }
+    ensures out { AnswersFault (O.faults out.old) (O.faults out.new) result Status.WriteFault }
+    ensures yard { AnswersFault (Y.faults yard.old) (Y.faults yard.new) result Status.YardFault }
+    ensures aside { O.aside out.new ≡ O.aside out.old }
+{
+    if reads_origins(query) {
+        run_recall_by::<ReplayByOrigin, Y, O>(alloc, lenient, path, query, yard, out)
+    } else {
+        run_recall_by::<Replay, Y, O>(alloc, lenient, path, query, yard, out)
+    }
+}
+
 // Takes the input, and relays what it left.
 fn run_relay<R: BodyReading + Drop, Y: Yard, O: Sink>(
     alloc: Global,
@@ -334,7 +392,7 @@ where
     // The file, where the command has one.
     let path = file_word(words, lenient);
     match command {
-        Command::Replay(query) => run_by::<Replay, Y, O>(alloc, lenient, &query, yard, out),
+        Command::Replay(query) => run_replay(alloc, lenient, &query, yard, out),
         Command::Check => run_by::<Counts, Y, O>(alloc, lenient, &(), yard, out),
         Command::Serve(serve_words) => {
             status_served_by(serve_by(rt, alloc, lenient, &serve_words, yard, out))
@@ -343,9 +401,7 @@ where
         Command::Relay => run_relay_by(alloc, lenient, yard, out),
         Command::Rov(prefix) => run_rov(alloc, lenient, path, prefix, yard, out),
         Command::Archive => run_archive_by(alloc, lenient, path, yard, out),
-        Command::Recall(query) => {
-            run_recall_by::<Replay, Y, O>(alloc, lenient, path, &query, yard, out)
-        }
+        Command::Recall(query) => { run_recall_of(alloc, lenient, path, &query, yard, out) }
         Command::Help => write_text(out, help()),
         Command::Version => write_text(out, version()),
     }

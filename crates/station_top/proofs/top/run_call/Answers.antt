@@ -8,10 +8,10 @@ use Rattle.station_top.proofs.Concluding.{ends_write, ends_yard}
 use Rattle.station_top.proofs.top.run_call.Goals as goal
 
 pub returns-in-Replay-clause-concludes : goal.returns-in-Replay-clause-concludes
-returns-in-Replay-clause-concludes g c = rw c.in-Replay.is (c.run_by.ensures.calls, c.run_by.ensures.concludes)
+returns-in-Replay-clause-concludes g c = rw c.in-Replay.is (c.run_replay.ensures.calls, c.run_replay.ensures.concludes)
 
 pub returns-in-Check-clause-concludes : goal.returns-in-Check-clause-concludes
-returns-in-Check-clause-concludes g c = rw c.in-Check.is (c.run_by-in-Check.ensures.calls, c.run_by-in-Check.ensures.concludes)
+returns-in-Check-clause-concludes g c = rw c.in-Check.is (c.run_by.ensures.calls, c.run_by.ensures.concludes)
 
 pub returns-in-Serve-clause-concludes : goal.returns-in-Serve-clause-concludes
 returns-in-Serve-clause-concludes g c = rw c.in-Serve.is (c.serve_by.result, c.serve_by.ensures.serves, c.status_served_by.ensures)
@@ -36,7 +36,7 @@ returns-in-Rov-clause-concludes g c = rw c.in-Rov.is (subst (λ (path : List ℕ
 
 pub returns-in-Recall-clause-concludes : goal.returns-in-Recall-clause-concludes
 returns-in-Recall-clause-concludes g c =
-    rw c.in-Recall.is (c.run_recall_by.ensures.calls, subst (λ (path : List ℕ). RecallConcludes (meaning_of c.args.call.lenient) (IsReplyTo (Recall c.in-Recall.query)) path (g.Y.Yard.seen c.args.yard.now).told (g.Y.Yard.seen c.run_recall_by.new.yard).told (g.Y.Yard.seen c.args.yard.now).calls (g.O.Sink.told c.args.out.now) (g.O.Sink.told c.run_recall_by.new.out) c.run_recall_by.result) c.file_word-path.ensures c.run_recall_by.ensures.concludes)
+    rw c.in-Recall.is (c.run_recall_of.ensures.calls, subst (λ (path : List ℕ). RecallConcludes (meaning_of c.args.call.lenient) (IsReplyTo (Recall c.in-Recall.query)) path (g.Y.Yard.seen c.args.yard.now).told (g.Y.Yard.seen c.run_recall_of.new.yard).told (g.Y.Yard.seen c.args.yard.now).calls (g.O.Sink.told c.args.out.now) (g.O.Sink.told c.run_recall_of.new.out) c.run_recall_of.result) c.file_word-path.ensures c.run_recall_of.ensures.concludes)
 
 pub returns-in-Archive-clause-concludes : goal.returns-in-Archive-clause-concludes
 returns-in-Archive-clause-concludes g c =

@@ -1,6 +1,6 @@
 use Rattle.std.proofs.Common.{[]}
 use Rattle.station_top.proofs.Replaying.{begun}
-use Rattle.station_top.proofs.replay.ReplayAccount.begin.Goals as goal
+use Rattle.station_top.proofs.replay.Replay.new.Goals as goal
 
 pub returns : goal.returns
 returns c = c.in_ok-gather.ensures [] (begun _ c.in_ok-new.ensures c.new-2.ensures)
