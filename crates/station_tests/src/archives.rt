@@ -1,11 +1,9 @@
 //! Archives, and files of payloads, of whole calls over yards in memory whose calls fail.
-ghost use Rattle.std.specs.Prelude.{IfSome, All};
-ghost use Rattle.station_doors.specs.MemYard.{IsUntouched, IsIdle};
 
 use crate::station::{Keeping, Left, call};
-use crate::streams::{INITIATION, PEER_UP, ROUTES, bytes, put};
+use crate::streams::{INITIATION, PEER_UP, ROUTES, bytes};
+use crate::yards::yard_of;
 use disk_doors::MemDisk;
-use station_doors::{LinkList, MemPort, MemYard, PortList};
 use std::alloc::Global;
 use std::sync::Wait;
 use std::test::Fail;
@@ -48,7 +46,7 @@ const ARCHIVE: Row = Row {
     kept: BOTH,
 };
 
-// Records of them.
+// What stands before each of them in its record: a 1, and its length.
 const FIRST: &str = "0100000014";
 
 const SECOND: &str = "010000009a";
@@ -256,24 +254,6 @@ const ROWS: &[Row] = &[
     },
 ];
 
-// A list of one port of this stream.
-fn ports(alloc: Global, stream: &[&str], reads: &[u64]) -> Option<PortList>
-    ensures { IfSome result (All IsUntouched) }
-{
-    let connections = [bytes(alloc, stream)?];
-    let port = MemPort::new(alloc, &connections, &[20, 154], reads).ok()?;
-    let mut ports = PortList::new(alloc);
-    ports.push(port).ok()?;
-    Some(ports)
-}
-
-// No link.
-fn links(alloc: Global) -> LinkList
-    ensures { All IsIdle result }
-{
-    LinkList::new(alloc)
-}
-
 // Gives the yard the disk F, with these bytes.
 fn put_disk(alloc: Global, yard: &mut Keeping, file: &[u8], room: u32, failing: u64) -> Option<()> {
     if file.len() > room as usize {
@@ -290,14 +270,19 @@ fn put_file(alloc: Global, yard: &mut Keeping, path: &str, text: &[u8]) -> Optio
     yard.put_file(path, &file).ok()
 }
 
+// Gives the yard the disk and the files of a row.
+fn put_files(alloc: Global, yard: &mut Keeping, row: &Row) -> Option<()> {
+    let file = bytes(alloc, row.file)?;
+    put_disk(alloc, yard, file.as_slice(), row.room, row.failing)?;
+    put_file(alloc, yard, "V", VRPS)?;
+    put_file(alloc, yard, "B", BAD)
+}
+
 // The yard of a row.
 fn yard(alloc: Global, row: &Row) -> Option<Keeping> {
-    let ports = ports(alloc, row.stream, row.reads)?;
-    let mut yard: Keeping = MemYard::new(alloc, ports, links(alloc), row.calls).ok()?;
-    let file = bytes(alloc, row.file)?;
-    put_disk(alloc, &mut yard, file.as_slice(), row.room, row.failing)?;
-    put_file(alloc, &mut yard, "V", VRPS)?;
-    put_file(alloc, &mut yard, "B", BAD)?;
+    let stream = bytes(alloc, row.stream)?;
+    let mut yard: Keeping = yard_of(alloc, stream, &[20, 154], row.reads, row.calls)?;
+    put_files(alloc, &mut yard, row)?;
     Some(yard)
 }
 
@@ -306,23 +291,28 @@ fn called<R: Threads + Wait + Sync>(rt: &R, alloc: Global, row: &Row) -> Option<
     call(rt, alloc, row.words, yard, 1000, row.writes)
 }
 
-// Whether a call left what its row has; without memory for what stands round it, nothing.
+// Whether a call left what its row has, and these bytes in F.
+fn is_right(row: &Row, kept: &[u8], left: &Left) -> bool {
+    left.status == row.status
+        && left.out.taken() == row.written.as_bytes()
+        && left.yard.kept("F") == kept
+}
+
+// The same of a call that is made. None out of memory.
 fn leaves<R: Threads + Wait + Sync>(rt: &R, alloc: Global, row: &Row) -> Option<bool> {
     let kept = bytes(alloc, row.kept)?;
     let left = called(rt, alloc, row)?;
-    let is_written = left.out.taken() == row.written.as_bytes();
-    let is_kept = left.yard.kept("F") == kept.as_slice();
-    Some(left.status == row.status && is_written && is_kept)
+    Some(is_right(row, kept.as_slice(), &left))
 }
 
 #[test]
 fn disks_and_files_that_fail(rt: HostRuntime) -> Result<(), Fail> {
-    for (number, row) in ROWS.iter().enumerate() {
-        assert_eq!(rt;
-            leaves(&rt, rt.alloc(), row),
-            Some(true),
-            "{number}: {}",
-            row.words
+    for row in ROWS.iter() {
+        assert!(rt;
+            leaves(&rt, rt.alloc(), row) == Some(true),
+            "{}: {}",
+            row.words,
+            row.written
         );
     }
     Ok(())
@@ -330,8 +320,7 @@ fn disks_and_files_that_fail(rt: HostRuntime) -> Result<(), Fail> {
 
 // What `recall F cut` leaves of this file.
 fn recalled<R: Threads + Wait + Sync>(rt: &R, alloc: Global, file: &[u8]) -> Option<Left> {
-    let ports = ports(alloc, &[], &[])?;
-    let mut yard: Keeping = MemYard::new(alloc, ports, links(alloc), &[]).ok()?;
+    let mut yard: Keeping = yard_of(alloc, ByteList::new(alloc), &[], &[], &[])?;
     put_disk(alloc, &mut yard, file, 1000, NONE_FAILS)?;
     call(rt, alloc, "recall F cut", yard, 1000, &[])
 }
@@ -368,6 +357,11 @@ fn may_be_recalled(written: &[u8], recalled: &[u8]) -> bool {
     }
 }
 
+// Whether a call ended so, and its disk is recalled so.
+fn ends_as(status: u8, left: &Left, again: &Left) -> bool {
+    left.status == status && may_be_recalled(left.out.taken(), again.out.taken())
+}
+
 // Whether a disk whose call of this number fails leaves what may be recalled, and the status says whether it failed.
 fn leaves_a_front<R: Threads + Wait + Sync>(
     rt: &R,
@@ -376,10 +370,10 @@ fn leaves_a_front<R: Threads + Wait + Sync>(
     fails: bool,
 ) -> Option<bool> {
     let row = Row { failing, ..ARCHIVE };
+    let status = if fails { 11 } else { 0 };
     let left = called(rt, alloc, &row)?;
     let again = recalled(rt, alloc, left.yard.kept("F"))?;
-    let status = if fails { 11 } else { 0 };
-    Some(left.status == status && may_be_recalled(left.out.taken(), again.out.taken()))
+    Some(ends_as(status, &left, &again))
 }
 
 // It is asked for its size, written and synced for `create`; asked for its size, read and synced for `begin`; and written
@@ -390,22 +384,18 @@ const CALLS: u64 = 14;
 fn each_call_of_a_disk_fails(rt: HostRuntime) -> Result<(), Fail> {
     for failing in 0..20 {
         let is_front = leaves_a_front(&rt, rt.alloc(), failing, failing < CALLS);
-        assert_eq!(rt; is_front, Some(true), "call {failing}");
+        assert!(rt; is_front == Some(true), "call {failing}");
     }
     Ok(())
 }
 
-// A file in which a Peer Up was being kept behind an Initiation: the byte between the two, and so many bytes of what comes
-// behind it.
-fn torn(alloc: Global, gate: u8, count: usize) -> Option<ByteList> {
-    let mut file = bytes(alloc, &[FIRST, INITIATION])?;
-    let mut rest = ByteList::new(alloc);
-    put(alloc, &mut rest, "0000009a")?;
-    put(alloc, &mut rest, PEER_UP)?;
-    put(alloc, &mut rest, "00")?;
+// Puts the file in which a Peer Up was being kept behind an Initiation, where both were kept in these bytes: another byte
+// between the two, and so many bytes of what comes behind it.
+fn put_torn(file: &mut ByteList, both: &[u8], gate: u8, count: usize) -> Option<()> {
+    file.extend(both.get(..25)?).ok()?;
     file.extend(&[gate]).ok()?;
-    file.extend(rest.as_slice().get(..count)?).ok()?;
-    Some(file)
+    let rest = both.get(26..)?;
+    file.extend(rest.get(..count)?).ok()
 }
 
 // How many bytes that are, where all are there.
@@ -429,35 +419,29 @@ fn wanted(gate: u8, count: usize) -> &'static [u8] {
 fn is_recalled<R: Threads + Wait + Sync>(
     rt: &R,
     alloc: Global,
+    both: &[u8],
     gate: u8,
     count: usize,
 ) -> Option<bool> {
-    let file = torn(alloc, gate, count)?;
+    let mut file = ByteList::new(alloc);
+    put_torn(&mut file, both, gate, count)?;
     let left = recalled(rt, alloc, file.as_slice())?;
     Some(left.out.taken() == wanted(gate, count))
 }
 
 #[test]
 fn torn_files_are_recalled(rt: HostRuntime) -> Result<(), Fail> {
-    let alloc = rt.alloc();
+    let both = bytes(rt.alloc(), BOTH).ok_or("no memory")?;
+    let both = both.as_slice();
     for gate in 0..=255u8 {
-        assert_eq!(rt;
-            is_recalled(&rt, alloc, gate, REST),
-            Some(true),
-            "byte {gate}"
-        );
+        let right = is_recalled(&rt, rt.alloc(), both, gate, REST);
+        assert!(rt; right == Some(true), "byte {gate}");
     }
     for count in 0..REST {
-        assert_eq!(rt;
-            is_recalled(&rt, alloc, 0, count),
-            Some(true),
-            "{count} bytes"
-        );
-        assert_eq!(rt;
-            is_recalled(&rt, alloc, 1, count),
-            Some(true),
-            "{count} bytes of a record"
-        );
+        for gate in 0..2u8 {
+            let right = is_recalled(&rt, rt.alloc(), both, gate, count);
+            assert!(rt; right == Some(true), "byte {gate}, {count} bytes");
+        }
     }
     Ok(())
 }

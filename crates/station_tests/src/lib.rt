@@ -1,11 +1,9 @@
-//! Tests of what serves routers and clients, from outside: lanes, the published history, sessions, ports and links, the
-//! station, and every order of their events on one thread.
+//! Tests of what serves routers and clients, from outside: lanes, the published history, sessions, the station with calls
+//! that fail, and every order of events on one thread.
 #![tactic(auto)]
 
 #[cfg(test)]
 mod archives;
-#[cfg(test)]
-mod doors;
 #[cfg(test)]
 mod lanes;
 #[cfg(test)]

@@ -17,7 +17,6 @@ use station_doors::{
 };
 use station_top::station;
 use std::alloc::Global;
-use std::process::Abort;
 use std::sync::Wait;
 use std::sync::atomic::AtomicBool;
 use std::sync::atomic::Ordering::SeqCst;
@@ -180,17 +179,9 @@ impl<'a> Yard for Meeting<'a> {
 
     type Ending = Ending<RouterTables>;
 
-    ghost told = { λ m. Some m.yard.tells };
-
-    ghost last_ending = { λ m. m.yard.ending };
-
-    ghost endings = { λ m. m.yard.endings };
-
-    ghost listened = { λ m. m.yard.listened };
+    ghost seen = { λ m. record { told = Some m.yard.tells; calls = m.yard.calls; listened = m.yard.listened; endings = m.yard.endings; last_ending = m.yard.ending } };
 
     ghost faults = { λ m. m.yard.faults };
-
-    ghost calls = { λ m. m.yard.calls };
 
     fn listen(&mut self, at: &Listening) -> Result<(), Failed> {
         self.yard.listen(at)
@@ -296,17 +287,16 @@ fn yard<'a>(alloc: Global, flags: &'a Flags) -> Option<Meeting<'a>> {
 
 const SERVE: &str = "serve --feeds=2 --askers=1 --feed-port=5000 --ask-port=6000 --rounds=1";
 
-// The status, what was written, and the yard after two routers and a client met.
-fn met<'a, R: Threads + Wait + Sync>(
+// The status and what was written, where two routers and a client meet.
+fn served<'a, R: Threads + Wait + Sync>(
     rt: &R,
     alloc: Global,
-    flags: &'a Flags,
-) -> Option<(u8, MemSink, Meeting<'a>)> {
+    meeting: &mut Meeting<'a>,
+) -> Option<(u8, MemSink)> {
     let words = words(alloc, SERVE)?;
-    let mut meeting = yard(alloc, flags)?;
     let mut out = MemSink::new(alloc, 64, &[]).ok()?;
-    let status = station(rt, alloc, words.as_slice(), &mut meeting, &mut out).code();
-    Some((status, out, meeting))
+    let status = station(rt, alloc, words.as_slice(), meeting, &mut out).code();
+    Some((status, out))
 }
 
 const ROUTERS: &[u8] = b"at 4
@@ -314,16 +304,6 @@ router 0 live peers=0 messages=1 bytes=20 orphans=0 unread=0 mirrored=0 passed=0
 router 1 live peers=0 messages=1 bytes=20 orphans=0 unread=0 mirrored=0 passed=0 name=r1 descr=test
 end 2
 ";
-
-// Before both lanes published their message no reply shows one, and after that the reply shows both.
-fn is_met<R: Abort>(rt: &R, flags: &Flags, out: &MemSink, yard: &Keeping) {
-    assert!(rt; !flags.is_late.load(SeqCst));
-    assert_eq!(rt; out.taken(), b"ready\ndone 6\n".as_slice());
-    let written = yard.written(0);
-    assert!(rt; written.ends_with(ROUTERS));
-    let first = written.len().saturating_sub(ROUTERS.len());
-    assert!(rt; FIRST_CUTS.contains(&written.get(..first).unwrap_or(&[])));
-}
 
 // What the client may be told at first, as lanes have been opened or not.
 const FIRST_CUTS: [&[u8]; 4] = [
@@ -333,11 +313,27 @@ const FIRST_CUTS: [&[u8]; 4] = [
     b"at 2\nlane 0 1\nlane 1 1\nend 2\n",
 ];
 
+// Whether the call ended well, no reply shows a message before both lanes published theirs, and the reply after that shows
+// both.
+fn is_met(flags: &Flags, status: u8, out: &MemSink, yard: &Keeping) -> bool {
+    let written = yard.written(0);
+    let first = written.len().saturating_sub(ROUTERS.len());
+    status == 0
+        && !flags.is_late.load(SeqCst)
+        && out.taken() == b"ready\ndone 6\n".as_slice()
+        && written.ends_with(ROUTERS)
+        && FIRST_CUTS.contains(&written.get(..first).unwrap_or(&[]))
+}
+
+fn meet<'a, R: Threads + Wait + Sync>(rt: &R, alloc: Global, flags: &'a Flags) -> Option<bool> {
+    let mut meeting = yard(alloc, flags)?;
+    let (status, out) = served(rt, alloc, &mut meeting)?;
+    Some(is_met(flags, status, &out, &meeting.yard))
+}
+
 #[test]
 fn two_lanes_meet(rt: HostRuntime) -> Result<(), Fail> {
     let flags = Flags::new();
-    let (status, out, meeting) = met(&rt, rt.alloc(), &flags).ok_or("no memory")?;
-    assert_eq!(rt; status, 0);
-    is_met(&rt, &flags, &out, &meeting.yard);
+    assert!(rt; meet(&rt, rt.alloc(), &flags) == Some(true));
     Ok(())
 }

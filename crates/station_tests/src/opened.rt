@@ -1,11 +1,11 @@
 //! Stations that are opened and named.
 ghost use Rattle.std.specs.Prelude.{◌≡◌, [], IfSome};
 ghost use Rattle.std.specs.Arc.{arc_value};
-ghost use Rattle.cut_publisher.specs.Opening.{AreAsksOf, AreFeedsOf};
+ghost use Rattle.cut_publisher.specs.Opening.{AreAsksOf, AreFeedsOf, IsOpened};
 ghost use Rattle.rib_model.specs.Entries.{entry_values};
 ghost use Rattle.router_tables.specs.Tables.{StandsFor};
 
-use cut_publisher::{AskList, FeedList, Naming, Publisher, Station, Subject, name};
+use cut_publisher::{AskList, FeedList, Naming, Publisher, Station, Subject, name, open_station};
 use router_tables::RouterTables;
 use std::alloc::Global;
 use std::sync::{Arc, Wait};
@@ -30,8 +30,15 @@ pub(crate) fn named<S: Subject + Drop, J: Naming, R: Wait>(
     (publisher, feeds, asks)
 }
 
-/// What every lane has until it publishes.
-pub(crate) fn no_tables(alloc: Global) -> Option<Arc<RouterTables>>
+/// A station of one lane and one asker, where nothing was published.
+pub(crate) fn opened(alloc: Global) -> Option<Station<RouterTables>>
+    ensures { IfSome result (λ s. IsOpened 1 1 s.publisher s.feeds s.asks) }
+{
+    open_station(alloc, no_tables(alloc)?, 1, 1).ok()
+}
+
+// What every lane has until it publishes.
+fn no_tables(alloc: Global) -> Option<Arc<RouterTables>>
     ensures { IfSome result (λ t. StandsFor (arc_value t) (entry_values [])) }
 {
     let tables = RouterTables::new(alloc).ok()?;

@@ -1,82 +1,66 @@
 //! A relayed stream whose writes fail.
-ghost use Rattle.std.specs.Prelude.{IfSome, All};
-ghost use Rattle.station_doors.specs.MemYard.{IsUntouched, IsIdle};
 
-use crate::streams::{INITIATION, PEER_UP, bytes};
-use crate::words::words;
-use station_doors::{LinkList, MemPort, MemYard, PortList};
-use station_top::station;
+use crate::station::{Keeping, Left, call};
+use crate::streams::{FRONT_OF_252_ROUTES, INITIATION, PEER_UP, bytes, put};
+use crate::yards::yard_of;
 use std::alloc::Global;
 use std::sync::Wait;
 use std::test::Fail;
 use std::thread::Threads;
-use wire_io::{ByteList, MemSink};
+use wire_io::ByteList;
 
-// 252 prefixes of 24 bits follow, 1,008 bytes: the message has 1,099, its UPDATE 1,051.
-const MANY_ROUTES: &str =
-    "030000044b0000000000000000000000000000000000000000000000c00002010000fbf4c00002010000000000000000ffffffffffffffffffffffffffffffff041b02000000144001010040020602010000fbf4400304c0000201";
+// Puts a message of 252 prefixes behind, from 10.0.0.0/24 or 10.1.0.0/24 on.
+fn put_routes(alloc: Global, stream: &mut ByteList, second: u8) -> Option<()> {
+    put(alloc, stream, FRONT_OF_252_ROUTES)?;
+    for third in 0..252u8 {
+        stream.extend(&[24, 10, second, third]).ok()?;
+    }
+    Some(())
+}
 
-// A stream of 504 prefixes, 10.0.0.0/24 to 10.0.251.0/24 and 10.1.0.0/24 to 10.1.251.0/24.
+// A stream of 504 prefixes.
 fn stream(alloc: Global) -> Option<ByteList> {
     let mut stream = bytes(alloc, &[INITIATION, PEER_UP])?;
-    for second in 0..2u8 {
-        stream
-            .extend(bytes(alloc, &[MANY_ROUTES])?.as_slice())
-            .ok()?;
-        for third in 0..252u8 {
-            stream.extend(&[24, 10, second, third]).ok()?;
-        }
-    }
+    put_routes(alloc, &mut stream, 0)?;
+    put_routes(alloc, &mut stream, 1)?;
     Some(stream)
 }
 
-// A list of one port with that stream.
-fn ports(alloc: Global) -> Option<PortList>
-    ensures { IfSome result (All IsUntouched) }
-{
-    let connections = [stream(alloc)?];
-    let port = MemPort::new(alloc, &connections, &[4096], &[]).ok()?;
-    let mut ports = PortList::new(alloc);
-    ports.push(port).ok()?;
-    Some(ports)
+// What `relay` leaves on that stream, where the writes with these numbers fail.
+fn relayed<R: Threads + Wait + Sync>(rt: &R, alloc: Global, writes: &[u64]) -> Option<Left> {
+    let yard: Keeping = yard_of(alloc, stream(alloc)?, &[4096], &[], &[])?;
+    call(rt, alloc, "relay", yard, 60_000, writes)
 }
 
-// No link.
-fn links(alloc: Global) -> LinkList
-    ensures { All IsIdle result }
-{
-    LinkList::new(alloc)
+// Whether a call ended so, and wrote a beginning of so many bytes at most.
+fn is_front(left: &Left, status: u8, whole: &[u8], most: usize) -> bool {
+    let taken = left.out.taken();
+    left.status == status && taken.len() <= most && whole.starts_with(taken)
 }
 
-// The exit status of `relay` on that stream, and what it wrote, where the writes with these numbers fail.
-fn relayed<R: Threads + Wait + Sync>(
-    rt: &R,
-    alloc: Global,
-    writes: &[u64],
-) -> Option<(u8, ByteList)> {
-    let words = words(alloc, "relay")?;
-    let mut yard: MemYard<()> = MemYard::new(alloc, ports(alloc)?, links(alloc), &[]).ok()?;
-    let mut out = MemSink::new(alloc, 60_000, writes).ok()?;
-    let status = station(rt, alloc, words.as_slice(), &mut yard, &mut out);
-    let mut taken = ByteList::new(alloc);
-    taken.extend(out.taken()).ok()?;
-    Some((status.code(), taken))
+fn are_whole_and_front(whole: &Left, front: &Left) -> bool {
+    let bytes = whole.out.taken();
+    bytes.len() == WHOLE && is_front(whole, 0, bytes, WHOLE) && is_front(front, 4, bytes, WHOLE - 1)
+}
+
+// Whether the whole stream is written, and a front of it where a write fails. None out of memory.
+fn are_fronts<R: Threads + Wait + Sync>(rt: &R, alloc: Global, write: u64) -> Option<bool> {
+    let whole = relayed(rt, alloc, &[])?;
+    let front = relayed(rt, alloc, &[write])?;
+    Some(are_whole_and_front(&whole, &front))
 }
 
 // An Initiation of 20 bytes, a Peer Up of 154, and 504 routes of 95: the header of 48, an UPDATE of 47. That is more than
 // one write hands on.
+const WHOLE: usize = 48_054;
+
 #[test]
 fn a_failed_write_leaves_a_front_of_the_relayed_stream(rt: HostRuntime) -> Result<(), Fail> {
-    let alloc = rt.alloc();
-    let (status, whole) = relayed(&rt, alloc, &[]).ok_or("memory")?;
-    assert_eq!(rt; status, 0);
-    assert_eq!(rt; whole.as_slice().len(), 48_054);
     for write in 0..2u64 {
-        let (status, written) = relayed(&rt, alloc, &[write]).ok_or("memory")?;
-        let written = written.as_slice();
-        assert_eq!(rt; status, 4);
-        assert!(rt; written.len() < 48_054);
-        assert_eq!(rt; written, &whole.as_slice()[..written.len()]);
+        assert!(rt;
+            are_fronts(&rt, rt.alloc(), write) == Some(true),
+            "write {write}"
+        );
     }
     Ok(())
 }

@@ -12,7 +12,6 @@ use station_doors::{Listening, MemYard};
 use station_run::{Outcome, serve};
 use station_top::station;
 use std::alloc::Global;
-use std::process::Abort;
 use std::sync::Wait;
 use std::test::Fail;
 use std::thread::Threads;
@@ -22,8 +21,7 @@ use wire_io::MemSink;
 pub(crate) type Keeping = MemYard<Ending<RouterTables>>;
 
 // A call of the station: its words, what stands round it, how much may be written, and which writes fail; its exit
-// status, what is written or only its front, what each link is written begins with, and the last revision, where there
-// is an ending.
+// status, what is written, what each link is written begins with, and the last revision, where there is an ending.
 #[derive(Clone, Copy)]
 struct Row {
     words: &'static str,
@@ -32,7 +30,6 @@ struct Row {
     writes: &'static [u64],
     status: u8,
     written: &'static str,
-    is_front: bool,
     replies: &'static str,
     last: Option<u64>,
 }
@@ -60,7 +57,7 @@ pub(crate) fn call<R: Threads + Wait + Sync>(
     Some(Left { status, out, yard })
 }
 
-fn called<R: Threads + Wait + Sync>(rt: &R, alloc: Global, row: Row) -> Option<Left> {
+fn called<R: Threads + Wait + Sync>(rt: &R, alloc: Global, row: &Row) -> Option<Left> {
     let yard = yard(alloc, row.around)?;
     call(rt, alloc, row.words, yard, row.room, row.writes)
 }
@@ -84,20 +81,10 @@ fn has_replies(yard: &Keeping, replies: &str) -> bool {
     }
 }
 
-// Whether the station wrote what the row has.
-fn has_written(row: &Row, taken: &[u8]) -> bool {
-    let written = row.written.as_bytes();
-    if row.is_front {
-        taken.starts_with(written)
-    } else {
-        taken == written
-    }
-}
-
 // Whether a call left what its row has.
 fn is_right(row: &Row, left: &Left) -> bool {
     left.status == row.status
-        && has_written(row, left.out.taken())
+        && left.out.taken() == row.written.as_bytes()
         && has_replies(&left.yard, row.replies)
         && last(&left.yard) == row.last
 }
@@ -110,37 +97,8 @@ const NONE: Row = Row {
     writes: &[],
     status: 0,
     written: "",
-    is_front: false,
     replies: "",
     last: None,
-};
-
-// Words that are no command, beside a yard whose first call would fail.
-const USAGE: Row = Row {
-    around: UNASKED,
-    status: 2,
-    written: "usage: bmpstation replay QUERY, check, serve OPTIONS, or drill SEED LANES MESSAGES\n",
-    ..NONE
-};
-
-// What answers without the yard.
-const UNASKED: Around = Around {
-    calls: &[0],
-    ..Around::NOTHING
-};
-
-const HELP: Row = Row {
-    around: UNASKED,
-    written: "bmpstation: a station for the BGP Monitoring Protocol (RFC 7854)\n\nusage: bmpstation COMMAND\n",
-    is_front: true,
-    ..NONE
-};
-
-const VERSION: Row = Row {
-    around: UNASKED,
-    written: "bmpstation ",
-    is_front: true,
-    ..NONE
 };
 
 const ONE_LANE: Around = Around {
@@ -297,22 +255,16 @@ const ROWS: &[Row] = &[
         written: "at 2\nend 0\nstop ended\n",
         ..NONE
     },
-    // help and version ask the yard for nothing
+    // words that are no command ask the yard for nothing
     Row {
-        words: "--help",
-        ..HELP
-    },
-    Row {
-        words: "-h",
-        ..HELP
-    },
-    Row {
-        words: "--version",
-        ..VERSION
-    },
-    Row {
-        words: "-V",
-        ..VERSION
+        words: "--help x",
+        around: Around {
+            calls: &[0],
+            ..Around::NOTHING
+        },
+        status: 2,
+        written: "usage: bmpstation replay QUERY, check, serve OPTIONS, or drill SEED LANES MESSAGES\n",
+        ..NONE
     },
     // 64 lanes at one port, beside one for the asker: 0 to 63 bytes of a Peer Up, an opening and a closing each
     Row {
@@ -343,44 +295,9 @@ const ROWS: &[Row] = &[
         last: Some(0),
         ..NONE
     },
-    // the least and the greatest number of seconds
-    Row {
-        words: "serve --feeds=1 --askers=1 --feed-port=5 --ask-port=6 --rounds 1 --idle 1 --ask-idle=86400",
-        around: Around {
-            links: 1,
-            ..ONE_LANE
-        },
-        written: "ready\ndone 3\n",
-        last: Some(3),
-        ..NONE
-    },
-    Row {
-        words: "serve --feeds=1 --askers=1 --feed-port=5 --ask-port=6 --idle=86400 --rounds forever --ask-idle 1",
-        around: Around {
-            links: 1,
-            ..ONE_LANE
-        },
-        written: "ready\ndone 3\n",
-        last: Some(3),
-        ..NONE
-    },
-    // read leniently, with the flag in the middle, at the end and as the second word; and by the RFCs
+    // read leniently, and by the RFCs
     Row {
         words: "serve --feeds=1 --askers=1 --lenient --feed-port=5 --ask-port=6 --rounds=1",
-        around: TWO_OCTETS,
-        written: "ready\ndone 4\n",
-        last: Some(4),
-        ..NONE
-    },
-    Row {
-        words: "serve --feeds=1 --askers=1 --feed-port=5 --ask-port=6 --rounds=1 --lenient",
-        around: TWO_OCTETS,
-        written: "ready\ndone 4\n",
-        last: Some(4),
-        ..NONE
-    },
-    Row {
-        words: "serve --lenient --feeds=1 --askers=1 --feed-port=5 --ask-port=6 --rounds=1",
         around: TWO_OCTETS,
         written: "ready\ndone 4\n",
         last: Some(4),
@@ -401,61 +318,37 @@ const ROWS: &[Row] = &[
     },
 ];
 
-// Words that are no command.
-const NO_COMMANDS: &[&str] = &[
-    // a word more, none of the commands, another case
-    "--help x",
-    "help",
-    "--Version",
-    // shared ports that meet, and ports of each that do
-    "serve --ports shared --feed-port 5 --ask-port 5 --feeds 1 --askers 1 --rounds 1",
-    "serve --ports each --feeds 2 --askers 1 --feed-port 5 --ask-port 6 --rounds 1",
-    // no number of rounds from 1 to 4096, and `forever` twice
-    "serve --feeds=1 --askers=1 --feed-port=5 --ask-port=6 --rounds 0",
-    "serve --feeds=1 --askers=1 --feed-port=5 --ask-port=6 --rounds 4097",
-    "serve --feeds=1 --askers=1 --feed-port=5 --ask-port=6 --rounds Forever",
-    "serve --feeds=1 --askers=1 --feed-port=5 --ask-port=6 --rounds forever --rounds forever",
-    "serve --feeds=1 --askers=1 --feed-port=5 --ask-port=6 --rounds 4294967295",
-    // no number of seconds from 1 to 86400
-    "serve --feeds=1 --askers=1 --feed-port=5 --ask-port=6 --rounds 1 --idle 0",
-    "serve --feeds=1 --askers=1 --feed-port=5 --ask-port=6 --rounds 1 --idle 86401",
-    "serve --feeds=1 --askers=1 --feed-port=5 --ask-port=6 --rounds 1 --idle",
-    "serve --feeds=1 --askers=1 --feed-port=5 --ask-port=6 --rounds 1 --ask-idle 0",
-    "serve --feeds=1 --askers=1 --feed-port=5 --ask-port=6 --rounds 1 --ask-idle 86401",
-    "serve --feeds=1 --askers=1 --feed-port=5 --ask-port=6 --rounds 1 --ask-idle",
-    // the flag twice, with a value, between a name and its value
-    "serve --feeds=1 --askers=1 --feed-port=5 --ask-port=6 --lenient --rounds 1 --lenient",
-    "serve --feeds=1 --askers=1 --feed-port=5 --ask-port=6 --rounds 1 --lenient=yes",
-    "serve --feeds=1 --askers=1 --feed-port=5 --ask-port=6 --rounds --lenient 1",
-];
-
 // Whether a call leaves what its row has; without memory for what stands round it, nothing.
-fn leaves<R: Threads + Wait + Sync>(rt: &R, alloc: Global, row: Row) -> Option<bool> {
+fn leaves<R: Threads + Wait + Sync>(rt: &R, alloc: Global, row: &Row) -> Option<bool> {
     let left = called(rt, alloc, row)?;
-    Some(is_right(&row, &left))
+    Some(is_right(row, &left))
 }
 
-// The replies of an asker and of a whole stream are those of the program's rows too.
+// Further words, and the replies of an asker and of a whole stream, are those of the program's rows.
 #[test]
 fn calls_and_what_they_leave(rt: HostRuntime) -> Result<(), Fail> {
     for row in ROWS.iter() {
-        assert_eq!(rt; leaves(&rt, rt.alloc(), *row), Some(true), "{}", row.words);
-    }
-    for words in NO_COMMANDS.iter() {
-        let row = Row {
-            words: *words,
-            ..USAGE
-        };
-        assert_eq!(rt; leaves(&rt, rt.alloc(), row), Some(true), "{words}");
+        assert!(rt; leaves(&rt, rt.alloc(), row) == Some(true), "{}", row.words);
     }
     Ok(())
 }
 
-// The same of two lanes and two askers, without words.
-fn two_and_two<R: Threads + Wait + Sync>(
-    rt: &R,
-    alloc: Global,
-) -> Option<(Outcome, MemSink, Keeping)> {
+// Whether the link was written whole replies of two rows.
+fn is_served(yard: &Keeping, number: u32) -> bool {
+    let written = yard.written(number);
+    written.starts_with(b"at ") && written.ends_with(b"end 2\n")
+}
+
+fn ended_well(outcome: Outcome, out: &MemSink, yard: &Keeping) -> bool {
+    outcome == Outcome::Done
+        && out.taken() == b"ready\ndone 6\n".as_slice()
+        && is_served(yard, 0)
+        && is_served(yard, 1)
+        && last(yard) == Some(6)
+}
+
+// Whether two lanes and two askers are served well, without words.
+fn serves_two_and_two<R: Threads + Wait + Sync>(rt: &R, alloc: Global) -> Option<bool> {
     let at = Listening {
         address: Addr::v4([127, 0, 0, 1]),
         feeds: 2,
@@ -469,22 +362,11 @@ fn two_and_two<R: Threads + Wait + Sync>(
     let mut yard: Keeping = yard(alloc, TWO_AND_TWO)?;
     let mut out = MemSink::new(alloc, 64, &[]).ok()?;
     let outcome = serve::<Reading, _, _, _>(rt, alloc, &at, 1, &mut yard, &mut out);
-    Some((outcome, out, yard))
-}
-
-fn ended_well<R: Abort>(rt: &R, out: &MemSink, yard: &Keeping) {
-    assert!(rt; out.taken() == b"ready\ndone 6\n".as_slice());
-    for number in 0..2 {
-        assert!(rt; yard.written(number).starts_with(b"at "), "link {number}");
-        assert!(rt; yard.written(number).ends_with(b"end 2\n"), "link {number}");
-    }
-    assert_eq!(rt; last(yard), Some(6));
+    Some(ended_well(outcome, &out, &yard))
 }
 
 #[test]
 fn routers_and_clients_at_once(rt: HostRuntime) -> Result<(), Fail> {
-    let (outcome, out, yard) = two_and_two(&rt, rt.alloc()).ok_or("no memory")?;
-    assert_eq!(rt; outcome, Outcome::Done);
-    ended_well(&rt, &out, &yard);
+    assert!(rt; serves_two_and_two(&rt, rt.alloc()) == Some(true));
     Ok(())
 }

@@ -1,5 +1,5 @@
 //! Yards in memory.
-ghost use Rattle.std.specs.Prelude.{All, IfOk, IfSome};
+ghost use Rattle.std.specs.Prelude.{◌<◌, All, IfOk, IfSome};
 ghost use Rattle.station_doors.specs.MemYard.{IsIdle, IsUntouched};
 
 use crate::streams::bytes;
@@ -149,4 +149,35 @@ fn links_of(alloc: Global, count: u32, connections: &[ByteList]) -> Result<LinkL
         }
     }
     Ok(links)
+}
+
+/// A yard with one port, to which one connection of these bytes comes, in pieces of these sizes first, and no link. The
+/// reads of the port and the calls of the yard with these numbers fail.
+pub(crate) fn yard_of<E>(
+    alloc: Global,
+    connection: ByteList,
+    pieces: &[u32],
+    reads: &[u64],
+    calls: &[u64],
+) -> Option<MemYard<E>>
+    requires { All (λ n. 0 < n) pieces.now }
+{
+    let ports = one_port(alloc, connection, pieces, reads)?;
+    MemYard::new(alloc, ports, no_link(alloc), calls).ok()
+}
+
+fn one_port(alloc: Global, connection: ByteList, pieces: &[u32], reads: &[u64]) -> Option<PortList>
+    requires { All (λ n. 0 < n) pieces.now }
+    ensures { IfSome result (All IsUntouched) }
+{
+    let port = MemPort::new(alloc, &[connection], pieces, reads).ok()?;
+    let mut ports = PortList::new(alloc);
+    ports.push(port).ok()?;
+    Some(ports)
+}
+
+fn no_link(alloc: Global) -> LinkList
+    ensures { All IsIdle result }
+{
+    LinkList::new(alloc)
 }

@@ -1,36 +1,42 @@
 //! A session that comes in pieces, cut at every place.
 ghost use Rattle.std.specs.Prelude.{◌<◌, All};
 
-use super::shown::{nothing, same_steps, shows};
+use super::shown::{nothing, shows};
 use super::watched::{Call, Look, Seen, look_on};
-use super::worked::{MESSAGES, Session, worked_session};
+use super::worked::{BYTES, MESSAGES, Session, worked_session};
 use bmp_specs::Cause;
 use feed_worker::LaneEnd;
 use router_tables::LaneState;
 use station_doors::MemPort;
 use std::alloc::Global;
-use std::process::Abort;
 use std::sync::Wait;
 use std::test::Fail;
 use wire_io::ByteList;
 
-// What is seen of a lane with one connection of these bytes, in pieces of these sizes first.
-fn seen<R: Wait>(rt: &R, alloc: Global, bytes: &[u8], pieces: &[u32]) -> Option<Seen>
+// What is seen of a lane that serves up to so many connections, where one comes, of these bytes in pieces of these sizes
+// first.
+fn seen<R: Wait>(rt: &R, alloc: Global, bytes: &[u8], pieces: &[u32], rounds: u32) -> Option<Seen>
     requires { All (λ n. 0 < n) pieces.now }
 {
     let mut connection = ByteList::new(alloc);
     connection.extend(bytes).ok()?;
     let port = MemPort::new(alloc, &[connection], pieces, &[]).ok()?;
-    look_on(rt, alloc, port, 1)
+    look_on(rt, alloc, port, rounds)
 }
 
-// What is to be seen in such a look: the opening and exactly the messages that are whole.
+// What is to be seen in such a look: the opening and exactly the messages that are whole. Before a further connection is
+// asked for, the closing is published too.
 fn wanted(session: &Session, look: &Look) -> Look {
     let whole = session.whole(look.taken);
     match look.call {
-        Call::Next => Look {
+        Call::Next if look.taken == 0 => Look {
             revision: 0,
             shown: nothing(LaneState::Idle, 0),
+            ..*look
+        },
+        Call::Next => Look {
+            revision: MESSAGES as u64 + 2,
+            shown: nothing(LaneState::Closed(Cause::Terminated), 11),
             ..*look
         },
         _ => Look {
@@ -41,69 +47,80 @@ fn wanted(session: &Session, look: &Look) -> Look {
     }
 }
 
-fn saw_whole_messages<R: Abort>(rt: &R, session: &Session, seen: &Seen) {
+fn saw_whole_messages(session: &Session, seen: &Seen) -> bool {
     for look in seen.looks.iter() {
-        assert_eq!(rt; *look, wanted(session, look));
+        if *look != wanted(session, look) {
+            return false;
+        }
     }
+    true
 }
 
-// The lane took the whole session, published as many entries, made the same steps and shows the same as another.
-fn ended_alike<R: Abort>(rt: &R, session: &Session, seen: &Seen, other: &Seen) {
-    saw_whole_messages(rt, session, seen);
-    assert_eq!(rt; seen.end, LaneEnd::Over);
-    assert_eq!(rt; seen.entries, MESSAGES as u64 + 2);
-    assert_eq!(rt;
-        shows(&seen.tables),
-        nothing(LaneState::Closed(Cause::Terminated), 11)
-    );
-    assert!(rt; same_steps(&seen.tables, &other.tables));
+// Whether the lane took the whole session, and published each of its messages between an opening and a closing.
+fn is_whole(session: &Session, seen: &Seen) -> bool {
+    saw_whole_messages(session, seen)
+        && seen.end == LaneEnd::Over
+        && seen.entries == MESSAGES as u64 + 2
+        && shows(&seen.tables) == nothing(LaneState::Closed(Cause::Terminated), 11)
 }
 
-// The lane asked so, with so many bytes given in front of each call.
-fn asked<R: Abort>(rt: &R, seen: &Seen, calls: &[(Call, u64)]) {
-    assert_eq!(rt; seen.looks.len(), calls.len());
+// Whether the lane asked so, with so many bytes given in front of each call.
+fn has_asked(seen: &Seen, calls: &[(Call, u32)]) -> bool {
+    if seen.looks.len() != calls.len() {
+        return false;
+    }
     for (look, (call, taken)) in seen.looks.iter().zip(calls.iter()) {
-        assert_eq!(rt; look.call, *call);
-        assert_eq!(rt; look.taken, *taken);
+        if look.call != *call || look.taken != *taken as u64 {
+            return false;
+        }
     }
+    true
 }
 
-// Two pieces, divided at each place.
-fn in_two<R: Wait + Abort>(rt: &R, alloc: Global, session: &Session, other: &Seen) -> Option<()> {
-    let bytes = session.bytes.as_slice();
-    assert!(rt; bytes.len() <= 1000);
-    let all = bytes.len() as u32;
-    for place in 1..all {
-        let seen = seen(rt, alloc, bytes, &[place])?;
-        ended_alike(rt, session, &seen, other);
-        let calls = [
-            (Call::Next, 0),
-            (Call::Read, 0),
-            (Call::Read, place as u64),
-            (Call::Close, all as u64),
-        ];
-        asked(rt, &seen, &calls);
+fn is_asked_whole(session: &Session, seen: &Seen, calls: &[(Call, u32)]) -> bool {
+    is_whole(session, seen) && has_asked(seen, calls)
+}
+
+// Whether the lane publishes the session that comes in two pieces, of which the first has so many bytes, as it should.
+fn is_whole_in_two<R: Wait>(rt: &R, alloc: Global, session: &Session, first: u32) -> Option<bool>
+    requires { 0 < first }
+{
+    let seen = seen(rt, alloc, session.bytes.as_slice(), &[first], 2)?;
+    let calls = [
+        (Call::Next, 0),
+        (Call::Read, 0),
+        (Call::Read, first),
+        (Call::Close, BYTES),
+        (Call::Next, BYTES),
+    ];
+    Some(is_asked_whole(session, &seen, &calls))
+}
+
+// There is a look before each byte, and one before each of three further calls.
+fn has_all_looks(session: &Session, seen: &Seen) -> bool {
+    is_whole(session, seen) && seen.looks.len() == BYTES as usize + 3
+}
+
+// The same of a session that comes byte by byte.
+fn is_whole_byte_by_byte<R: Wait>(rt: &R, alloc: Global, session: &Session) -> Option<bool> {
+    let seen = seen(rt, alloc, session.bytes.as_slice(), &[1; 1000], 2)?;
+    Some(has_all_looks(session, &seen))
+}
+
+#[test]
+fn every_cut_publishes_the_whole_messages(rt: HostRuntime) -> Result<(), Fail> {
+    let session = worked_session(rt.alloc()).ok_or("no memory")?;
+    assert!(rt; is_whole_byte_by_byte(&rt, rt.alloc(), &session) == Some(true));
+    for first in 1..BYTES {
+        let right = is_whole_in_two(&rt, rt.alloc(), &session, first);
+        assert!(rt; right == Some(true), "cut at {first}");
     }
-    Some(())
+    Ok(())
 }
 
-// Pieces of one byte.
-fn in_single_bytes<R: Wait + Abort>(
-    rt: &R,
-    alloc: Global,
-    session: &Session,
-    other: &Seen,
-) -> Option<()> {
-    let bytes = session.bytes.as_slice();
-    let seen = seen(rt, alloc, bytes, &[1; 1000])?;
-    ended_alike(rt, session, &seen, other);
-    assert_eq!(rt; seen.looks.len(), bytes.len() + 2);
-    Some(())
-}
-
-// Where the router ends a connection behind a message, that is its end; else it is cut short behind the last whole one.
-fn ended_at<R: Abort>(rt: &R, session: &Session, place: u64, seen: &Seen) {
-    saw_whole_messages(rt, session, seen);
+// Whether it is the end of a connection that the router ends behind a message, and else is cut short behind the last whole
+// one.
+fn has_ended(session: &Session, place: u64, seen: &Seen) -> bool {
     let whole = session.whole(place);
     let offset = session.end(whole);
     let cause = if offset == place {
@@ -111,45 +128,25 @@ fn ended_at<R: Abort>(rt: &R, session: &Session, place: u64, seen: &Seen) {
     } else {
         Cause::CutShort { offset }
     };
-    assert_eq!(rt; seen.end, LaneEnd::Over);
-    assert_eq!(rt; seen.tables.state(), LaneState::Closed(cause));
-    assert_eq!(rt; seen.entries, (whole as u64).saturating_add(2));
+    saw_whole_messages(session, seen)
+        && seen.end == LaneEnd::Over
+        && seen.tables.state() == LaneState::Closed(cause)
+        && seen.entries == (whole as u64).saturating_add(2)
 }
 
-fn ended_everywhere<R: Wait + Abort>(rt: &R, alloc: Global, session: &Session) -> Option<()> {
-    let bytes = session.bytes.as_slice();
-    for place in 0..bytes.len() {
-        let seen = seen(rt, alloc, &bytes[..place], &[])?;
-        ended_at(rt, session, place as u64, &seen);
-    }
-    Some(())
-}
-
-// The session, and what is seen where it comes at once.
-fn at_once<R: Wait + Abort>(rt: &R, alloc: Global) -> Option<(Session, Seen)> {
-    let session = worked_session(alloc)?;
-    let seen = seen(rt, alloc, session.bytes.as_slice(), &[])?;
-    ended_alike(rt, &session, &seen, &seen);
-    Some((session, seen))
-}
-
-#[test]
-fn every_cut_publishes_the_whole_messages(rt: HostRuntime) -> Result<(), Fail> {
-    let (session, other) = at_once(&rt, rt.alloc()).ok_or("no memory")?;
-    in_two(&rt, rt.alloc(), &session, &other).ok_or("no memory")?;
-    Ok(())
-}
-
-#[test]
-fn single_bytes_publish_the_whole_messages(rt: HostRuntime) -> Result<(), Fail> {
-    let (session, other) = at_once(&rt, rt.alloc()).ok_or("no memory")?;
-    in_single_bytes(&rt, rt.alloc(), &session, &other).ok_or("no memory")?;
-    Ok(())
+// Whether the lane publishes so many bytes of the session as it should.
+fn is_front<R: Wait>(rt: &R, alloc: Global, session: &Session, place: usize) -> Option<bool> {
+    let bytes = session.bytes.as_slice().get(..place)?;
+    let seen = seen(rt, alloc, bytes, &[], 1)?;
+    Some(has_ended(session, place as u64, &seen))
 }
 
 #[test]
 fn every_end_of_a_connection(rt: HostRuntime) -> Result<(), Fail> {
     let session = worked_session(rt.alloc()).ok_or("no memory")?;
-    ended_everywhere(&rt, rt.alloc(), &session).ok_or("no memory")?;
+    for place in 0..BYTES as usize {
+        let right = is_front(&rt, rt.alloc(), &session, place);
+        assert!(rt; right == Some(true), "ended at {place}");
+    }
     Ok(())
 }

@@ -4,14 +4,13 @@ ghost use Rattle.std.specs.Prelude.{◌≡◌};
 use bmp_frames::PeerKey;
 use bmp_specs::{Family, View};
 use ip_prefix::{Addr, Nlri, Prefix};
-use rib_model::Step;
 use router_tables::{LaneState, RouterTables};
 use stats_book::Counts;
 
 // The state of the lane, what its session counts, how many bytes the router's sysDescr and sysName have; of the peer
 // 192.0.2.1 whether it is up, of which families its table is complete, how many routes it has, the origin AS of that
 // of 10.16.0.0/12, and the value of its first statistic; and how many steps the lane made.
-#[derive(Clone, Copy, Debug, PartialEq, Eq)]
+#[derive(Clone, Copy, PartialEq, Eq)]
 pub(crate) struct Shown {
     pub(crate) state: LaneState,
     pub(crate) counts: Counts,
@@ -91,35 +90,4 @@ pub(crate) fn nothing(state: LaneState, steps: u64) -> Shown {
         statistic: None,
         steps,
     }
-}
-
-// Whether two steps are the same, without the attributes of a route.
-fn are_same(one: &Step, other: &Step) -> bool {
-    match (one, other) {
-        (Step::Opened, Step::Opened) => true,
-        (Step::Closed(cause), Step::Closed(wanted)) => cause == wanted,
-        (Step::Up(key), Step::Up(wanted)) => key == wanted,
-        (Step::Down(key), Step::Down(wanted)) => key == wanted,
-        (Step::Announce { nlri, .. }, Step::Announce { nlri: wanted, .. }) => nlri == wanted,
-        (Step::Withdraw { nlri, .. }, Step::Withdraw { nlri: wanted, .. }) => nlri == wanted,
-        _ => false,
-    }
-}
-
-// Whether two lanes made the same steps.
-pub(crate) fn same_steps(one: &RouterTables, other: &RouterTables) -> bool {
-    let (one, other) = (one.recent(), other.recent());
-    if one.total() != other.total() {
-        return false;
-    }
-    for place in 0..one.len() {
-        let same = match (one.get(place), other.get(place)) {
-            (Some(step), Some(wanted)) => are_same(step, wanted),
-            _ => false,
-        };
-        if !same {
-            return false;
-        }
-    }
-    true
 }

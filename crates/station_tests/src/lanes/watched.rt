@@ -5,11 +5,9 @@ ghost use Rattle.cut_publisher.specs.Opening.{IsOpened};
 ghost use Rattle.station_doors.specs.Doors.{Opens, Reads, Closes, AsPlanned, read_size};
 
 use super::shown::{Shown, shows};
-use crate::opened::{named, no_tables};
+use crate::opened::{named, opened};
 use bmp_message::Reading;
-use cut_publisher::{
-    AskList, AskPass, FeedPass, Naming, Publisher, Station, open_station, snapshot,
-};
+use cut_publisher::{AskList, AskPass, FeedPass, Naming, Publisher, Station, snapshot};
 use feed_worker::{LaneEnd, LanePort, serve_feed};
 use router_tables::RouterTables;
 use station_doors::{MemPort, Port};
@@ -19,7 +17,7 @@ use std::sync::Wait;
 use wire_io::Failed;
 
 // What the lane asks of its port.
-#[derive(Clone, Copy, Debug, PartialEq, Eq)]
+#[derive(Clone, Copy, PartialEq, Eq)]
 pub(crate) enum Call {
     Next,
     Read,
@@ -27,7 +25,7 @@ pub(crate) enum Call {
 }
 
 // What the asker sees in front of a call, and how many bytes the present connection gave before it.
-#[derive(Clone, Copy, Debug, PartialEq, Eq)]
+#[derive(Clone, Copy, PartialEq, Eq)]
 pub(crate) struct Look {
     pub(crate) call: Call,
     pub(crate) taken: u64,
@@ -137,7 +135,7 @@ impl Port for Watch {
 
 // What an asker sees of the lane of a new station that serves up to so many connections of this port.
 pub(crate) fn look_on<R: Wait>(rt: &R, alloc: Global, port: MemPort, rounds: u32) -> Option<Seen> {
-    let station = open_station(alloc, no_tables(alloc)?, 1, 1).ok()?;
+    let station = opened(alloc)?;
     watched::<Brand, R>(rt, alloc, station, port, rounds)
 }
 

@@ -1,34 +1,33 @@
 //! A worked session: its messages, and what the tables show behind each.
 
 use super::shown::{Shown, nothing};
-use crate::streams::{INITIATION, PEER_UP, ROUTES, TERMINATION, put};
+use crate::streams::{
+    END_OF_RIB, END_OF_RIB_OF_IPV6, INITIATION, PEER_DOWN, PEER_UP, ROUTE, ROUTE_OF_ANOTHER_ORIGIN,
+    ROUTES, ROUTES_OF_IPV6, STATISTICS, TERMINATION, WITHDRAWAL, put,
+};
 use router_tables::LaneState;
 use stats_book::Counts;
 use std::alloc::Global;
 use wire_io::ByteList;
 
-// How many messages the session has.
+// How many messages the session has, and how many bytes.
 pub(crate) const MESSAGES: usize = 12;
+
+pub(crate) const BYTES: u32 = 958;
 
 // The messages.
 const SESSION: [&str; MESSAGES] = [
     INITIATION,
     PEER_UP,
     ROUTES,
-    // 10.16.0.0/12, with the path 64500 and then 64501
-    "030000005e0000000000000000000000000000000000000000000000c00002010000fbf4c00002010000000000000000ffffffffffffffffffffffffffffffff002e02000000144001010040020602010000fbf4400304c00002010c0a1f",
-    "030000005e0000000000000000000000000000000000000000000000c00002010000fbf4c00002010000000000000000ffffffffffffffffffffffffffffffff002e02000000144001010040020602010000fbf5400304c00002010c0a10",
-    // ::/0 and 2001:db8::/32 (RFC 4760, section 3)
-    "03000000820000000000000000000000000000000000000000000000c00002010000fbf4c00002010000000000000000ffffffffffffffffffffffffffffffff0052020000003b4001010040020602010000fbf4800e2b0002012020010db8000000000000000000000001fe800000000000000000000000000001002020010db800",
-    // End-of-RIB for IPv6 and for IPv4 (RFC 4724, section 2)
-    "030000004d0000000000000000000000000000000000000000000000c00002010000fbf4c00002010000000000000000ffffffffffffffffffffffffffffffff001d0200000006800f03000201",
-    "03000000470000000000000000000000000000000000000000000000c00002010000fbf4c00002010000000000000000ffffffffffffffffffffffffffffffff00170200000000",
-    // three statistics, the first one 5 (RFC 7854, section 4.8)
-    "03000000570100000000000000000000000000000000000000000000c00002010000fbf4c000020100000000000000000000000300000004000000050007000800000000000000020009000b0001010000000000000002",
-    // 10.1.0.0/16 is withdrawn
-    "030000004a0000000000000000000000000000000000000000000000c00002010000fbf4c00002010000000000000000ffffffffffffffffffffffffffffffff001a020003100a010000",
-    // Peer Down (RFC 7854, section 4.9)
-    "03000000310200000000000000000000000000000000000000000000c00002010000fbf4c0000201000000000000000004",
+    ROUTE,
+    ROUTE_OF_ANOTHER_ORIGIN,
+    ROUTES_OF_IPV6,
+    END_OF_RIB_OF_IPV6,
+    END_OF_RIB,
+    STATISTICS,
+    WITHDRAWAL,
+    PEER_DOWN,
     TERMINATION,
 ];
 
@@ -91,7 +90,13 @@ fn told(messages: usize) -> Shown {
 impl Session {
     // How many messages are whole with so many bytes.
     pub(crate) fn whole(&self, bytes: u64) -> usize {
-        self.ends.iter().filter(|end| **end <= bytes).count()
+        let mut whole = 0usize;
+        for end in self.ends.iter() {
+            if *end <= bytes {
+                whole = whole.saturating_add(1);
+            }
+        }
+        whole
     }
 
     // The offset behind so many messages.

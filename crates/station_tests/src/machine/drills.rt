@@ -5,15 +5,11 @@
 //! `cut`, `routers` and `count` are the same.
 
 use super::{ask, run, take};
-use crate::streams::{INITIATION, INITIATION_OF_R2, TERMINATION, bytes};
-use crate::words::words;
+use crate::station::{Keeping, Left, call};
 use crate::yards::{Around, yard};
 use drill_streams::drill_stream;
 use station_core::Event;
-use station_doors::MemYard;
-use station_top::{Status, station};
 use std::alloc::Global;
-use std::process::Abort;
 use std::sync::Wait;
 use std::test::Fail;
 use std::thread::Threads;
@@ -34,18 +30,34 @@ fn feed(
     events.push(Event::Publish { lane }).ok()
 }
 
-// The events of these streams, each taken in pieces of so many bytes on a lane of its own and published in one step, and of
-// three queries behind them.
-fn events(alloc: Global, streams: &[ByteList], piece: usize) -> Option<Vec<Event>> {
-    let mut events = Vec::new(alloc);
+// The events of these streams, each taken in pieces of so many bytes on a lane of its own and published in one step.
+fn put_streams(
+    alloc: Global,
+    events: &mut Vec<Event>,
+    streams: &[ByteList],
+    piece: usize,
+) -> Option<()> {
     let mut lane = 0u32;
     for stream in streams {
-        feed(alloc, &mut events, lane, stream.as_slice(), piece)?;
+        feed(alloc, events, lane, stream.as_slice(), piece)?;
         lane = lane.saturating_add(1);
     }
+    Some(())
+}
+
+// Three queries.
+fn put_queries(events: &mut Vec<Event>) -> Option<()> {
     for query in [b"cut".as_slice(), b"routers", b"count"] {
         events.push(ask(0, query)?).ok()?;
     }
+    Some(())
+}
+
+// The events of the streams, and of the queries behind them.
+fn events(alloc: Global, streams: &[ByteList], piece: usize) -> Option<Vec<Event>> {
+    let mut events = Vec::new(alloc);
+    put_streams(alloc, &mut events, streams, piece)?;
+    put_queries(&mut events)?;
     Some(events)
 }
 
@@ -73,16 +85,6 @@ struct Drill {
     messages: u32,
 }
 
-fn words_of(alloc: Global, drill: Drill) -> Option<Vec<String>> {
-    let Drill {
-        seed,
-        lanes,
-        messages,
-    } = drill;
-    let line = format!(in alloc; "drill {seed} {lanes} {messages}").ok()?;
-    words(alloc, line.as_str())
-}
-
 // The stream of each lane.
 fn streams(alloc: Global, drill: Drill) -> Option<Vec<ByteList>> {
     let mut streams = Vec::new(alloc);
@@ -93,62 +95,79 @@ fn streams(alloc: Global, drill: Drill) -> Option<Vec<ByteList>> {
     Some(streams)
 }
 
-// How the station ends with the words of the drill, and what it writes. Its yard has no port and no link.
-fn written<R: Threads + Wait + Sync>(
-    rt: &R,
-    alloc: Global,
-    drill: Drill,
-) -> Option<(Status, MemSink)> {
-    let words = words_of(alloc, drill)?;
-    let mut yard: MemYard<()> = yard(alloc, Around::NOTHING)?;
-    let mut out = MemSink::new(alloc, 65536, &[]).ok()?;
-    let status = station(rt, alloc, words.as_slice(), &mut yard, &mut out);
-    Some((status, out))
+// What the station leaves of the words of the drill. Its yard has no port and no link.
+fn left<R: Threads + Wait + Sync>(rt: &R, alloc: Global, drill: Drill) -> Option<Left> {
+    let Drill {
+        seed,
+        lanes,
+        messages,
+    } = drill;
+    let words = format!(in alloc; "drill {seed} {lanes} {messages}").ok()?;
+    let yard: Keeping = yard(alloc, Around::NOTHING)?;
+    call(rt, alloc, words.as_str(), yard, 65536, &[])
 }
 
-// What the machine writes on these streams, in pieces of each of these sizes, is this.
-fn are_replies<R: Abort>(
-    rt: &R,
+// Whether the machine writes this on the streams in pieces of so many bytes.
+fn are_replies(alloc: Global, streams: &[ByteList], piece: usize, written: &[u8]) -> Option<bool> {
+    let replies = replies_to(alloc, streams, piece)?;
+    Some(replies.taken() == written)
+}
+
+// The same of pieces of each of these sizes.
+fn are_all_replies(
     alloc: Global,
     streams: &[ByteList],
     pieces: &[usize],
     written: &[u8],
-) -> Option<()> {
+) -> Option<bool> {
     for piece in pieces {
-        let want = replies_to(alloc, streams, *piece)?;
-        assert!(rt; written == want.taken(), "in pieces of {piece} bytes");
+        if !are_replies(alloc, streams, *piece, written)? {
+            return Some(false);
+        }
     }
-    Some(())
+    Some(true)
 }
 
-// What the drill writes is what the machine does, in pieces of each of these sizes.
-fn compare<R: Threads + Wait + Abort + Sync>(
+// The same of the streams of the drill, where the station ended well.
+fn are_of_drill(alloc: Global, drill: Drill, pieces: &[usize], left: &Left) -> Option<bool> {
+    if left.status != 0 {
+        return Some(false);
+    }
+    let streams = streams(alloc, drill)?;
+    are_all_replies(alloc, &streams, pieces, left.out.taken())
+}
+
+// Whether what the drill writes is what the machine does, in pieces of each of these sizes.
+fn is_as_the_machine<R: Threads + Wait + Sync>(
     rt: &R,
     alloc: Global,
     drill: Drill,
     pieces: &[usize],
-) -> Option<()> {
-    let (status, out) = written(rt, alloc, drill)?;
-    assert_eq!(rt; status, Status::Done);
-    let streams = streams(alloc, drill)?;
-    are_replies(rt, alloc, &streams, pieces, out.taken())
+) -> Option<bool> {
+    let left = left(rt, alloc, drill)?;
+    are_of_drill(alloc, drill, pieces, &left)
 }
 
-fn compare_small<R: Threads + Wait + Abort + Sync>(rt: &R, alloc: Global, seed: u32) -> Option<()> {
-    for lanes in 1..=3 {
-        for messages in 1..=8 {
-            let drill = Drill {
-                seed,
-                lanes,
-                messages,
-            };
-            compare(rt, alloc, drill, &[1, 7, 4096])?;
+#[test]
+fn small_drills_are_as_the_machine(rt: HostRuntime) -> Result<(), Fail> {
+    for seed in [0, 1, 7, u32::MAX] {
+        for lanes in 1..=3 {
+            for messages in 1..=8 {
+                let drill = Drill {
+                    seed,
+                    lanes,
+                    messages,
+                };
+                let right = is_as_the_machine(&rt, rt.alloc(), drill, &[1, 7, 4096]);
+                assert!(rt; right == Some(true), "drill {seed} {lanes} {messages}");
+            }
         }
     }
-    Some(())
+    Ok(())
 }
 
-fn compare_large<R: Threads + Wait + Abort + Sync>(rt: &R, alloc: Global) -> Option<()> {
+#[test]
+fn larger_drills_are_as_the_machine(rt: HostRuntime) -> Result<(), Fail> {
     for (seed, lanes, messages, piece) in [
         (7, 1, 30, 1),
         (7, 2, 90, 7),
@@ -160,47 +179,8 @@ fn compare_large<R: Threads + Wait + Abort + Sync>(rt: &R, alloc: Global) -> Opt
             lanes,
             messages,
         };
-        compare(rt, alloc, drill, &[piece])?;
-    }
-    Some(())
-}
-
-#[test]
-fn small_drills_are_as_the_machine(rt: HostRuntime) -> Result<(), Fail> {
-    for seed in [0, 1, 7, u32::MAX] {
-        compare_small(&rt, rt.alloc(), seed).ok_or("no replies")?;
-    }
-    Ok(())
-}
-
-#[test]
-fn larger_drills_are_as_the_machine(rt: HostRuntime) -> Result<(), Fail> {
-    compare_large(&rt, rt.alloc()).ok_or("no replies")?;
-    Ok(())
-}
-
-const REPLIES: &[u8] = b"at 5\nlane 0 2\nlane 1 3\nend 2\n\
-    at 5\n\
-    router 0 live peers=0 messages=1 bytes=20 orphans=0 unread=0 mirrored=0 passed=0 name=r1 descr=test\n\
-    router 1 live peers=0 messages=2 bytes=32 orphans=0 unread=0 mirrored=0 passed=0 name=r2 descr=test\n\
-    end 2\n\
-    at 5\ncount 0\nend 1\n";
-
-// A stream of one message, and one of two.
-fn two_streams(alloc: Global) -> Option<Vec<ByteList>> {
-    let mut streams = Vec::new(alloc);
-    streams.push(bytes(alloc, &[INITIATION])?).ok()?;
-    streams
-        .push(bytes(alloc, &[INITIATION_OF_R2, TERMINATION])?)
-        .ok()?;
-    Some(streams)
-}
-
-#[test]
-fn two_streams_in_pieces(rt: HostRuntime) -> Result<(), Fail> {
-    let streams = two_streams(rt.alloc()).ok_or("no streams")?;
-    for piece in 1..=40usize {
-        are_replies(&rt, rt.alloc(), &streams, &[piece], REPLIES).ok_or("no replies")?;
+        let right = is_as_the_machine(&rt, rt.alloc(), drill, &[piece]);
+        assert!(rt; right == Some(true), "drill {seed} {lanes} {messages}");
     }
     Ok(())
 }

@@ -4,7 +4,6 @@ use super::{Ran, ask, run, take};
 use crate::streams::{INITIATION, TERMINATION, VERSION_4, bytes};
 use station_core::{Event, ScheduleFault};
 use std::alloc::Global;
-use std::process::Abort;
 use std::test::Fail;
 
 // An event: a part of an Initiation Message that a lane takes, between two offsets, or the line that the first or the
@@ -58,7 +57,7 @@ fn put(alloc: Global, events: &mut Vec<Event>, plans: &[Plan]) -> Option<()> {
     Some(())
 }
 
-// What these events come to, one list behind the other, with two lanes and an asker, or with one lane.
+// What these events come to, one list behind the other, with so many lanes, one or two, and an asker.
 fn ran(alloc: Global, lanes: u32, lists: &[&[Plan]]) -> Option<Ran> {
     let mut events = Vec::new(alloc);
     for plans in lists {
@@ -96,7 +95,19 @@ const IDLE: &[Plan] = &[
     Plan::Tell(0, 9),
 ];
 
-// What these events come to, one list after the other.
+// Whether these events, one list behind the other, come to these replies and this revision.
+fn come_to(
+    alloc: Global,
+    lanes: u32,
+    lists: &[&[Plan]],
+    replies: &[u8],
+    last: u64,
+) -> Option<bool> {
+    let ran = ran(alloc, lanes, lists)?;
+    Some(ran.is(replies, last))
+}
+
+// What three lists of events come to with two lanes, one behind the other.
 fn ran_through(alloc: Global, before: &[Plan], plans: &[Plan], behind: &[Plan]) -> Option<Ran> {
     let mut events = Vec::new(alloc);
     put(alloc, &mut events, before)?;
@@ -105,27 +116,13 @@ fn ran_through(alloc: Global, before: &[Plan], plans: &[Plan], behind: &[Plan]) 
     run(alloc, 2, 1, &events, 1024, &[])
 }
 
-// What the worked schedule comes to with these events before this place, and so many of its own left out there. None past
-// its end.
-fn ran_with(alloc: Global, place: usize, plans: &[Plan], left_out: usize) -> Option<Ran> {
+// Whether the worked schedule comes to the two cuts where these events stand before this place of it, and so many of its
+// own are left out there. None past its end.
+fn come_to_two_cuts(alloc: Global, place: usize, plans: &[Plan], left_out: usize) -> Option<bool> {
     let before = WORKED.get(..place)?;
     let behind = WORKED.get(place.saturating_add(left_out)..)?;
-    ran_through(alloc, before, plans, behind)
-}
-
-fn are_two_cuts<R: Abort>(rt: &R, ran: &Ran) {
-    assert!(rt; ran.is(TWO_CUTS, 3));
-}
-
-// An idle event before each place changes nothing.
-fn try_idle<R: Abort>(rt: &R, alloc: Global) -> Option<()> {
-    for plan in IDLE {
-        for place in 0..=WORKED.len() {
-            let ran = ran_with(alloc, place, &[*plan], 0)?;
-            assert!(rt; ran.is(TWO_CUTS, 3), "before {place}");
-        }
-    }
-    Some(())
+    let ran = ran_through(alloc, before, plans, behind)?;
+    Some(ran.is(TWO_CUTS, 3))
 }
 
 // The message of the worked schedule, its event 4, in twenty pieces.
@@ -159,16 +156,23 @@ const LATE: &[Plan] = &[
     Plan::Ask(0, "routers"),
 ];
 
+// Whether the worked schedule comes to the two cuts: alone, with what stands behind its end, and in pieces.
+fn is_worked(alloc: Global) -> bool {
+    come_to(alloc, 2, &[WORKED], TWO_CUTS, 3) == Some(true)
+        && come_to(alloc, 2, &[WORKED, WORKED, LATE], TWO_CUTS, 3) == Some(true)
+        && come_to_two_cuts(alloc, 4, PIECES, 1) == Some(true)
+}
+
+// An idle event before each place changes nothing.
 #[test]
 fn the_worked_schedule(rt: HostRuntime) -> Result<(), Fail> {
-    let alloc = rt.alloc();
-    are_two_cuts(&rt, &ran(alloc, 2, &[WORKED]).ok_or("not run")?);
-    are_two_cuts(&rt, &ran_with(alloc, 4, PIECES, 1).ok_or("not run")?);
-    are_two_cuts(
-        &rt,
-        &ran(alloc, 2, &[WORKED, WORKED, LATE]).ok_or("not run")?,
-    );
-    try_idle(&rt, alloc).ok_or("not run")?;
+    assert!(rt; is_worked(rt.alloc()));
+    for plan in IDLE {
+        for place in 0..=WORKED.len() {
+            let right = come_to_two_cuts(rt.alloc(), place, &[*plan], 0);
+            assert!(rt; right == Some(true), "before {place}");
+        }
+    }
     Ok(())
 }
 
@@ -253,61 +257,73 @@ fn put_stream(alloc: Global, events: &mut Vec<Event>, after: &str) -> Option<()>
     events.push(take(alloc, 0, stream.as_slice())?).ok()
 }
 
-// A connection of an Initiation and these bytes. Where it is over behind them, there is nothing left to end.
-fn ended(alloc: Global, row: &Row) -> Option<Ran> {
+// Puts a connection of an Initiation and these bytes. Where it is over behind them, there is nothing left to end.
+fn put_row(alloc: Global, events: &mut Vec<Event>, row: &Row) -> Option<()> {
     let rest = [
         Plan::End(0, row.failed),
         Plan::Publish(0),
         Plan::Publish(0),
         Plan::Ask(0, "routers"),
     ];
+    put(alloc, events, &[Plan::Begin(0)])?;
+    put_stream(alloc, events, row.after)?;
+    put(alloc, events, &rest)
+}
+
+fn is_answered(ran: &Ran, reply: &str) -> bool {
+    ran.last.is_ok() && ran.out.taken() == reply.as_bytes()
+}
+
+// Whether the connection of the row is answered so.
+fn ends_so(alloc: Global, row: &Row) -> Option<bool> {
     let mut events = Vec::new(alloc);
-    put(alloc, &mut events, &[Plan::Begin(0)])?;
-    put_stream(alloc, &mut events, row.after)?;
-    put(alloc, &mut events, &rest)?;
-    run(alloc, 1, 1, &events, 1024, &[])
+    put_row(alloc, &mut events, row)?;
+    let ran = run(alloc, 1, 1, &events, 1024, &[])?;
+    Some(is_answered(&ran, row.reply))
 }
 
 #[test]
 fn connections_and_their_ends(rt: HostRuntime) -> Result<(), Fail> {
-    let alloc = rt.alloc();
-    let lives = ran(alloc, 1, &[LIVES]).ok_or("not run")?;
-    assert!(rt; lives.is(OF_LIVES, 5));
+    assert!(rt; come_to(rt.alloc(), 1, &[LIVES], OF_LIVES, 5) == Some(true));
     for row in ROWS.iter() {
-        let ended = ended(alloc, row).ok_or("not run")?;
-        assert!(rt; ended.out.taken() == row.reply.as_bytes(), "{}", row.reply);
+        assert!(rt; ends_so(rt.alloc(), row) == Some(true), "{}", row.reply);
     }
     Ok(())
 }
 
+// Whether the schedule failed, and so many bytes of the two cuts were written.
+fn is_front(ran: &Ran, written: usize) -> bool {
+    let taken = ran.out.taken();
+    ran.last == Err(ScheduleFault::Failed) && taken.len() == written && TWO_CUTS.starts_with(taken)
+}
+
 // A reply that can't be written ends the schedule; those before it are written, and a front of it may be.
-fn fails<R: Abort>(rt: &R, alloc: Global, room: u32, calls: &[u64], written: usize) -> Option<()> {
+fn fails(alloc: Global, room: u32, calls: &[u64], written: usize) -> Option<bool> {
     let mut events = Vec::new(alloc);
     put(alloc, &mut events, WORKED)?;
     let ran = run(alloc, 2, 1, &events, room, calls)?;
-    assert_eq!(rt; ran.last, Err(ScheduleFault::Failed));
-    assert!(rt; TWO_CUTS.starts_with(ran.out.taken()));
-    assert_eq!(rt; ran.out.taken().len(), written);
-    Some(())
+    Some(is_front(&ran, written))
+}
+
+// Whether the two faults are these words.
+fn are_in_words(alloc: Global, wanted: &str) -> Option<bool> {
+    let failed = ScheduleFault::Failed;
+    let no_memory = ScheduleFault::NoMemory;
+    let words = format!(in alloc; "{failed}, {no_memory}").ok()?;
+    Some(words.as_str() == wanted)
 }
 
 #[test]
 fn writes_that_fail(rt: HostRuntime) -> Result<(), Fail> {
-    let alloc = rt.alloc();
-    fails(&rt, alloc, 1024, &[0], 0).ok_or("not run")?;
-    fails(&rt, alloc, 1024, &[1], 29).ok_or("not run")?;
+    let words = "a write failed, no memory to run the schedule";
+    assert!(rt; are_in_words(rt.alloc(), words) == Some(true));
     for room in 0..58u32 {
-        fails(&rt, alloc, room, &[], room as usize).ok_or("not run")?;
+        let right = fails(rt.alloc(), room, &[], room as usize);
+        assert!(rt; right == Some(true), "room {room}");
     }
-    Ok(())
-}
-
-#[test]
-fn faults_in_words(rt: HostRuntime) -> Result<(), Fail> {
-    let alloc = rt.alloc();
-    let failed = ScheduleFault::Failed;
-    let no_memory = ScheduleFault::NoMemory;
-    let words = format!(in alloc; "{failed}, {no_memory}")?;
-    assert!(rt; words.as_str() == "a write failed, no memory to run the schedule");
+    for (call, written) in [(0, 0), (1, 29)] {
+        let right = fails(rt.alloc(), 1024, &[call], written);
+        assert!(rt; right == Some(true), "call {call}");
+    }
     Ok(())
 }

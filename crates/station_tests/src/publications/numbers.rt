@@ -26,7 +26,7 @@ impl Numbers {
         ensures { IfOk result (λ v. (arc_value v).items.items ≡ []) }
     {
         let items = Vec::new(alloc);
-        Arc::new(alloc, Numbers { items }).map_err(|_| NoMemory)
+        shared(alloc, Numbers { items })
     }
 
     // The list with these behind.
@@ -35,7 +35,17 @@ impl Numbers {
     {
         let mut items = Vec::from_slice(alloc, self.items.as_slice())?;
         items.extend_from_slice(more)?;
-        Arc::new(alloc, Numbers { items }).map_err(|_| NoMemory)
+        shared(alloc, Numbers { items })
+    }
+}
+
+// The list behind a counter.
+fn shared(alloc: Global, numbers: Numbers) -> Result<Arc<Numbers>, NoMemory>
+    ensures { IfOk result (λ v. arc_value v ≡ numbers) }
+{
+    match Arc::new(alloc, numbers) {
+        Ok(numbers) => Ok(numbers),
+        Err(_) => Err(NoMemory),
     }
 }
 
@@ -48,86 +58,28 @@ fn take_feed<J: Naming>(feeds: &mut FeedList<Numbers>) -> Result<FeedPass<Number
     feeds.pop().ok_or(NoMemory)
 }
 
-fn put_feed<J: Naming>(
-    feeds: &mut FeedList<Numbers>,
-    pass: FeedPass<Numbers>,
-) -> Result<(), NoMemory>
-    requires list { AreFeedsOf J.site feeds.old }
-    requires pass { pass.station ≡ J.site }
-    ensures { AreFeedsOf J.site feeds.new }
-{
-    feeds.push(pass).map_err(|_| NoMemory)
-}
-
 // Takes the passes of lanes 0 and 1 out of the list.
 pub fn take_lanes<J: Naming>(
     feeds: &mut FeedList<Numbers>,
 ) -> Result<(FeedPass<Numbers>, FeedPass<Numbers>), NoMemory>
     requires { AreFeedsOf J.site feeds.old }
-    ensures left { AreFeedsOf J.site feeds.new }
-    ensures taken { IfOk result (λ f. (f.0.station ≡ J.site) × (f.1.station ≡ J.site)) }
+    ensures { IfOk result (λ f. (f.0.station ≡ J.site) × (f.1.station ≡ J.site)) }
 {
     let one = take_feed::<J>(feeds)?;
     let zero = take_feed::<J>(feeds)?;
     Ok((zero, one))
 }
 
-pub fn put_lanes<J: Naming>(
-    feeds: &mut FeedList<Numbers>,
-    zero: FeedPass<Numbers>,
-    one: FeedPass<Numbers>,
-) -> Result<(), NoMemory>
-    requires list { AreFeedsOf J.site feeds.old }
-    requires zero { zero.station ≡ J.site }
-    requires one { one.station ≡ J.site }
-    ensures { AreFeedsOf J.site feeds.new }
-{
-    put_feed::<J>(feeds, zero)?;
-    put_feed::<J>(feeds, one)
-}
-
-// Takes the last asker out of the list.
-pub fn take_ask<J: Naming>(asks: &mut AskList<Numbers>) -> Result<AskPass<Numbers>, NoMemory>
-    requires { AreAsksOf J.site asks.old }
-    ensures left { AreAsksOf J.site asks.new }
-    ensures taken { IfOk result (λ a. a.station ≡ J.site) }
-{
-    asks.pop().ok_or(NoMemory)
-}
-
-fn put_ask<J: Naming>(asks: &mut AskList<Numbers>, pass: AskPass<Numbers>) -> Result<(), NoMemory>
-    requires list { AreAsksOf J.site asks.old }
-    requires pass { pass.station ≡ J.site }
-    ensures { AreAsksOf J.site asks.new }
-{
-    asks.push(pass).map_err(|_| NoMemory)
-}
-
-// Takes the last two askers out of the list.
+// Takes two askers out of the list.
 pub fn take_askers<J: Naming>(
     asks: &mut AskList<Numbers>,
 ) -> Result<(AskPass<Numbers>, AskPass<Numbers>), NoMemory>
     requires { AreAsksOf J.site asks.old }
-    ensures left { AreAsksOf J.site asks.new }
-    ensures taken { IfOk result (λ a. (a.0.station ≡ J.site) × (a.1.station ≡ J.site)) }
+    ensures { IfOk result (λ a. a.0.station ≡ J.site) }
 {
-    let second = take_ask::<J>(asks)?;
-    let first = take_ask::<J>(asks)?;
+    let first = asks.pop().ok_or(NoMemory)?;
+    let second = asks.pop().ok_or(NoMemory)?;
     Ok((first, second))
-}
-
-pub fn put_askers<J: Naming>(
-    asks: &mut AskList<Numbers>,
-    first: AskPass<Numbers>,
-    second: AskPass<Numbers>,
-) -> Result<(), NoMemory>
-    requires list { AreAsksOf J.site asks.old }
-    requires first { first.station ≡ J.site }
-    requires second { second.station ≡ J.site }
-    ensures { AreAsksOf J.site asks.new }
-{
-    put_ask::<J>(asks, first)?;
-    put_ask::<J>(asks, second)
 }
 
 // Publishes these numbers behind those that the lane has published.
@@ -152,49 +104,10 @@ pub fn tell<J: Naming, R: Wait>(
     }
 }
 
-// The same without a note.
-pub fn tell_unnoted<J: Naming, R: Wait>(
-    rt: &R,
-    alloc: Global,
-    publisher: &Publisher<Numbers, J>,
-    pass: &mut FeedPass<Numbers>,
-    numbers: &[u64],
-) -> Result<(), NoMemory>
-    requires { pass.old.station ≡ J.site }
-    ensures { pass.new.station ≡ J.site }
-{
-    if pass.count() > 1000 || numbers.len() > 1000 {
-        return Err(NoMemory);
+// Whether the lane of the cut has so many numbers, these first.
+pub fn has(cut: &Cut<Numbers>, lane: u32, count: u64, numbers: &[u64]) -> bool {
+    if lane >= cut.lanes() {
+        return false;
     }
-    let value = pass.value().with(alloc, numbers)?;
-    match publish_unnoted(rt, alloc, publisher, pass, numbers, value) {
-        Ok(()) => Ok(()),
-        Err(_) => Err(NoMemory),
-    }
-}
-
-// Finishes the station.
-pub fn ended<J: Naming, R: Wait>(
-    rt: &R,
-    alloc: Global,
-    publisher: Publisher<Numbers, J>,
-    feeds: FeedList<Numbers>,
-    asks: AskList<Numbers>,
-) -> Result<Ending<Numbers>, NoMemory>
-    requires feeds { AreFeedsOf J.site feeds }
-    requires asks { AreAsksOf J.site asks }
-{
-    match finish(rt, alloc, publisher, feeds, asks) {
-        Ok(ending) => Ok(ending),
-        Err(
-            Unfinished::NoMemory {
-                publisher,
-                feeds: _,
-                asks: _,
-            },
-        ) => {
-            publisher.close(rt);
-            Err(NoMemory)
-        }
-    }
+    cut.count(lane) == count && cut.value(lane).items.as_slice().starts_with(numbers)
 }

@@ -39,31 +39,32 @@ fn announce(row_key: RowKey) -> Effect {
     })
 }
 
-// What the lane's messages do to its rows, where so many of its entries are published.
-fn effects(alloc: Global, lane: u32, published: u32) -> Option<Vec<Effect>> {
-    let mut effects = Vec::new(alloc);
-    if published >= 3 {
-        effects
-            .push(Effect::Up {
-                peer: peer(),
-                asn: 64500,
-            })
-            .ok()?;
-        effects.push(announce(place(0, 8))).ok()?;
-        effects.push(announce(place(1, 16))).ok()?;
-    }
-    if published >= 4 {
-        let last = if lane == 0 {
-            Effect::Down {
-                peer: peer(),
-                reason: 4,
-            }
-        } else {
-            Effect::Withdraw(place(1, 16))
-        };
-        effects.push(last).ok()?;
-    }
-    Some(effects)
+// What the lane's messages do to its rows.
+fn effects(lane: u32) -> [Effect; 4] {
+    let last = if lane == 0 {
+        Effect::Down {
+            peer: peer(),
+            reason: 4,
+        }
+    } else {
+        Effect::Withdraw(place(1, 16))
+    };
+    let up = Effect::Up {
+        peer: peer(),
+        asn: 64500,
+    };
+    [up, announce(place(0, 8)), announce(place(1, 16)), last]
+}
+
+// The rows of the lane where so many of its entries are published: its opening and two messages are the first three.
+fn rows_of(alloc: Global, lane: u32, published: u32) -> Option<Vec<Row>> {
+    let count = match published {
+        0 | 1 | 2 => 0,
+        3 => 3,
+        _ => 4,
+    };
+    let effects = effects(lane);
+    rows(alloc, effects.get(..count)?).ok()
 }
 
 fn put(replies: &mut ByteList, text: &[u8]) -> Option<()> {
@@ -93,20 +94,23 @@ fn rest_of_prefix(bits: u8) -> &'static [u8] {
     }
 }
 
+// The line of a row of the lane.
+fn put_row(replies: &mut ByteList, lane: u32, row: &Row) -> Option<()> {
+    put(replies, b"route ")?;
+    put_digit(replies, lane as u64)?;
+    put(replies, b" 0-0000000000000000-192.0.2.1 adj-in-pre 10.")?;
+    put(replies, rest_of_prefix(row.row_key.bits))?;
+    put(
+        replies,
+        b" next=192.0.2.1 origin=igp path=64500 med=- pref=- atomic=no agg=- comm=- other=-\n",
+    )
+}
+
 // The lines of the lane's rows; how many these are.
 fn put_rows(alloc: Global, replies: &mut ByteList, lane: u32, published: u32) -> Option<u64> {
-    let effects = effects(alloc, lane, published)?;
-    let rows = rows(alloc, &effects).ok()?;
+    let rows = rows_of(alloc, lane, published)?;
     for row in rows.iter() {
-        put(replies, b"route ")?;
-        put_digit(replies, lane as u64)?;
-        put(replies, b" 0-0000000000000000-192.0.2.1 adj-in-pre 10.")?;
-        put(replies, rest_of_prefix(row.row_key.bits))?;
-        put(
-            replies,
-            b" next=192.0.2.1 origin=igp path=64500 med=- pref=-",
-        )?;
-        put(replies, b" atomic=no agg=- comm=- other=-\n")?;
+        put_row(replies, lane, row)?;
     }
     Some(rows.len() as u64)
 }
