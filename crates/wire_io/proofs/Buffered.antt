@@ -7,8 +7,8 @@ use Rattle.wire_io.specs.declared.sink.Failed.{Failed}
 use Rattle.wire_io.specs.Aside.{Aside, laid_over}
 use Rattle.wire_io.specs.Faults.{HasCause}
 use Rattle.wire_io.specs.Writes.{AppendsFront, Writes}
-use Rattle.wire_io.specs.Buffer.{BufferValue, Extends, Pours}
-use Rattle.wire_io.proofs.Joins.{appends_then, appends_none, keeps_appends}
+use Rattle.wire_io.specs.Buffer.{BufferValue, Extends, GoesThrough, Pours}
+use Rattle.wire_io.proofs.Joins.{appends_then, appends_none, join, keeps_appends}
 
 pub pours_none : (a : Option (List ℕ)) (bytes : List ℕ) (start : ℕ) → Pours a a bytes start start
 pours_none a bytes start = record { written = []; split = refl; grown = appends_none a }
@@ -74,6 +74,23 @@ module _ {O : Type 0} (faults : O → ℕ) (told : O → Option (List ℕ)) (asi
 pub keeps_held : (bytes new piece : List ℕ) (start len n : ℕ) → start ≤ len → len ≤ length bytes → take (len + n) new ≡ take len bytes ++ piece → drop start (take (len + n) new) ≡ drop start (take len bytes) ++ piece
 keeps_held bytes new piece start len n h k e = ap (λ (l : List ℕ). drop start l) e ∙ drop-append-le start (take len bytes) piece (omega (arith, length-take len bytes))
 
+-- what was written whole stays written, where nothing but what is held was handed on
+module _ {O : Type 0} {faults : O → ℕ} {told : O → Option (List ℕ)} {aside : O → Aside} where
+  pub flushed : (a b c : O) (text : List ℕ) (u : Unit {0}) (r : Result (Unit {0}) Failed) → Writes faults told aside a text (Ok u) b → Keeps (told b) (told c) → aside c ≡ aside b → HasCause (faults b) (faults c) r → Writes faults told aside a text r c
+  flushed a b c text u r w same kept cause = join a b c text [] text u r w (record { whole = whole r; front = record { front = []; back = []; parts = refl; grown = grown }; kept = kept; cause = cause }) (sym (append-nil text))
+    where
+      grown : Appends (told b) (told c) []
+      grown = keeps_appends (told b) (told c) same
+
+      whole : (r : Result (Unit {0}) Failed) → OnOk r (Appends (told b) (told c) [])
+      whole (Ok v) = grown
+      whole (Err d) = tt
+
+-- the first of two things that an answer tells
+pub emptied : (P Q : Type 0) (r : Result (Unit {0}) Failed) → OnOk r (P × Q) → OnOk r P
+emptied P Q (Ok u) both = both.0
+emptied P Q (Err d) both = tt
+
 -- what the sink told as the buffer was laid over it, and what it holds beside
 abbrev over_of : List (Option (List ℕ)) → Option (List ℕ)
 over_of [] = None
@@ -97,3 +114,40 @@ module _ {O : Type 0} (faults : O → ℕ) (told : O → Option (List ℕ)) (asi
       let w1 = subst (λ (p : BufferValue O). Writes (λ (p : BufferValue O). faults p.below) (λ (p : BufferValue O). append_known (told p.below) p.held) (λ (p : BufferValue O). laid_over (told p.first) (aside p.below)) p text r p1) e w in
       let x1 = subst (λ (q : Option (List ℕ)). Extends q (told new)) (same_first _ _ _ _ w1.kept) x in
       rw n (written_below faults told aside out p1.below p1.held text r (rw n at x1) empty w1.whole w1.front (same_aside _ _ _ _ w1.kept) w1.cause)
+
+  -- a call through a buffer that failed
+  pub through_failed : (Leaves : BufferValue O → Result (Unit {0}) Failed → BufferValue O → Type 0) (out new : O) (p0 p1 p : BufferValue O) (d : Failed) (r : Result (Unit {0}) Failed) → p0 ≡ record { first = out; below = out; held = []; used = 0 } → new ≡ p.below → Extends (told p.first) (told new) → p ≡ p1 → r ≡ Err d
+      → Leaves p0 (Err d) p1 → GoesThrough faults told aside Leaves out r new
+  through_failed Leaves out new p0 p1 p d r e n x is answers left = rw answers (record {
+    last = p1;
+    answer = Err d;
+    left = subst (λ (q : BufferValue O). Leaves q (Err d) p1) e left;
+    written = λ text w. through out new _ p1 text (Err d) refl n1 x1 tt w;
+    kept = ap aside n1;
+    cause = λ h. subst (λ (o : O). HasCause {T = Unit {0}} {E = Failed} (faults out) (faults o) (Err d)) (sym n1) h;
+  })
+    where
+      n1 : new ≡ p1.below
+      n1 = n ∙ ap (λ (q : BufferValue O). q.below) is
+
+      x1 : Extends (told p1.first) (told new)
+      x1 = subst (λ (q : BufferValue O). Extends (told q.first) (told new)) is x
+
+  -- a call through a buffer that was flushed
+  pub through_flushed : (Leaves : BufferValue O → Result (Unit {0}) Failed → BufferValue O → Type 0) (out new : O) (p0 p1 p2 p : BufferValue O) (u : Unit {0}) (s r : Result (Unit {0}) Failed) → p0 ≡ record { first = out; below = out; held = []; used = 0 } → new ≡ p.below → Extends (told p.first) (told new) → p ≡ p2 → r ≡ s
+      → OnOk s (p2.held ≡ []) → p2.first ≡ p1.first → Keeps (append_known (told p1.below) p1.held) (append_known (told p2.below) p2.held) → aside p2.below ≡ aside p1.below → HasCause (faults p1.below) (faults p2.below) s
+      → Leaves p0 (Ok u) p1 → GoesThrough faults told aside Leaves out r new
+  through_flushed Leaves out new p0 p1 p2 p u s r e n x is answers empty first same kept cause left = rw answers (record {
+    last = p1;
+    answer = Ok u;
+    left = subst (λ (q : BufferValue O). Leaves q (Ok u) p1) e left;
+    written = λ text w. through out new _ p2 text s refl n2 x2 empty (flushed _ p1 p2 text u s w same (λ i. laid_over (told (first i)) (kept i)) cause);
+    kept = ap aside n2 ∙ kept;
+    cause = λ h. subst (λ (o : O). HasCause (faults out) (faults o) s) (sym n2) (subst (λ (before : ℕ). HasCause before (faults p2.below) s) h.fine cause);
+  })
+    where
+      n2 : new ≡ p2.below
+      n2 = n ∙ ap (λ (q : BufferValue O). q.below) is
+
+      x2 : Extends (told p2.first) (told new)
+      x2 = subst (λ (q : BufferValue O). Extends (told q.first) (told new)) is x

@@ -1,9 +1,10 @@
-ghost use Rattle.std.specs.Prelude.{◌≡◌, ℕ, ◌<◌, ◌≤◌, ◌+◌, ◌++◌, [], length, take, OnOk};
+ghost use Rattle.std.specs.Prelude.{◌≡◌, ℕ, ◌<◌, ◌≤◌, ◌+◌, ◌++◌, [], ⊤, Result, length, take, OnOk};
 ghost use Rattle.std.specs.Io.KnownBytes.{Keeps, append_known};
 ghost use Rattle.wire_io.specs.Aside.{laid_over};
+ghost use Rattle.wire_io.specs.declared.sink.Failed.{Failed};
 ghost use Rattle.wire_io.specs.Faults.{HasCause};
 ghost use Rattle.wire_io.specs.Writes.{Writes, joined};
-ghost use Rattle.wire_io.specs.Buffer.{Extends, Pours};
+ghost use Rattle.wire_io.specs.Buffer.{BufferValue, Extends, GoesThrough, Pours};
 
 use crate::{Failed, Sink, write_pieces};
 use core::mem::replace_with;
@@ -144,27 +145,65 @@ fn put(bytes: &mut [u8], at: usize, piece: &[u8])
     bytes[at..at + piece.len()].copy_from_slice(piece);
 }
 
-/// Writes the pieces, one after another, through a buffer, which is flushed at the end. A write that
+/// Something that is written through a buffer.
+pub trait Puts<O: Sink> {
+    /// It may be written.
+    ghost may_put: { Self → Type 0 } = { λ _. ⊤ };
+
+    /// What writing it may make of a buffer.
+    ghost leaves: { Self → BufferValue O → Result (Unit {0}) Failed → BufferValue O → Type 0 };
+
+    /// Writes it to the buffer.
+    fn put(self, buffer: &mut BufferedSink<O>) -> Result<(), Failed>
+        requires { may_put self }
+        ensures { leaves self buffer.old result buffer.new };
+}
+
+/// Writes this to a buffer over the sink, which is handed on at the end. A write that fails ends the call; what
+/// the buffer still holds is then lost. It takes no memory.
+pub fn through_buffer<O: Sink, P: Puts<O>>(out: &mut O, what: P) -> Result<(), Failed>
+    requires { P.may_put what }
+    ensures { GoesThrough O.faults O.told O.aside (P.leaves what) out.old result out.new }
+{
+    replace_with(
+        out,
+        what,
+        |out, what|
+            requires { P.may_put what }
+        { put_over(out, what) },
+    )
+}
+
+fn put_over<O: Sink, P: Puts<O>>(out: O, what: P) -> (O, Result<(), Failed>)
+    requires { P.may_put what }
+    ensures { GoesThrough O.faults O.told O.aside (P.leaves what) out result.1 result.0 }
+{
+    let mut buffer = BufferedSink::new(out);
+    let result = match what.put(&mut buffer) {
+        Ok(()) => buffer.flush(),
+        Err(failed) => Err(failed),
+    };
+    (buffer.into_inner(), result)
+}
+
+// Pieces, one after another.
+struct Pieces<'a> {
+    pieces: &'a [&'a [u8]],
+}
+
+impl<O: Sink> Puts<O> for Pieces<'_> {
+    ghost leaves = { λ p old. Writes (λ b. O.faults b.below) (λ b. append_known (O.told b.below) b.held) (λ b. laid_over (O.told b.first) (O.aside b.below)) old (joined p.pieces.now) };
+
+    fn put(self, buffer: &mut BufferedSink<O>) -> Result<(), Failed> {
+        let Pieces { pieces } = self;
+        write_pieces(buffer, pieces)
+    }
+}
+
+/// Writes the pieces, one after another, through a buffer, which is handed on at the end. A write that
 /// fails ends the call. It takes no memory.
 pub fn write_buffered<O: Sink>(out: &mut O, pieces: &[&[u8]]) -> Result<(), Failed>
     ensures { Writes O.faults O.told O.aside out.old (joined pieces.now) result out.new }
 {
-    replace_with(out, pieces, |out, pieces| write_to(out, pieces))
-}
-
-fn write_to<O: Sink>(out: O, pieces: &[&[u8]]) -> (O, Result<(), Failed>)
-    ensures { Writes O.faults O.told O.aside out (joined pieces.now) result.1 result.0 }
-{
-    let mut buffer = BufferedSink::new(out);
-    let result = write_and_flush(&mut buffer, pieces);
-    (buffer.into_inner(), result)
-}
-
-fn write_and_flush<O: Sink>(buffer: &mut BufferedSink<O>, pieces: &[&[u8]]) -> Result<(), Failed>
-    ensures empty { OnOk result (buffer.new.held ≡ []) }
-    ensures writes { Writes (λ p. O.faults p.below) (λ p. append_known (O.told p.below) p.held) (λ p. laid_over (O.told p.first) (O.aside p.below))
-        buffer.old (joined pieces.now) result buffer.new }
-{
-    write_pieces(buffer, pieces)?;
-    buffer.flush()
+    through_buffer(out, Pieces { pieces })
 }

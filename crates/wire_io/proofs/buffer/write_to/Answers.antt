@@ -1,5 +1,0 @@
-use Rattle.wire_io.proofs.Buffered.{through}
-use Rattle.wire_io.proofs.buffer.write_to.Goals as goal
-
-pub returns : goal.returns
-returns g c = through g.O.Sink.faults g.O.Sink.told g.O.Sink.aside c.args.out c.into_inner.result _ _ _ _ c.new-buffer.ensures c.into_inner.ensures.below c.into_inner.ensures.extends c.write_and_flush-result.ensures.empty c.write_and_flush-result.ensures.writes
