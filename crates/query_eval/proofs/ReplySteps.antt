@@ -1,8 +1,7 @@
 -- A reply, from its first line to its last, and through a buffer.
 use Rattle.std.proofs.Common.{◌≡◌, ℕ, suc, ◌+◌, List, [], ◌∷◌, ◌++◌, length, Option, Result, Ok, Err, refl, sym, ap, ◌∙◌, subst, append-nil, arith}
 use mathlib.Core.Bool.{true, false≢true}
-use Rattle.std.specs.Prelude.{OnOk, sum_by}
-use Rattle.std.specs.Io.KnownBytes.{Appends, Keeps, append_known}
+use Rattle.std.specs.Prelude.{sum_by}
 use Rattle.std.specs.List.{concat}
 use Rattle.std.specs.Result.{is_err}
 use Rattle.std.proofs.lemmas.List.Sums.{sum_by-cons}
@@ -17,14 +16,13 @@ use Rattle.bmp_specs.specs.Values.{EntryValue}
 use Rattle.cut_publisher.specs.Cuts.{total}
 use Rattle.router_tables.specs.Tables.{TablesValue}
 use Rattle.wire_io.specs.declared.sink.Failed.{Failed}
-use Rattle.wire_io.specs.Aside.{Aside, laid_over}
-use Rattle.wire_io.specs.Buffer.{BufferValue, Extends}
+use Rattle.wire_io.specs.Aside.{Aside}
+use Rattle.wire_io.specs.Buffer.{GoesThrough}
 use Rattle.wire_io.specs.Faults.{HasCause}
 use Rattle.wire_io.specs.Writes.{Writes}
-use Rattle.wire_io.proofs.Buffered.{through}
-use Rattle.wire_io.proofs.Joins.{join, join_failed, keeps_appends, more}
+use Rattle.wire_io.proofs.Joins.{join, join_failed, more}
 use Rattle.query_eval.specs.Puts.{PutsLines}
-use Rattle.query_eval.specs.Replies.{PutsText, StandsForLane, StandForLanes, CountsAllRows, TellsByLane}
+use Rattle.query_eval.specs.Replies.{PutsBuffered, PutsText, StandsForLane, StandForLanes, CountsAllRows, TellsByLane}
 use Rattle.query_eval.proofs.Leading.{one_line, one_line_failed}
 
 -- the revision of a cut is the number of all entries
@@ -110,42 +108,16 @@ module _ {O : Type 0} {faults : O → ℕ} {told : O → Option (List ℕ)} {asi
       cause = subst (λ (before : ℕ). HasCause before (faults e) r) (p.cause.fine ∙ w.cause.fine) v.cause;
     }
 
--- what was written whole stays written, where nothing but what is held back was handed on
-module _ {O E : Type 0} {faults : O → ℕ} {told : O → Option (List ℕ)} {aside : O → Aside} (Of : E → Type 0) (IsText : E → List ℕ → Type 0) where
-  pub text_failed : (a b : O) (d : Failed) (r : Result (Unit {0}) Failed) → PutsText faults told aside Of IsText a (Err d) b → is_err r ≡ true → PutsText faults told aside Of IsText a r b
-  text_failed a b d (Ok u) p h = absurd (false≢true h)
-  text_failed a b d (Err d') p h = record {
-    puts = λ e text of is.
-        let w = p.puts e text of is in
-        more a b text [] text d (Err d') w refl (sym (append-nil text));
-    kept = p.kept;
-    cause = record { later = p.cause.later; failed = p.cause.failed; fine = tt };
-  }
-
-  pub text_flushed : (a b c : O) (r : Result (Unit {0}) Failed) → PutsText faults told aside Of IsText a (Ok tt) b → Keeps (told b) (told c) → aside c ≡ aside b → HasCause (faults b) (faults c) r → PutsText faults told aside Of IsText a r c
-  text_flushed a b c r p same kept cause = record {
-    puts = λ e text of is. join a b c text [] text tt r (p.puts e text of is) (record { whole = whole r; front = record { front = []; back = []; parts = refl; grown = grown }; kept = kept; cause = cause }) (sym (append-nil text));
-    kept = kept ∙ p.kept;
-    cause = subst (λ (before : ℕ). HasCause before (faults c) r) p.cause.fine cause;
-  }
-    where
-      grown : Appends (told b) (told c) []
-      grown = keeps_appends (told b) (told c) same
-
-      whole : (s : Result (Unit {0}) Failed) → OnOk s (Appends (told b) (told c) [])
-      whole (Ok u) = grown
-      whole (Err d) = tt
-
 -- what a sink holds beside, under a buffer that was laid over it
 abbrev under_of : List (Option (List ℕ)) → List (Option (List ℕ))
 under_of [] = []
 under_of (x ∷ xs) = xs
 
-module _ {O E : Type 0} (faults : O → ℕ) (told : O → Option (List ℕ)) (aside : O → Aside) (Of : E → Type 0) (IsText : E → List ℕ → Type 0) where
-  pub text_through : (out new : O) (p0 p1 : BufferValue O) (r : Result (Unit {0}) Failed) → p0 ≡ record { first = out; below = out; held = []; used = 0 } → new ≡ p1.below → Extends (told p1.first) (told new) → OnOk r (p1.held ≡ [])
-      → PutsText (λ (p : BufferValue O). faults p.below) (λ (p : BufferValue O). append_known (told p.below) p.held) (λ (p : BufferValue O). laid_over (told p.first) (aside p.below)) Of IsText p0 r p1 → PutsText faults told aside Of IsText out r new
-  text_through out new p0 p1 r e n x empty p = record {
-    puts = λ es text of is. through faults told aside out new p0 p1 text r e n x empty (p.puts es text of is);
-    kept = ap aside n ∙ ap (λ (c : Aside). record c { laid = under_of c.laid }) p.kept ∙ ap (λ (q : BufferValue O). aside q.below) e;
-    cause = rw n (subst (λ (q : BufferValue O). HasCause (faults q.below) (faults p1.below) r) e p.cause);
-  }
+-- a text that went through a buffer
+pub text_through : {O E : Type 0} (faults : O → ℕ) (told : O → Option (List ℕ)) (aside : O → Aside) (Of : E → Type 0) (IsText : E → List ℕ → Type 0) (old new : O) (r : Result (Unit {0}) Failed)
+    → GoesThrough faults told aside (PutsBuffered faults told aside Of IsText) old r new → PutsText faults told aside Of IsText old r new
+text_through faults told aside Of IsText old new r through = record {
+  puts = λ es text of is. through.written text (through.left.puts es text of is);
+  kept = through.kept ∙ ap (λ (c : Aside). record c { laid = under_of c.laid }) through.left.kept;
+  cause = through.cause through.left.cause;
+}

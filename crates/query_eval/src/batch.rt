@@ -1,4 +1,5 @@
-ghost use Rattle.std.specs.Prelude.{◌≡◌, ◌<◌, ◌≤◌, ◌++◌, length, take};
+ghost use Rattle.std.specs.Prelude.{◌≡◌, ◌<◌, ◌≤◌, ◌∷◌, ◌++◌, [], IfSome, IsNone, length, take};
+ghost use Rattle.route_runs.specs.Places.{shown};
 ghost use Rattle.query_eval.specs.Puts.{WritesLines};
 ghost use Rattle.query_eval.specs.RowRuns.{AreFound, front_of, shown_all};
 ghost use Rattle.query_eval.specs.Rows.{lines_by};
@@ -12,6 +13,22 @@ use wire_io::{Failed, Sink};
 
 /// How many routes are looked at before the line of the first is written, so that they are fetched from memory side by side.
 pub(crate) const AHEAD: usize = 16;
+
+/// The next pair of a walk, if it is in the run.
+pub(crate) fn next_in_run<'a, W: Pairs<'a>>(walk: &mut W, run: &Run) -> Option<(Nlri, &'a Route)>
+    ensures some { IfSome result (λ found. front_of run.now (W.left walk.old) ≡ shown found ∷ front_of run.now (W.left walk.new)) }
+    ensures none { IsNone result → front_of run.now (W.left walk.old) ≡ [] }
+    ensures fewer { IfSome result (λ _. length (W.left walk.new) < length (W.left walk.old)) }
+{
+    let Some(found) = walk.next_pair() else {
+        return None;
+    };
+    if run.holds(&found.0) {
+        Some(found)
+    } else {
+        None
+    }
+}
 
 /// Takes the next pairs of a walk, up to the first that isn't in the run, and answers how many: fewer than there are places
 /// where none is left.
@@ -28,12 +45,9 @@ pub(crate) fn gather<'a, W: Pairs<'a>>(
 {
     let mut count = 0;
     while count < AHEAD {
-        let Some(found) = walk.next_pair() else {
+        let Some(found) = next_in_run(walk, run) else {
             return count;
         };
-        if !run.holds(&found.0) {
-            return count;
-        }
         nlris[count] = found.0;
         routes[count] = found.1;
         count += 1;

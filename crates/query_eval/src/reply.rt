@@ -10,12 +10,11 @@ ghost use Rattle.query_eval.specs.Puts.{PutsLines};
 ghost use Rattle.query_eval.specs.Replies.{PutsBuffered, PutsText, PutsReply, StandForLanes, StandsForHistory, IsReplyOn, TellsByLane};
 
 use crate::lanes::{count_all, put_lanes};
-use core::mem::replace_with;
 use cut_publisher::Cut;
 use query_lang::{Query, Select};
 use reply_text::{put_at, put_count, put_end};
 use router_tables::RouterTables;
-use wire_io::{BufferedSink, Failed, Sink};
+use wire_io::{BufferedSink, Failed, Puts, Sink, through_buffer};
 
 // The selectors of a query that asks for the number of rows alone.
 fn counted(query: &Query) -> Option<Select>
@@ -62,27 +61,21 @@ fn put_reply<O: Sink>(out: &mut O, cut: &Cut<RouterTables>, query: &Query) -> Re
     put_end(out, rows)
 }
 
-// Writes a reply through a buffer, and hands on all that is held.
-fn put_all<O: Sink>(
-    buffer: &mut BufferedSink<O>,
-    cut: &Cut<RouterTables>,
-    query: &Query,
-) -> Result<(), Failed>
-    requires { query_value query.now ≢ quit }
-    ensures empty { OnOk result (buffer.new.held ≡ []) }
-    ensures puts { PutsBuffered O.faults O.told O.aside (StandForLanes cut.now) (IsReply (query_value query.now)) buffer.old result buffer.new }
-{
-    put_reply(buffer, cut, query)?;
-    buffer.flush()
+// The reply of a query on a cut.
+struct Reply<'a> {
+    cut: &'a Cut<RouterTables>,
+    query: &'a Query,
 }
 
-fn answer_to<O: Sink>(out: O, cut: &Cut<RouterTables>, query: &Query) -> (O, Result<(), Failed>)
-    requires { query_value query.now ≢ quit }
-    ensures { PutsText O.faults O.told O.aside (StandForLanes cut.now) (IsReply (query_value query.now)) out result.1 result.0 }
-{
-    let mut buffer = BufferedSink::new(out);
-    let result = put_all(&mut buffer, cut, query);
-    (buffer.into_inner(), result)
+impl<O: Sink> Puts<O> for Reply<'_> {
+    ghost may_put = { λ reply. query_value reply.query.now ≢ quit };
+
+    ghost leaves = { λ reply. PutsBuffered O.faults O.told O.aside (StandForLanes reply.cut.now) (IsReply (query_value reply.query.now)) };
+
+    fn put(self, buffer: &mut BufferedSink<O>) -> Result<(), Failed> {
+        let Reply { cut, query } = self;
+        put_reply(buffer, cut, query)
+    }
 }
 
 // Writes a reply through a buffer of its own.
@@ -90,13 +83,7 @@ fn put_buffered<O: Sink>(out: &mut O, cut: &Cut<RouterTables>, query: &Query) ->
     requires { query_value query.now ≢ quit }
     ensures { PutsText O.faults O.told O.aside (StandForLanes cut.now) (IsReply (query_value query.now)) out.old result out.new }
 {
-    replace_with(
-        out,
-        (cut, query),
-        |out, (cut, query)|
-            requires { query_value query.now ≢ quit }
-        { answer_to(out, cut, query) },
-    )
+    through_buffer(out, Reply { cut, query })
 }
 
 /// Writes the reply of a query: the revision of the cut, the lines of the rows that are asked for, lane

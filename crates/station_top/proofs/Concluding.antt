@@ -1,7 +1,6 @@
 -- What a command comes to, from what its steps say.
-use Rattle.std.proofs.Common.{◌≡◌, Bool, ℕ, ◌^◌, ◌<◌, ◌≤◌, List, [], ◌∷◌, ◌++◌, length, Option, Some, None, Result, Ok, Err, refl, sym, ap, ◌∙◌, subst, inl, inr, arith, append-nil}
+use Rattle.std.proofs.Common.{◌≡◌, Bool, ℕ, ◌^◌, ◌<◌, ◌≤◌, List, [], ◌∷◌, ◌++◌, length, Option, Some, None, Result, Ok, Err, refl, sym, ap, ◌∙◌, subst, inl, inr, arith}
 use Rattle.std.specs.Prelude.{OnOk, OnErr, sum_by}
-use Rattle.std.specs.Io.KnownBytes.{Appends, Keeps}
 use Rattle.std.proofs.lemmas.List.Sums.{sum_by-cons}
 use Rattle.bmp_specs.specs.declared.causes.Cause.{Cause}
 use Rattle.bmp_specs.specs.declared.causes.Cause.TheVariants as cause
@@ -16,7 +15,7 @@ use Rattle.wire_io.specs.declared.sink.Failed.{Failed}
 use Rattle.wire_io.specs.Aside.{Aside, Plan}
 use Rattle.wire_io.specs.Faults.{HasCause}
 use Rattle.wire_io.specs.Writes.{Writes}
-use Rattle.wire_io.proofs.Joins.{join, appends_none, keeps_appends}
+use Rattle.wire_io.proofs.Joins.{appends_none}
 use Rattle.bmp_message.specs.Effects.{GivesMessages}
 use Rattle.station_doors.specs.Doors.{YardValue, HandsOut, TakesBack, one_more, untouched}
 use Rattle.query_eval.specs.Replies.{PutsReply}
@@ -89,17 +88,6 @@ module _ {O : Type 0} {faults : O → ℕ} {told : O → Option (List ℕ)} {asi
   pub is_written : (a b : O) (text : List ℕ) (r : Result (Unit {0}) Failed) (meant status : Status) → Writes faults told aside a text r b → OnOk r (status ≡ meant) → OnErr r (status ≡ WriteFault) → IsWritten (told a) (told b) text meant status
   is_written a b text (Ok u) meant status w fine fault = inl (fine, w.whole)
   is_written a b text (Err e) meant status w fine fault = inr (fault, w.front)
-
-  -- what was written whole stays written, where nothing but what is held back was handed on
-  pub flushed : (a b c : O) (text : List ℕ) (u : Unit {0}) (r : Result (Unit {0}) Failed) → Writes faults told aside a text (Ok u) b → Keeps (told b) (told c) → aside c ≡ aside b → HasCause (faults b) (faults c) r → Writes faults told aside a text r c
-  flushed a b c text u r w same kept cause = join a b c text [] text u r w (record { whole = whole r; front = record { front = []; back = []; parts = refl; grown = grown }; kept = kept; cause = cause }) (sym (append-nil text))
-    where
-      grown : Appends (told b) (told c) []
-      grown = keeps_appends (told b) (told c) same
-
-      whole : (r : Result (Unit {0}) Failed) → OnOk r (Appends (told b) (told c) [])
-      whole (Ok v) = grown
-      whole (Err d) = tt
 
   -- a reply and the line of the cause were written
   pub stopped : (a b : O) (IsReply : List ℕ → Type 0) (cause : Cause) (reply : List ℕ) → IsReply reply → {r : Result (Unit {0}) Failed} → Writes faults told aside a (reply ++ stop_line cause) r b → PutsReply faults told aside (IsStopped IsReply cause) a r b

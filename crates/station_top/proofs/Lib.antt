@@ -7,6 +7,7 @@ pub mod Below
 pub mod CheckCounts
 pub mod Replaying
 pub mod Concluding
+pub mod Through
 pub mod Joining
 pub mod Commands
 pub mod Settings

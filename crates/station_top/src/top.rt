@@ -33,7 +33,6 @@ use crate::take::{Taken, take_input};
 use crate::words::{Call, Command, WordsFault, file_word, read_words};
 use bmp_message::{BodyReading, LenientReading, Reading};
 use bmp_specs::Cause;
-use core::mem::replace_with;
 use query_lang::Query;
 use relay_out::{EmitFault, emit};
 use reply_text::put_stop;
@@ -43,7 +42,7 @@ use std::alloc::Global;
 use std::mem;
 use std::sync::Wait;
 use std::thread::Threads;
-use wire_io::{BufferedSink, Failed, Sink, write_all};
+use wire_io::{BufferedSink, Failed, Puts, Sink, through_buffer, write_all};
 
 // The line that is written where the words are no command.
 const USAGE: &str =
@@ -72,38 +71,28 @@ fn take_from<Y: Yard, A: Account + Drop, R: BodyReading + Drop>(
     }
 }
 
-// Writes the reply and then the stop line through a buffer, and hands on all that is held.
-fn put_all<T: Replies, O: Sink>(
-    buffer: &mut BufferedSink<O>,
-    told: &T,
-    ask: &T::Ask,
+// The reply that is asked for, and then the line of the cause that the input stopped for.
+struct Stopped<'a, T: Replies> {
+    told: &'a T,
+    ask: &'a T::Ask,
     cause: Cause,
-) -> Result<(), Failed>
-    requires { T.may_ask ask.now }
-    ensures empty { OnOk result (buffer.new.held ≡ []) }
-    ensures writes { (entries : List EntryValue) → T.tells told.now entries
+}
+
+impl<O: Sink, T: Replies> Puts<O> for Stopped<'_, T> {
+    ghost may_put = { λ s. T.may_ask s.ask.now };
+
+    ghost leaves = { λ s old result new. (entries : List EntryValue) → T.tells s.told.now entries
         → PutsReply (λ p. O.faults p.below) (λ p. append_known (O.told p.below) p.held) (λ p. laid_over (O.told p.first) (O.aside p.below))
-        (IsStopped (T.replies ask.now entries) cause) buffer.old result buffer.new }
-{
-    told.put_reply(buffer, ask)?;
-    put_stop(buffer, &cause)?;
-    buffer.flush()
+        (IsStopped (T.replies s.ask.now entries) s.cause) old result new };
+
+    fn put(self, buffer: &mut BufferedSink<O>) -> Result<(), Failed> {
+        let Stopped { told, ask, cause } = self;
+        told.put_reply(buffer, ask)?;
+        put_stop(buffer, &cause)
+    }
 }
 
-fn write_to<T: Replies, O: Sink>(
-    out: O,
-    told: &T,
-    ask: &T::Ask,
-    cause: Cause,
-) -> (O, Result<(), Failed>)
-    requires { T.may_ask ask.now }
-    ensures { (entries : List EntryValue) → T.tells told.now entries → PutsReply O.faults O.told O.aside (IsStopped (T.replies ask.now entries) cause) out result.1 result.0 }
-{
-    let mut buffer = BufferedSink::new(out);
-    let result = put_all(&mut buffer, told, ask, cause);
-    (buffer.into_inner(), result)
-}
-
+// Writes the reply and then the stop line through a buffer.
 pub(crate) fn write_reply<T: Replies, O: Sink>(
     out: &mut O,
     told: &T,
@@ -113,9 +102,7 @@ pub(crate) fn write_reply<T: Replies, O: Sink>(
     requires { T.may_ask ask.now }
     ensures { (entries : List EntryValue) → T.tells told.now entries → PutsReply O.faults O.told O.aside (IsStopped (T.replies ask.now entries) cause) out.old result out.new }
 {
-    replace_with(out, (told, ask, cause), |out, (told, ask, cause)| {
-        write_to(out, told, ask, cause)
-    })
+    through_buffer(out, Stopped { told, ask, cause })
 }
 
 // The status of a stream that stopped for this cause.

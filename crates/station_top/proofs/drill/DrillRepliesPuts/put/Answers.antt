@@ -1,5 +1,5 @@
 use Rattle.station_top.proofs.Drilling.{cut_failed, routers_failed, all_replied}
-use Rattle.station_top.proofs.drill.put_replies.Goals as goal
+use Rattle.station_top.proofs.drill.DrillRepliesPuts.put.Goals as goal
 
 pub returns-in_err-answer : goal.returns-in_err-answer
 returns-in_err-answer g c history stands = cut_failed _ history stands _ _ _ _ (c.in_err-answer.ensures.reply history stands) c.from_residual.ensures.0
