@@ -1,7 +1,7 @@
 -- Which words are a query behind `replay`, a file and a prefix behind `rov`, a file behind `archive` or a file and a query behind
 -- `recall`, and which are no command.
 use Rattle.std.proofs.Common.{◌≡◌, ◌≢◌, ℕ, ◌+◌, ◌-◌, ◌<◌, ◌≤◌, Bool, true, false, List, [], ◌∷◌, length, map, get_or, take, drop, codes, Option, Some, None, IfSome, IfNone, Result, Ok, Err, IfOk, refl, sym, ap, ◌∙◌, subst, arith, inl, inr}
-use Rattle.std.specs.Prelude.{◌⊎◌}
+use Rattle.std.specs.Prelude.{IsTrue, ◌⊎◌}
 use Rattle.std.specs.List.{join_with_byte}
 use Rattle.std.proofs.lemmas.List.{length-map, take_rest}
 use Rattle.bmp_specs.specs.PrefixText.{IsPrefixText}
@@ -210,6 +210,9 @@ has_mark Archive lenient first given is = marked first (codes "archive") 196 is.
 has_mark (Recall query) lenient first given is = marked first (codes "recall") 213 is.0 refl
 has_mark Help lenient first given is = help_mark first is.0
 has_mark Version lenient first given is = version_mark first is.0
+
+pub untrue : (b : Bool) → b ≡ false → IsTrue b → ⊥
+untrue b is t = cc (t, is)
 
 module _ (first : List ℕ) (given : List (List ℕ)) where
   pub no_replay : first ≡ codes "replay" → ((query : QueryValue) (lenient : Bool) → IsReplay query lenient given → ⊥) → (command : Command) (lenient : Bool) → IsCommand command lenient first given → ⊥

@@ -1,7 +1,8 @@
 -- The settings of `serve` as `clap` has them.
 use Rattle.std.specs.Prelude.{◌≡◌, ℕ, Bool, true, false, List, [], ◌∷◌, ◌++◌, Option, Some, None, codes, map}
+use Rattle.std.specs.Borrow.{Bor}
 use Rattle.std.specs.Str.{bytes_eq}
-use Rattle.clap.specs.Words.{App, Rule, first_value, found_of, new_app, new_rule}
+use Rattle.clap.specs.Words.{App, Rule, first_value, found_of, new_app, new_rule, with_rule}
 use Rattle.clap.specs.declared.parser.matches.ArgMatches.{ArgMatches}
 use Rattle.clap.specs.declared.builder.action.ArgAction.TheVariants.{Set}
 use Rattle.station_top.specs.ServeWords.{Setting, AreSettings, values_of}
@@ -24,6 +25,15 @@ option_names = (codes "feeds", true) ∷ (codes "askers", true) ∷ (codes "feed
 -- the flag, which has no value; where it stands the empty one is found
 abbrev pub flag_rule : Rule
 flag_rule = record (new_rule (codes "lenient")) { long = Some (codes "lenient"); action = Some Set; range = Some (record { start_inclusive = 0; end_inclusive = 0 }); missing = [] ∷ [] }
+
+-- a command with these rules more
+abbrev pub with_rules : App → List Rule → App
+with_rules app [] = app
+with_rules app (rule ∷ rules) = with_rules (with_rule app rule) rules
+
+-- the options with these names, and whether each must be given
+abbrev pub options_of : List (Bor (List ℕ) × Bool) → List Rule
+options_of names = map (λ named. option_rule (named.0.now, named.1)) names
 
 -- the command `serve`
 abbrev pub serve_app : App

@@ -7,7 +7,7 @@ ghost use Rattle.bmp_specs.specs.AddressText.{IsAddressText};
 ghost use Rattle.bmp_specs.specs.NumberText.{IsNumberText};
 ghost use Rattle.bmp_specs.specs.Values.{AddressValue};
 ghost use Rattle.clap.specs.Words.{app_of, rule_of};
-ghost use Rattle.station_top.specs.ServeOptions.{AreMatches, dashed, flag_rule, is_dashes, option_rule, serve_app};
+ghost use Rattle.station_top.specs.ServeOptions.{AreMatches, dashed, flag_rule, is_dashes, option_rule, options_of, serve_app, with_rules};
 ghost use Rattle.station_top.specs.ServeWords.{Gives, Has, IsPorts, IsRounds, IsSeconds, IsServe, MayGive, MayServe, flag, loopback, ports_for};
 ghost use Rattle.station_top.specs.declared.serve_words.ServeWords.{ServeWords as AnyServe};
 
@@ -29,38 +29,48 @@ pub struct ServeWords {
     pub rounds: u32,
 }
 
+// An option with a value, as `--name value` or `--name=value`, and whether it must be given.
+fn option<'a>(alloc: Global, name: &'a str, required: bool) -> Arg<'a>
+    ensures rule { rule_of result ≡ option_rule (name.entry.now, required) }
+    ensures local { result.global ≡ false }
+{
+    Arg::new(alloc, name).long(name).required(required)
+}
+
+// The command with these options.
+fn with_options<'a>(
+    alloc: Global,
+    command: Command<'a>,
+    names: &[(&'a str, bool)],
+) -> Result<Command<'a>, AllocError>
+    ensures { IfOk result (λ with. app_of with ≡ with_rules (app_of command.entry) (options_of names.entry.now)) }
+{
+    let mut command = command;
+    for (name, required) in names {
+        command = command.arg(option(alloc, *name, *required))?;
+    }
+    Ok(command)
+}
+
 // The command `serve`, whose words have no name of a program in front.
 fn serve_command<'a>(alloc: Global) -> Result<Command<'a>, AllocError>
     ensures { IfOk result (λ command. app_of command ≡ serve_app) }
 {
-    Command::new(alloc, "serve")
+    let command = Command::new(alloc, "serve")
         .no_binary_name(true)
-        .disable_help_flag(true)
-        .arg(required(alloc, "feeds"))?
-        .arg(required(alloc, "askers"))?
-        .arg(required(alloc, "feed-port"))?
-        .arg(required(alloc, "ask-port"))?
-        .arg(required(alloc, "rounds"))?
-        .arg(optional(alloc, "address"))?
-        .arg(optional(alloc, "ports"))?
-        .arg(optional(alloc, "idle"))?
-        .arg(optional(alloc, "ask-idle"))?
-        .arg(lenient(alloc))
-}
-
-// An option with a value, as `--name value` or `--name=value`.
-fn optional<'a>(alloc: Global, name: &'a str) -> Arg<'a>
-    ensures rule { rule_of result ≡ option_rule (name.entry.now, false) }
-    ensures local { result.global ≡ false }
-{
-    Arg::new(alloc, name).long(name)
-}
-
-fn required<'a>(alloc: Global, name: &'a str) -> Arg<'a>
-    ensures rule { rule_of result ≡ option_rule (name.entry.now, true) }
-    ensures local { result.global ≡ false }
-{
-    Arg::new(alloc, name).long(name).required(true)
+        .disable_help_flag(true);
+    let options = [
+        ("feeds", true),
+        ("askers", true),
+        ("feed-port", true),
+        ("ask-port", true),
+        ("rounds", true),
+        ("address", false),
+        ("ports", false),
+        ("idle", false),
+        ("ask-idle", false),
+    ];
+    with_options(alloc, command, &options)?.arg(lenient(alloc))
 }
 
 // The flag `--lenient`. It takes no value; where it stands, the empty one is found.

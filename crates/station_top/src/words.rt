@@ -73,58 +73,11 @@ pub enum WordsFault {
     NoMemory,
 }
 
-fn is_replay(word: &str) -> bool
-    ensures { IsTrue result ↔ (word.now ≡ codes "replay") }
+// Whether the word is this one.
+fn is_word(word: &str, name: &str) -> bool
+    ensures { IsTrue result ↔ (word.now ≡ name.now) }
 {
-    word == "replay"
-}
-
-fn is_check(word: &str) -> bool
-    ensures { IsTrue result ↔ (word.now ≡ codes "check") }
-{
-    word == "check"
-}
-
-fn is_serve(word: &str) -> bool
-    ensures { IsTrue result ↔ (word.now ≡ codes "serve") }
-{
-    word == "serve"
-}
-
-fn is_drill(word: &str) -> bool
-    ensures { IsTrue result ↔ (word.now ≡ codes "drill") }
-{
-    word == "drill"
-}
-
-fn is_relay(word: &str) -> bool
-    ensures { IsTrue result ↔ (word.now ≡ codes "relay") }
-{
-    word == "relay"
-}
-
-fn is_rov(word: &str) -> bool
-    ensures { IsTrue result ↔ (word.now ≡ codes "rov") }
-{
-    word == "rov"
-}
-
-fn is_archive(word: &str) -> bool
-    ensures { IsTrue result ↔ (word.now ≡ codes "archive") }
-{
-    word == "archive"
-}
-
-fn is_recall(word: &str) -> bool
-    ensures { IsTrue result ↔ (word.now ≡ codes "recall") }
-{
-    word == "recall"
-}
-
-fn is_lenient(word: &str) -> bool
-    ensures { IsTrue result ↔ (word.now ≡ codes "--lenient") }
-{
-    word == "--lenient"
+    word == name
 }
 
 // The query, where it has a reply.
@@ -166,13 +119,13 @@ fn read_asked(alloc: Global, words: &[String]) -> Result<Query, WordsFault>
 fn is_help(word: &str) -> bool
     ensures { IsTrue result ↔ ((word.now ≡ codes "--help") ⊎ (word.now ≡ codes "-h")) }
 {
-    word == "--help" || word == "-h"
+    is_word(word, "--help") || is_word(word, "-h")
 }
 
 fn is_version(word: &str) -> bool
     ensures { IsTrue result ↔ ((word.now ≡ codes "--version") ⊎ (word.now ≡ codes "-V")) }
 {
-    word == "--version" || word == "-V"
+    is_word(word, "--version") || is_word(word, "-V")
 }
 
 // Whether `--lenient` stands in front of the words, and the words without it.
@@ -180,7 +133,7 @@ fn split_lenient(given: &[String]) -> (bool, &[String])
     ensures { IsPlain result.0 (map string_bytes given.now) (map string_bytes result.1.now) }
 {
     match given {
-        [word, plain @ ..] if is_lenient(word.as_str()) => (true, plain),
+        [word, plain @ ..] if is_word(word.as_str(), "--lenient") => (true, plain),
         _ => (false, given),
     }
 }
@@ -283,7 +236,7 @@ fn read_call(alloc: Global, first: &str, given: &[String]) -> Result<Call, Words
     ensures usage { result ≡ Err WordsFault.Usage → (command : AnyCommand) (lenient : Bool) → IsCommand command lenient first.now (map string_bytes given.now) → ⊥ }
     ensures memory { result ≡ Err WordsFault.NoMemory → TakesMemory first.now }
 {
-    if is_replay(first) {
+    if is_word(first, "replay") {
         return match read_replay(alloc, given) {
             Ok((query, lenient)) => Ok(Call {
                 command: Command::Replay(query),
@@ -292,7 +245,7 @@ fn read_call(alloc: Global, first: &str, given: &[String]) -> Result<Call, Words
             Err(fault) => Err(fault),
         };
     }
-    if is_serve(first) {
+    if is_word(first, "serve") {
         return match read_serve(alloc, given) {
             Ok((serve, lenient)) => Ok(Call {
                 command: Command::Serve(serve),
@@ -301,7 +254,7 @@ fn read_call(alloc: Global, first: &str, given: &[String]) -> Result<Call, Words
             Err(fault) => Err(fault),
         };
     }
-    if is_check(first) {
+    if is_word(first, "check") {
         return match read_plain(given) {
             Some(lenient) => Ok(Call {
                 command: Command::Check,
@@ -310,7 +263,7 @@ fn read_call(alloc: Global, first: &str, given: &[String]) -> Result<Call, Words
             None => Err(WordsFault::Usage),
         };
     }
-    if is_relay(first) {
+    if is_word(first, "relay") {
         return match read_plain(given) {
             Some(lenient) => Ok(Call {
                 command: Command::Relay,
@@ -319,7 +272,7 @@ fn read_call(alloc: Global, first: &str, given: &[String]) -> Result<Call, Words
             None => Err(WordsFault::Usage),
         };
     }
-    if is_rov(first) {
+    if is_word(first, "rov") {
         return match read_rov(given) {
             Some((prefix, lenient)) => Ok(Call {
                 command: Command::Rov(prefix),
@@ -328,7 +281,7 @@ fn read_call(alloc: Global, first: &str, given: &[String]) -> Result<Call, Words
             None => Err(WordsFault::Usage),
         };
     }
-    if is_archive(first) {
+    if is_word(first, "archive") {
         return match read_archive(given) {
             Some(lenient) => Ok(Call {
                 command: Command::Archive,
@@ -337,7 +290,7 @@ fn read_call(alloc: Global, first: &str, given: &[String]) -> Result<Call, Words
             None => Err(WordsFault::Usage),
         };
     }
-    if is_recall(first) {
+    if is_word(first, "recall") {
         return match read_recall(alloc, given) {
             Ok((query, lenient)) => Ok(Call {
                 command: Command::Recall(query),
@@ -346,7 +299,7 @@ fn read_call(alloc: Global, first: &str, given: &[String]) -> Result<Call, Words
             Err(fault) => Err(fault),
         };
     }
-    if is_drill(first) {
+    if is_word(first, "drill") {
         return match read_drill(given) {
             Some(drill) => Ok(Call {
                 command: Command::Drill(drill),
