@@ -18,8 +18,13 @@ use Rattle.path_attrs.specs.AsInfo.{StatesAs}
 use Rattle.path_attrs.specs.Field.{value_at}
 use Rattle.path_attrs.specs.Judged.{FitsType, IsJudged, mp_value}
 use Rattle.path_attrs.specs.Kept.{kept_of}
+use Rattle.path_attrs.specs.Valued.{HaveValues}
 use Rattle.path_attrs.specs.declared.judge.Judged.{Judged}
 use Rattle.path_attrs.proofs.Judging.{fits_at, same_value}
+
+-- an AGGREGATOR of its form has an AS number and an address
+pub aggregator_long : (width : Width) (value : Option (List ℕ)) → IfSome value (λ bytes. FitsType width aggregator bytes) → IfSome value (λ bytes. length bytes ≡ as_width width + 4)
+aggregator_long width value fits = IfSome_then value fits (λ bytes q. q.1.len)
 
 module _ (width : Width) (field : List ℕ) (judged : Judged) (j : IsJudged width field judged) (values : List (Option (Bor (List ℕ))))
     (gathered : (parts : List OtherValue) → AreParts IsAttribute field parts → IsDistinct (λ j k. j == k) (map (λ a. a.code) parts) → (code : ℕ) → code ≤ as4_aggregator → value_at values code ≡ value_of code parts) where
@@ -30,27 +35,23 @@ module _ (width : Width) (field : List ℕ) (judged : Judged) (j : IsJudged widt
   pub form_found : (code : ℕ) → code ≤ as4_aggregator → IfSome (value_at values code) (λ value. FitsType width code value)
   form_found code le = subst (λ (o : Option (List ℕ)). IfSome o (λ value. FitsType width code value)) (sym (at code le)) (fits_at width code j.forms.parts j.forms.forms)
 
-  pub aggregator_long : IfSome (value_at values aggregator) (λ value. length value ≡ as_width width + 4)
-  aggregator_long = IfSome_then (value_at values aggregator) (form_found aggregator (omega arith)) (λ value q. q.1.len)
-
-  -- they are the attributes of the field, where each is made of the value at its type
-  pub made_are : (read : AttrsReadValue) → Optional (IsNumber 1) (value_at values origin) read.attrs.origin → Optional (IsField 4) (value_at values next_hop) read.attrs.hop
-      → Optional (IsNumber 4) (value_at values multi_exit_disc) read.attrs.med → Optional (IsNumber 4) (value_at values local_pref) read.attrs.pref → IsAtomic (value_at values atomic_aggregate) read.attrs.atomic
-      → AreCommunities (value_at values communities) read.attrs.communities → StatesAs width (value_at values) read.attrs.aggregator read.attrs.path
-      → ((parts : List OtherValue) → AreParts IsAttribute field parts → read.attrs.others ≡ kept_of parts)
+  -- attributes that have these values are those of the field
+  pub made_are : (read : AttrsReadValue) (others : List OtherValue) → HaveValues width (value_at values) others read.attrs
+      → ((parts : List OtherValue) → AreParts IsAttribute field parts → others ≡ kept_of parts)
       → read.reach ≡ option_map mp_value judged.reach → read.unreach ≡ option_map mp_value judged.unreach → read.count ≡ judged.count → AreAttributes width field read
-  made_are read is_origin is_hop is_med is_pref is_atomic are_communities s others reach unreach count =
+  made_are read others v kept reach unreach count =
+      let s = v.as_is in
       let h = j.forms in
       record {
         parts = h.parts;
         are = h.are;
         distinct = h.distinct;
-        origin_is = subst (λ (o : Option (List ℕ)). Optional (IsNumber 1) o read.attrs.origin) (at origin (omega arith)) is_origin;
-        hop_is = subst (λ (o : Option (List ℕ)). Optional (IsField 4) o read.attrs.hop) (at next_hop (omega arith)) is_hop;
-        med_is = subst (λ (o : Option (List ℕ)). Optional (IsNumber 4) o read.attrs.med) (at multi_exit_disc (omega arith)) is_med;
-        pref_is = subst (λ (o : Option (List ℕ)). Optional (IsNumber 4) o read.attrs.pref) (at local_pref (omega arith)) is_pref;
-        atomic_is = subst (λ (o : Option (List ℕ)). IsAtomic o read.attrs.atomic) (at atomic_aggregate (omega arith)) is_atomic;
-        communities_are = subst (λ (o : Option (List ℕ)). AreCommunities o read.attrs.communities) (at communities (omega arith)) are_communities;
+        origin_is = subst (λ (o : Option (List ℕ)). Optional (IsNumber 1) o read.attrs.origin) (at origin (omega arith)) v.origin_is;
+        hop_is = subst (λ (o : Option (List ℕ)). Optional (IsField 4) o read.attrs.hop) (at next_hop (omega arith)) v.hop_is;
+        med_is = subst (λ (o : Option (List ℕ)). Optional (IsNumber 4) o read.attrs.med) (at multi_exit_disc (omega arith)) v.med_is;
+        pref_is = subst (λ (o : Option (List ℕ)). Optional (IsNumber 4) o read.attrs.pref) (at local_pref (omega arith)) v.pref_is;
+        atomic_is = subst (λ (o : Option (List ℕ)). IsAtomic o read.attrs.atomic) (at atomic_aggregate (omega arith)) v.atomic_is;
+        communities_are = subst (λ (o : Option (List ℕ)). AreCommunities o read.attrs.communities) (at communities (omega arith)) v.communities_are;
         reach_is =
             subst (λ (m : Option MpValue). Optional IsMpReach (value_of mp_reach_nlri h.parts) m) (j.reach_is ∙ sym reach)
             (subst (λ (o : Option (List ℕ)). Optional IsMpReach o j.read.reach) (same_value width field judged.count h j.read j.are mp_reach_nlri) j.are.reach_is);
@@ -63,6 +64,6 @@ module _ (width : Width) (field : List ℕ) (judged : Judged) (j : IsJudged widt
         as4_path_is = s.as4_path_is ∙ at as4_path (omega arith);
         as4_aggregator_is = s.as4_aggregator_is ∙ at as4_aggregator (omega arith);
         chosen = s.chosen;
-        others_are = others h.parts h.are;
+        others_are = v.others_are ∙ kept h.parts h.are;
         count_is = count ∙ h.count_is;
       }

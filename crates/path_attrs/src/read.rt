@@ -1,14 +1,19 @@
-ghost use Rattle.std.specs.Prelude.{IfOk, IsErrOf};
-ghost use Rattle.bmp_specs.specs.Attributes.{AreAttributes};
+ghost use Rattle.std.specs.Prelude.{◌≤◌, ℕ, IfSome, IfOk, IsErrOf};
+ghost use Rattle.bmp_specs.specs.Attributes.{AreAttributes, as4_aggregator};
 ghost use Rattle.bmp_specs.specs.Values.{AttrsReadValue};
-ghost use Rattle.path_attrs.specs.Judged.{IsJudged};
+ghost use Rattle.path_attrs.specs.Field.{value_at};
+ghost use Rattle.path_attrs.specs.Judged.{FitsType, IsJudged};
+ghost use Rattle.path_attrs.specs.Valued.{HaveValues};
 
 use crate::as_info::make_as_info;
 use crate::attrs::Attrs;
-use crate::codes::{ATOMIC_AGGREGATE, COMMUNITIES, LOCAL_PREF, MULTI_EXIT_DISC, NEXT_HOP, ORIGIN};
+use crate::codes::{
+    ATOMIC_AGGREGATE, COMMUNITIES, LOCAL_PREF, MULTI_EXIT_DISC, NEXT_HOP, ORIGIN, PLACES,
+};
 use crate::judge::{Judged, judge_attrs};
 use crate::keep::{Gathered, gather};
 use crate::mp::{MpPart, make_part};
+use crate::others::OtherList;
 use crate::values::{is_there, make_communities, make_hop, number, octet};
 use as_path::Width;
 use std::alloc::Global;
@@ -39,6 +44,32 @@ impl Model for AttrsRead {
     ghost view = { λ r. record { attrs = r.attrs; reach = r.reach; unreach = r.unreach; count = r.count } };
 }
 
+// The attributes of the routes, of the values at their types and the attributes of all other types.
+fn make_own(
+    alloc: Global,
+    values: &[Option<&[u8]>; PLACES],
+    width: Width,
+    others: OtherList,
+) -> Result<Attrs, NoMemory>
+    requires { (code : ℕ) → code ≤ as4_aggregator → IfSome (value_at values.now code) (λ value. FitsType width code value) }
+    ensures { IfOk result (HaveValues width (value_at values.now) others) }
+{
+    let hop = make_hop(alloc, values[NEXT_HOP as usize])?;
+    let communities = make_communities(alloc, values[COMMUNITIES as usize])?;
+    let info = make_as_info(alloc, values, width)?;
+    Ok(Attrs {
+        origin: octet(values[ORIGIN as usize]),
+        path: info.path,
+        hop,
+        med: number(values[MULTI_EXIT_DISC as usize]),
+        pref: number(values[LOCAL_PREF as usize]),
+        atomic: is_there(values[ATOMIC_AGGREGATE as usize]),
+        aggregator: info.aggregator,
+        communities,
+        others,
+    })
+}
+
 /// Makes the attributes of a field that was judged. It tests nothing again, and reads each header once more
 /// to find the values. Time and memory are linear in the field.
 pub fn make_attrs(
@@ -51,22 +82,9 @@ pub fn make_attrs(
     ensures { IfOk result (AreAttributes width field.now) }
 {
     let Gathered { values, others } = gather(alloc, field)?;
-    let hop = make_hop(alloc, values[NEXT_HOP as usize])?;
-    let communities = make_communities(alloc, values[COMMUNITIES as usize])?;
-    let info = make_as_info(alloc, &values, width)?;
+    let attrs = make_own(alloc, &values, width, others)?;
     let reach = make_part(alloc, &judged.reach)?;
     let unreach = make_part(alloc, &judged.unreach)?;
-    let attrs = Attrs {
-        origin: octet(values[ORIGIN as usize]),
-        path: info.path,
-        hop,
-        med: number(values[MULTI_EXIT_DISC as usize]),
-        pref: number(values[LOCAL_PREF as usize]),
-        atomic: is_there(values[ATOMIC_AGGREGATE as usize]),
-        aggregator: info.aggregator,
-        communities,
-        others,
-    };
     Ok(AttrsRead {
         attrs,
         reach,
