@@ -39,18 +39,18 @@ placed_in ids m part family identified prefixes here is used bytes ns p =
     subst (λ (b : Bool). AreNlri family b prefixes ns) (sym used) (subst (λ (l : List ℕ). AreNlri family (uses_ids ids family) l ns) (sym bytes) moved)
 
 -- a list that the prefixes at all places were added to, one place after another
-pub contained_are : (ids : IdUse) (f : FramedValue) (first second third fourth last : List NlriValue) → first ≡ [] → ((ns : List NlriValue) → AreNlri V4 (uses_ids ids V4) f.withdrawn_routes ns → second ≡ first ++ ns)
+pub contained_are : (ids : IdUse) (f : FramedValue) (first second third fourth last : List NlriValue) → ((ns : List NlriValue) → AreNlri V4 (uses_ids ids V4) f.withdrawn_routes ns → second ≡ first ++ ns)
     → ((ns : List NlriValue) → ArePlaced ids (place_in f.unreach) ns → third ≡ second ++ ns) → ((ns : List NlriValue) → AreNlri V4 (uses_ids ids V4) f.nlri ns → fourth ≡ third ++ ns)
-    → ((ns : List NlriValue) → ArePlaced ids (place_in f.reach) ns → last ≡ fourth ++ ns) → (ns : List NlriValue) → ArePlaced ids (places f) ns → last ≡ ns
-contained_are ids f first second third fourth last none a b c d ns (gone, later, gone_are, others, e) =
+    → ((ns : List NlriValue) → ArePlaced ids (place_in f.reach) ns → last ≡ fourth ++ ns) → (ns : List NlriValue) → ArePlaced ids (places f) ns → last ≡ first ++ ns
+contained_are ids f first second third fourth last a b c d ns (gone, later, gone_are, others, e) =
     let q = placed_split ids (place_in f.unreach) (record { family = V4; prefixes = f.nlri } ∷ place_in f.reach) later others in
     let lost = q.0 in
     let rest = q.3 in
     let plain = rest.0 in
     let multi = rest.1 in
-    let one : second ≡ gone = a gone gone_are ∙ ap (λ (l : List NlriValue). l ++ gone) none in
-    let two : third ≡ gone ++ lost = b lost q.2 ∙ ap (λ (l : List NlriValue). l ++ lost) one in
-    let three : fourth ≡ (gone ++ lost) ++ plain = c plain rest.2 ∙ ap (λ (l : List NlriValue). l ++ plain) two in
-    let four : last ≡ ((gone ++ lost) ++ plain) ++ multi = d multi rest.3 ∙ ap (λ (l : List NlriValue). l ++ multi) three in
+    let one : second ≡ first ++ gone = a gone gone_are in
+    let two : third ≡ (first ++ gone) ++ lost = b lost q.2 ∙ ap (λ (l : List NlriValue). l ++ lost) one in
+    let three : fourth ≡ ((first ++ gone) ++ lost) ++ plain = c plain rest.2 ∙ ap (λ (l : List NlriValue). l ++ plain) two in
+    let four : last ≡ (((first ++ gone) ++ lost) ++ plain) ++ multi = d multi rest.3 ∙ ap (λ (l : List NlriValue). l ++ multi) three in
     let whole : ns ≡ gone ++ (lost ++ (plain ++ multi)) = e ∙ ap (λ (l : List NlriValue). gone ++ l) (q.4 ∙ ap (λ (l : List NlriValue). lost ++ l) rest.4) in
-    four ∙ append_assoc (gone ++ lost) plain multi ∙ append_assoc gone lost (plain ++ multi) ∙ sym whole
+    four ∙ append_assoc ((first ++ gone) ++ lost) plain multi ∙ append_assoc (first ++ gone) lost (plain ++ multi) ∙ append_assoc first gone (lost ++ (plain ++ multi)) ∙ ap (λ (l : List NlriValue). first ++ l) (sym whole)

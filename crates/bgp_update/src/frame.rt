@@ -126,6 +126,16 @@ fn add_multi(list: &mut NlriList, ids: IdUse, part: &Option<MpSlice<'_>>) -> Res
     }
 }
 
+// Appends the prefixes of all contained routes, place by place.
+fn add_contained(list: &mut NlriList, framed: &FramedUpdate<'_>, ids: IdUse) -> Result<(), NoMemory>
+    ensures { OnOk result ((ns : List NlriValue) → ArePlaced ids (places (framed_value framed.now)) ns → list.new ≡ list.old ++ ns) }
+{
+    add_items(list, Family::V4, ids.v4, framed.withdrawn)?;
+    add_multi(list, ids, &framed.unreach)?;
+    add_items(list, Family::V4, ids.v4, framed.nlri)?;
+    add_multi(list, ids, &framed.reach)
+}
+
 /// The prefixes of all contained routes, place by place: for an UPDATE message that is treated as though they had been
 /// withdrawn (RFC 7606, section 2). Of a place that isn't prefixes the list says nothing.
 pub fn contained_routes(
@@ -136,9 +146,6 @@ pub fn contained_routes(
     ensures { IfOk result (λ list. (ns : List NlriValue) → ArePlaced ids (places (framed_value framed.now)) ns → list ≡ ns) }
 {
     let mut list = NlriList::new(alloc);
-    add_items(&mut list, Family::V4, ids.v4, framed.withdrawn)?;
-    add_multi(&mut list, ids, &framed.unreach)?;
-    add_items(&mut list, Family::V4, ids.v4, framed.nlri)?;
-    add_multi(&mut list, ids, &framed.reach)?;
+    add_contained(&mut list, framed, ids)?;
     Ok(list)
 }

@@ -1,4 +1,4 @@
-ghost use Rattle.std.specs.Prelude.{◌≡◌, ◌+◌, ◌++◌, IfErr, IfOk, IsErrOf, List};
+ghost use Rattle.std.specs.Prelude.{◌≡◌, ◌+◌, ◌++◌, IfOk, IsErrOf, List};
 ghost use Rattle.std.specs.Arc.{arc_value};
 ghost use Rattle.bmp_specs.specs.AddressFamily.{uses_ids};
 ghost use Rattle.bmp_specs.specs.Nlri.{AreNlri};
@@ -46,7 +46,7 @@ fn make_update(
     ids: IdUse,
     found: &Found<'_>,
     read: AttrsRead,
-) -> Result<Update, BodyFault>
+) -> Result<Update, NoMemory>
     ensures withdrawn { IfOk result (λ u. (gone lost : List NlriValue) → AreNlri V4 (uses_ids ids V4) found.now.fields.withdrawn.now gone
         → AreMpNlri ids read.unreach lost → u.withdrawn ≡ gone ++ lost) }
     ensures plain { IfOk result (λ u. (ns : List NlriValue) → AreNlri V4 (uses_ids ids V4) found.now.fields.nlri.now ns → u.plain ≡ ns) }
@@ -54,7 +54,6 @@ fn make_update(
     ensures attrs { IfOk result (λ u. (u.plain_attrs ≡ read.attrs) × (u.multi_attrs ≡ with_hop_of read.reach read.attrs)) }
     ensures mark { IfOk result (λ u. u.mark ≡ end_of_rib found.now.fields.withdrawn.now read found.now.fields.nlri.now) }
     ensures unread { IfOk result (λ u. u.unread ≡ passed_over read.reach + passed_over read.unreach) }
-    ensures fault { IfErr result (λ fault. fault ≡ BodyFault.NoMemory) }
 {
     let mark = end_of_rib(found.fields.withdrawn, &read, found.fields.nlri);
     let unread = passed_over(&read.reach) + passed_over(&read.unreach);

@@ -10,6 +10,7 @@ ghost use Rattle.bgp_update.specs.Framed.{framed_value};
 use crate::frame::{FramedUpdate, contained_routes};
 use crate::list::NlriList;
 use crate::multi::unicast_family;
+use crate::shared::to_share;
 use crate::update::Update;
 use bmp_specs::IdUse;
 use path_attrs::{Attrs, MpSlice};
@@ -45,7 +46,7 @@ pub fn treat_as_withdraw(
 {
     let withdrawn = contained_routes(alloc, framed, ids)?;
     let unread = 1 + (passed_over(&framed.reach) + passed_over(&framed.unreach));
-    let plain_attrs = Arc::new(alloc, Attrs::none(alloc))?;
+    let plain_attrs = to_share(alloc, Attrs::none(alloc))?;
     let multi_attrs = Arc::try_clone(&plain_attrs)?;
     Ok(Update {
         withdrawn,
