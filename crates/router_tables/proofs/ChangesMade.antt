@@ -1,5 +1,5 @@
 -- The tables once the changes that were gathered are made.
-use Rattle.std.proofs.Common.{◌≡◌, ◌↔◌, inl, inr, true, false, ◌<◌, length, List, [], ◌∷◌, Option, None, Some, refl, sym, ap, ◌∙◌, subst, arith}
+use Rattle.std.proofs.Common.{◌≡◌, ◌↔◌, inl, inr, true, false, ◌<◌, length, List, [], ◌∷◌, Option, None, Some, Result, Ok, Err, OnOk, refl, sym, ap, ◌∙◌, subst, arith}
 use Rattle.std.specs.BTreeMap.{is_at}
 use Rattle.std.specs.Map.{lookup}
 use Rattle.std.specs.Option.{unwrap_or}
@@ -15,7 +15,7 @@ use Rattle.bmp_specs.proofs.PairLookups.{at_other}
 use Rattle.bmp_specs.proofs.RowLaws.{none_row}
 use Rattle.route_runs.specs.Override.{value_at}
 use Rattle.route_runs.specs.Runs.{changed}
-use Rattle.router_tables.specs.Pending.{PendingValue, PendingTables, view_changes, no_changes, changes_of, route_after, AreRowsAfter, AreTablesAfter, IsPeerAfter}
+use Rattle.router_tables.specs.Pending.{PendingValue, PendingTables, view_changes, no_changes, changes_of, route_after, AreRowsAfter, AreTablesAfter, IsPeerAfter, IsTableAfter}
 use Rattle.router_tables.specs.Tables.{Tables, table_at, route_at, AreRowsOf}
 use Rattle.router_tables.specs.Views.{Table, ViewsValue, view_table, no_tables}
 use Rattle.router_tables.proofs.PendingDrops.{nothing}
@@ -93,3 +93,16 @@ no_rows [] [] p t row = (
 )
 no_rows [] (t ∷ tables) p e row = absurd cc
 no_rows (p ∷ pending) tables e t row = absurd cc
+
+-- the tables of a peer, where that of each view is changed, the last by a call that may fail
+pub all_after : {E : Type 0} (pending : PendingValue) (old new : ViewsValue) (r : Result (Unit {0}) E) → IsTableAfter pending.in_pre old.in_pre new.in_pre → IsTableAfter pending.in_post old.in_post new.in_post
+    → IsTableAfter pending.out_pre old.out_pre new.out_pre → IsTableAfter pending.out_post old.out_post new.out_post → OnOk r (IsTableAfter pending.loc old.loc new.loc) → OnOk r (AreTablesAfter pending old new)
+all_after pending old new (Err _) in_pre in_post out_pre out_post loc = tt
+all_after pending old new (Ok _) in_pre in_post out_pre out_post loc = after
+  where
+    after : (view : View) → IsTableAfter (view_changes view pending) (view_table view old) (view_table view new)
+    after InPre = in_pre
+    after InPost = in_post
+    after OutPre = out_pre
+    after OutPost = out_post
+    after Loc = loc

@@ -65,48 +65,58 @@ fn so_far(views: Option<Views>) -> Views
 fn tables_with(
     alloc: Global,
     indexing: Indexing,
-    views: Views,
-    changes: Pending,
+    mut views: Views,
+    mut changes: Pending,
 ) -> Result<Views, NoMemory>
     ensures { IfOk result (AreTablesAfter changes views) }
 {
-    Ok(Views {
-        in_pre: table_with(alloc, indexing, views.in_pre, changes.in_pre)?,
-        in_post: table_with(alloc, indexing, views.in_post, changes.in_post)?,
-        out_pre: table_with(alloc, indexing, views.out_pre, changes.out_pre)?,
-        out_post: table_with(alloc, indexing, views.out_post, changes.out_post)?,
-        loc: table_with(alloc, indexing, views.loc, changes.loc)?,
-    })
+    change_views(alloc, indexing, &mut views, &mut changes)?;
+    Ok(views)
 }
 
-// The table with these changes made.
-fn table_with(
+// Makes these changes of a peer's tables.
+fn change_views(
     alloc: Global,
     indexing: Indexing,
-    table: Option<Arc<RouteTable>>,
-    changes: Option<Changes>,
-) -> Result<Option<Arc<RouteTable>>, NoMemory>
-    ensures { IfOk result (λ new. IsTableAfter (unwrap_or changes []) (option_map arc_value table) (option_map arc_value new)) }
+    views: &mut Views,
+    changes: &mut Pending,
+) -> Result<(), NoMemory>
+    ensures { OnOk result (AreTablesAfter changes.old views.old views.new) }
 {
-    match changes {
-        Some(changes) => changed_table(alloc, indexing, table, changes),
-        None => Ok(table),
+    renew(alloc, indexing, &mut views.in_pre, &mut changes.in_pre)?;
+    renew(alloc, indexing, &mut views.in_post, &mut changes.in_post)?;
+    renew(alloc, indexing, &mut views.out_pre, &mut changes.out_pre)?;
+    renew(alloc, indexing, &mut views.out_post, &mut changes.out_post)?;
+    renew(alloc, indexing, &mut views.loc, &mut changes.loc)
+}
+
+// Makes these changes of a table, if there are some.
+fn renew(
+    alloc: Global,
+    indexing: Indexing,
+    table: &mut Option<Arc<RouteTable>>,
+    changes: &mut Option<Changes>,
+) -> Result<(), NoMemory>
+    ensures { OnOk result (IsTableAfter (unwrap_or changes.old []) (option_map arc_value table.old) (option_map arc_value table.new)) }
+{
+    if let Some(changes) = changes {
+        *table = changed_table(alloc, indexing, table, changes)?;
     }
+    Ok(())
 }
 
 // The table with these changes, which are some.
 fn changed_table(
     alloc: Global,
     indexing: Indexing,
-    table: Option<Arc<RouteTable>>,
-    changes: Changes,
+    table: &Option<Arc<RouteTable>>,
+    changes: &mut Changes,
 ) -> Result<Option<Arc<RouteTable>>, NoMemory>
-    ensures { IfOk result (λ new. IsTableAfter changes (option_map arc_value table) (option_map arc_value new)) }
+    ensures { IfOk result (λ new. IsTableAfter changes.old (option_map arc_value table.now) (option_map arc_value new)) }
 {
-    let mut changes = changes;
     match table {
-        Some(table) => later_table(alloc, &table, &mut changes),
-        None => earliest_table(alloc, indexing, &mut changes),
+        Some(table) => later_table(alloc, table, changes),
+        None => earliest_table(alloc, indexing, changes),
     }
 }
 

@@ -1,4 +1,4 @@
-ghost use Rattle.std.specs.Prelude.{◌≡◌, [], ◌∷◌, ◌++◌, List, None, OnOk};
+ghost use Rattle.std.specs.Prelude.{◌≡◌, [], ◌∷◌, ◌++◌, List, None, IfOk, OnOk};
 ghost use Rattle.std.specs.BTreeMap.{is_at};
 ghost use Rattle.std.specs.Map.{lookup};
 ghost use Rattle.std.specs.Option.{option_map, unwrap_or};
@@ -138,10 +138,23 @@ fn gather_first(
     ensures { OnOk result (lookup (is_at (key_cmp key.now)) pending.old.entries ≡ None
         → IsGatheredFor key.now view nlris.now (option_map shared to.entry) pending.old.entries pending.new.entries) }
 {
-    let mut changes = Pending::new();
-    changes.change(alloc, view, nlris, to)?;
+    let changes = first_changes(alloc, view, nlris, to)?;
     pending.insert(*key, changes)?;
     Ok(())
+}
+
+// Changes of these NLRI of one table, and no others.
+fn first_changes(
+    alloc: Global,
+    view: View,
+    nlris: &[Nlri],
+    to: Option<&Route>,
+) -> Result<Pending, NoMemory>
+    ensures { IfOk result (IsGathered view nlris.now (option_map shared to.entry) no_changes) }
+{
+    let mut changes = Pending::new();
+    changes.change(alloc, view, nlris, to)?;
+    Ok(changes)
 }
 
 // The peer comes up or goes down: its tables go, those of all views, and what is gathered for them (RFC 7854,

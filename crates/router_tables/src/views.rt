@@ -1,4 +1,4 @@
-ghost use Rattle.std.specs.Prelude.{◌≡◌, IfOk, IsTrue};
+ghost use Rattle.std.specs.Prelude.{◌≡◌, IsTrue, OnOk};
 ghost use Rattle.std.specs.Arc.{arc_value};
 ghost use Rattle.std.specs.Option.{option_copied, option_map};
 ghost use Rattle.router_tables.specs.Views.{no_tables, view_table};
@@ -61,6 +61,17 @@ impl Views {
             && self.loc.is_none()
     }
 
+    // Shares these.
+    fn share(&mut self, from: &Views) -> Result<(), AllocError>
+        ensures { OnOk result (self.new ≡ from.now) }
+    {
+        share(&mut self.in_pre, &from.in_pre)?;
+        share(&mut self.in_post, &from.in_post)?;
+        share(&mut self.out_pre, &from.out_pre)?;
+        share(&mut self.out_post, &from.out_post)?;
+        share(&mut self.loc, &from.loc)
+    }
+
     // The table of a view.
     pub(crate) fn of_view(&self, view: View) -> Option<&RouteTable>
         ensures { option_copied result ≡ view_table view self.now }
@@ -86,25 +97,22 @@ fn lent(table: &Option<Arc<RouteTable>>) -> Option<&RouteTable>
 }
 
 // Shares what is there.
-fn shared(table: &Option<Arc<RouteTable>>) -> Result<Option<Arc<RouteTable>>, AllocError>
-    ensures { IfOk result (λ copy. option_map arc_value copy ≡ option_map arc_value table.now) }
+fn share(to: &mut Option<Arc<RouteTable>>, from: &Option<Arc<RouteTable>>) -> Result<(), AllocError>
+    ensures { OnOk result (option_map arc_value to.new ≡ option_map arc_value from.now) }
 {
-    match table {
-        Some(table) => Ok(Some(Arc::try_clone(table)?)),
-        None => Ok(None),
-    }
+    *to = match from {
+        Some(table) => Some(Arc::try_clone(table)?),
+        None => None,
+    };
+    Ok(())
 }
 
 impl Clone for Views {
     ghost is_clone = { λ x y. y ≡ x };
 
     fn clone(&self) -> Result<Views, AllocError> {
-        Ok(Views {
-            in_pre: shared(&self.in_pre)?,
-            in_post: shared(&self.in_post)?,
-            out_pre: shared(&self.out_pre)?,
-            out_post: shared(&self.out_post)?,
-            loc: shared(&self.loc)?,
-        })
+        let mut copy = Views::none();
+        copy.share(self)?;
+        Ok(copy)
     }
 }
