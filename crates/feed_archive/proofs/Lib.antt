@@ -9,3 +9,4 @@ pub mod Steps
 pub mod Kept
 pub mod Telling
 pub mod Asked
+pub mod AsideReads

@@ -82,7 +82,7 @@ aside_calm inner base es fine = ap (λ (b : Bool). told_by b inner base es) fine
 pub aside_late : (inner base : Aside) (es : List Event) → is_refused es ≡ true → keep_aside inner base es ≡ late inner base es
 aside_late inner base es lost = ap (λ (b : Bool). told_by b inner base es) lost
 
-marked_is : (o : Option (List Given)) (e : Failed) (buf : List ℕ) → GivesBytes o (marked o) (Err e) buf
+pub marked_is : (o : Option (List Given)) (e : Failed) (buf : List ℕ) → GivesBytes o (marked o) (Err e) buf
 marked_is None e buf = refl
 marked_is (Some gs) e buf = refl
 

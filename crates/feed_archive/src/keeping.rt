@@ -1,4 +1,4 @@
-ghost use Rattle.std.specs.Prelude.{◌≡◌, ◌<◌, ◌++◌, [], None, Some, List, ℕ, length, is_some, IsTrue};
+ghost use Rattle.std.specs.Prelude.{◌≡◌, ◌<◌, ◌++◌, [], ◌∷◌, None, Some, List, ℕ, length, is_some, IsTrue};
 ghost use Rattle.std.specs.Io.{ReadsAtMost};
 ghost use Rattle.station_doors.specs.Doors.{Reads, AsPlanned, Went, read_size};
 ghost use Rattle.disk_doors.specs.Disk.{Passes};
@@ -24,6 +24,13 @@ const OPENED: u64 = 3;
 const GAVE_NONE: u64 = 4;
 
 const FAILED_BELOW: u64 = 5;
+
+// Notes what came of a call, by one of these numbers, and its bytes.
+fn note(notes: &mut Notes, what: u64, bytes: &[u8])
+    ensures { notes.new.events ≡ (what, 0, bytes.now) ∷ notes.old.events }
+{
+    notes.note(&[what, 0], bytes);
+}
 
 /// A port over another, which keeps what it gives in an archive before it gives it.
 ///
@@ -143,7 +150,7 @@ impl<P: Port, D: Disk> Port for KeepPort<P, D> {
     fn next_connection(&mut self) -> Result<bool, Failed> {
         match self.inner.next_connection() {
             Ok(true) => {
-                self.notes.note(&[OPENED, 0], &[]);
+                note(&mut self.notes, OPENED, &[]);
                 Ok(true)
             }
             Ok(false) => Ok(false),
@@ -166,31 +173,31 @@ impl<P: Port, D: Disk> Port for KeepPort<P, D> {
             → Passes (HasBetween first (gave self.old.events) (gave self.new.events ++ lost self.new.events)) (D.shows self.old.archive.disk) (D.shows self.new.archive.disk) }
     {
         if self.refused.is_some() {
-            self.notes.note(&[FAILED_LATER, 0], &[]);
+            note(&mut self.notes, FAILED_LATER, &[]);
             return Err(Failed);
         }
         self.before = Snapshot::of(&self.inner);
         let count = match self.inner.read(buf) {
             Ok(count) => count,
             Err(failed) => {
-                self.notes.note(&[FAILED_BELOW, 0], &[]);
+                note(&mut self.notes, FAILED_BELOW, &[]);
                 return Err(failed);
             }
         };
         if count == 0 {
-            self.notes.note(&[GAVE_NONE, 0], &[]);
+            note(&mut self.notes, GAVE_NONE, &[]);
             return Ok(0);
         }
         match self.archive.append(&buf[..count]) {
             Ok(()) => {
                 // The archive has a place below 2^31 for each of them.
                 self.given += count as u64;
-                self.notes.note(&[GAVE, 0], &buf[..count]);
+                note(&mut self.notes, GAVE, &buf[..count]);
                 Ok(count)
             }
             Err(fault) => {
                 self.refused = Some(fault);
-                self.notes.note(&[REFUSED, 0], &buf[..count]);
+                note(&mut self.notes, REFUSED, &buf[..count]);
                 Err(Failed)
             }
         }
