@@ -2,7 +2,7 @@
 ghost use Rattle.std.specs.Prelude.{◌≡◌, option_map};
 ghost use Rattle.bmp_specs.specs.Registries.{first_row, statistics_types};
 
-use std::alloc::AllocError;
+use crate::words::{Line, at};
 use wire_tables::{
     CodeRow, CodeTable, Shape, attribute_table, capability_table, message_table, reason_table,
     statistic_table, tlv_table,
@@ -15,71 +15,57 @@ fn shape_of(code: u16) -> Option<Shape>
     statistic_table().find(code)
 }
 
-fn put_row(out: &mut String, row: &CodeRow) -> Result<(), AllocError> {
-    let (code, shape, name) = (row.code, row.shape, row.name);
-    write!(out, "{code} {shape:?} {name};")
+fn put_row(out: &mut Line, row: &CodeRow) {
+    out.show("", &row.code);
+    out.show(" ", &row.shape);
+    out.put(" ");
+    out.put(row.name);
+    out.put(";");
 }
 
-fn put_rows(out: &mut String, rows: &[CodeRow]) -> Result<(), AllocError> {
+fn put_rows(out: &mut Line, rows: &[CodeRow]) {
     for row in rows {
-        put_row(out, row)?;
+        put_row(out, row);
     }
-    Ok(())
 }
 
 // The rows of a table: code, shape and name of each.
-fn table(out: &mut String, name: &str) -> Result<(), AllocError> {
-    match name {
+pub(crate) fn table(out: &mut Line, words: &[&str]) {
+    match at(words, 1) {
         "message" => put_rows(out, &message_table().rows),
         "reason" => put_rows(out, &reason_table().rows),
         "statistic" => put_rows(out, &statistic_table().rows),
         "attribute" => put_rows(out, &attribute_table().rows),
         "tlv" => put_rows(out, &tlv_table().rows),
         "capability" => put_rows(out, &capability_table().rows),
-        _ => out.push_str("-"),
+        _ => out.put("-"),
     }
 }
 
+fn code_at(words: &[&str]) -> u16 {
+    at(words, 1).parse::<u16>().unwrap_or(0)
+}
+
 // The shape of a statistic.
-fn shape(out: &mut String, code: &str) -> Result<(), AllocError> {
-    let shape = match code.parse::<u16>() {
-        Ok(code) => shape_of(code),
-        Err(_) => None,
-    };
-    write!(out, "{shape:?}")
+pub(crate) fn shape(out: &mut Line, words: &[&str]) {
+    let shape = shape_of(code_at(words));
+    out.show("", &shape);
+}
+
+// A row of the code 1.
+fn row_of(name: &'static str) -> CodeRow {
+    CodeRow {
+        code: 1,
+        shape: Shape::Free,
+        name,
+    }
 }
 
 // The name of a code in a table of which two rows have the code 1.
-fn name_in_two(out: &mut String, code: &str) -> Result<(), AllocError> {
+pub(crate) fn name_in_two(out: &mut Line, words: &[&str]) {
     let table = CodeTable {
-        rows: [
-            CodeRow {
-                code: 1,
-                shape: Shape::Free,
-                name: "first",
-            },
-            CodeRow {
-                code: 1,
-                shape: Shape::Gauge64,
-                name: "second",
-            },
-        ],
+        rows: [row_of("first"), row_of("second")],
     };
-    let name = match code.parse::<u16>() {
-        Ok(code) => table.name(code),
-        Err(_) => None,
-    };
-    write!(out, "{name:?}")
-}
-
-// What one of these calls answers; false where the case has none of their words.
-pub(crate) fn answer(out: &mut String, words: &[&str]) -> Result<bool, AllocError> {
-    let done = match words {
-        ["table", name] => table(out, name),
-        ["shape", code] => shape(out, code),
-        ["name-in-two", code] => name_in_two(out, code),
-        _ => return Ok(false),
-    };
-    done?;
-    Ok(true)
+    let name = table.name(code_at(words));
+    out.show("", &name);
 }

@@ -1,88 +1,72 @@
 //! Sinks, and lists of bytes.
-use crate::words::{number_of, put_text};
-use std::alloc::{AllocError, Global};
-use wire_io::{
-    ByteList, MemSink, NoMemory, StdSink, SureSink, write_all, write_buffered, write_pieces,
-};
+use crate::words::{Line, at, number_at};
+use wire_io::{ByteList, MemSink, StdSink, SureSink, write_all, write_buffered, write_pieces};
 
 // Whether all pieces were written, and what was.
-fn put_written(
-    out: &mut String,
-    sink: &mut MemSink,
-    buffered: bool,
-    pieces: &[&[u8]],
-) -> Result<(), AllocError> {
-    let written = if buffered {
+fn put_written(out: &mut Line, sink: &mut MemSink, is_buffered: bool, pieces: &[&[u8]]) {
+    let written = if is_buffered {
         write_buffered(sink, pieces)
     } else {
         write_pieces(sink, pieces)
     };
-    write!(out, "{written:?} ")?;
-    put_text(out, sink.taken())
+    out.show("", &written);
+    out.put(" ");
+    out.put_text(sink.taken());
 }
 
-// Writes to a sink of this room; where `fails` is a number, the write that has it fails.
-fn write_in(
-    alloc: Global,
-    out: &mut String,
-    [room, fails]: [&str; 2],
-    buffered: bool,
-    [one, two, three]: [&str; 3],
-) -> Result<(), AllocError> {
-    let pieces = [one.as_bytes(), two.as_bytes(), three.as_bytes()];
-    let failing = [number_of(fails) as u64];
-    let failing: &[u64] = if fails == "-" { &[] } else { &failing };
-    match MemSink::new(alloc, number_of(room), failing) {
-        Ok(mut sink) => put_written(out, &mut sink, buffered, &pieces),
-        Err(_) => Err(AllocError),
+// Writes three pieces to a sink with room for so many bytes, where the writes with these numbers fail.
+fn write_in(out: &mut Line, words: &[&str], is_buffered: bool, fails: &[u64]) {
+    let pieces = [
+        at(words, 3).as_bytes(),
+        at(words, 4).as_bytes(),
+        at(words, 5).as_bytes(),
+    ];
+    match MemSink::new(out.alloc, number_at(words, 1), fails) {
+        Ok(mut sink) => put_written(out, &mut sink, is_buffered, &pieces),
+        Err(_) => out.fail(),
+    }
+}
+
+pub(crate) fn write(out: &mut Line, words: &[&str], is_buffered: bool) {
+    if at(words, 2) == "-" {
+        write_in(out, words, is_buffered, &[]);
+    } else {
+        write_in(out, words, is_buffered, &[number_at(words, 2) as u64]);
     }
 }
 
 // Writes to the sink that takes everything.
-fn write_sure(out: &mut String, text: &str) -> Result<(), AllocError> {
-    let written = write_all(&mut SureSink::new(), text.as_bytes());
-    write!(out, "{written:?}")
+pub(crate) fn write_sure(out: &mut Line, words: &[&str]) {
+    let written = write_all(&mut SureSink::new(), at(words, 1).as_bytes());
+    out.show("", &written);
 }
 
 // Writes to a slice with room for four bytes.
-fn write_to_slice(out: &mut String, text: &str) -> Result<(), AllocError> {
+pub(crate) fn write_to_slice(out: &mut Line, words: &[&str]) {
     let mut room = [0u8; 4];
-    let written = write_all(&mut StdSink::new(&mut room[..]), text.as_bytes());
-    write!(out, "{written:?} ")?;
-    put_text(out, &room)
+    let written = write_all(&mut StdSink::new(&mut room[..]), at(words, 1).as_bytes());
+    out.show("", &written);
+    out.put(" ");
+    out.put_text(&room);
 }
 
-fn put_copy(out: &mut String, copy: &Result<ByteList, NoMemory>) -> Result<(), AllocError> {
-    match copy {
-        Ok(bytes) => put_text(out, bytes.as_slice()),
-        Err(_) => Err(AllocError),
+fn put_copy(out: &mut Line, list: &ByteList) {
+    match list.copy() {
+        Ok(copy) => out.put_text(copy.as_slice()),
+        Err(_) => out.fail(),
     }
+}
+
+fn put_cut(out: &mut Line, list: &mut ByteList, words: &[&str]) {
+    if list.extend(at(words, 2).as_bytes()).is_err() {
+        out.fail();
+    }
+    list.truncate(number_at(words, 1) as usize);
+    put_copy(out, list);
 }
 
 // A copy of a list that has the text, and is cut back to this length.
-fn cut_back(alloc: Global, out: &mut String, length: &str, text: &str) -> Result<(), AllocError> {
-    let mut bytes = ByteList::new(alloc);
-    if bytes.extend(text.as_bytes()).is_err() {
-        return Err(AllocError);
-    }
-    bytes.truncate(number_of(length) as usize);
-    put_copy(out, &bytes.copy())
-}
-
-// What one of these calls answers; false where the case has none of their words.
-pub(crate) fn answer(alloc: Global, out: &mut String, words: &[&str]) -> Result<bool, AllocError> {
-    let done = match words {
-        ["write-pieces", room, fails, one, two, three] => {
-            write_in(alloc, out, [*room, *fails], false, [*one, *two, *three])
-        }
-        ["write-buffered", room, fails, one, two, three] => {
-            write_in(alloc, out, [*room, *fails], true, [*one, *two, *three])
-        }
-        ["write-sure", text] => write_sure(out, text),
-        ["write-to-slice", text] => write_to_slice(out, text),
-        ["cut-back", length, text] => cut_back(alloc, out, length, text),
-        _ => return Ok(false),
-    };
-    done?;
-    Ok(true)
+pub(crate) fn cut_back(out: &mut Line, words: &[&str]) {
+    let mut list = ByteList::new(out.alloc);
+    put_cut(out, &mut list, words);
 }

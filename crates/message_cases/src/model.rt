@@ -1,11 +1,11 @@
 //! The plain model. An effect is words with commas between them; `-` is no path identifier.
 ghost use Rattle.std.specs.Prelude.{◌≡◌, ◌≢◌, ◌==◌, length, if◌then◌else◌};
 
-use crate::words::{bytes_of, number_of, octet_of};
+use crate::words::{Line, addr_at, at, behind, bytes_at, number_at, octet_at, prefix_at};
 use bmp_frames::parse_view;
-use ip_prefix::{Addr, parse_addr, parse_number, parse_prefix};
+use ip_prefix::{Addr, parse_number};
 use plain_model::{Address, Effect, Meaning, Peer, Route, Row, RowKey, rows, walk};
-use std::alloc::{AllocError, Global};
+use std::alloc::Global;
 
 /// A meaning in which each message means its type, but a Route Monitoring Message means nothing after a
 /// Peer Up Notification of 160 bytes, as one whose OPENs agree on path identifiers.
@@ -30,12 +30,20 @@ impl Meaning for Types {
 }
 
 // The types of the messages of a stream, the offset and the end.
-fn model_walk(alloc: Global, out: &mut String, hex: &str) -> Result<(), AllocError> {
-    let bytes = bytes_of(alloc, hex);
-    let walked = walk(alloc, &Types, 0, bytes.as_slice())?;
-    let kinds = walked.messages.as_slice();
-    let (offset, end) = (walked.offset, walked.end);
-    write!(out, "{kinds:?} {offset} {end:?}")
+fn put_walk(out: &mut Line, stream: &[u8]) {
+    match walk(out.alloc, &Types, 0, stream) {
+        Ok(walked) => {
+            out.show("", &walked.messages.as_slice());
+            out.show(" ", &walked.offset);
+            out.show(" ", &walked.end);
+        }
+        Err(_) => out.fail(),
+    }
+}
+
+pub(crate) fn model_walk(out: &mut Line, words: &[&str]) {
+    let stream = bytes_at(out.alloc, words, 1);
+    put_walk(out, stream.as_slice());
 }
 
 fn address_of(addr: Addr) -> Address {
@@ -45,99 +53,120 @@ fn address_of(addr: Addr) -> Address {
     }
 }
 
-// The peer of this type, with this distinguisher, at this address.
-fn peer_of(kind: &str, distinguisher: &str, addr: &str) -> Option<Peer> {
-    let addr = parse_addr(addr.as_bytes())?;
-    Some(Peer {
-        kind: octet_of(kind),
-        distinguisher: number_of(distinguisher) as u64,
-        address: address_of(addr),
-    })
+// The peer of the first three words: type, distinguisher and address.
+fn peer_of(words: &[&str]) -> Option<Peer> {
+    match addr_at(words, 2) {
+        Some(addr) => Some(Peer {
+            kind: octet_at(words, 0),
+            distinguisher: number_at(words, 1) as u64,
+            address: address_of(addr),
+        }),
+        None => None,
+    }
 }
 
-fn place_of(peer: Peer, view: &str, prefix: &str, id: &str) -> Option<RowKey> {
-    let view = parse_view(view.as_bytes())?;
-    let prefix = parse_prefix(prefix.as_bytes())?;
-    Some(RowKey {
-        peer,
-        view,
-        address: address_of(prefix.addr()),
-        bits: prefix.bits(),
-        id: parse_number(id.as_bytes()),
-    })
-}
-
-// What a word does to a peer.
-fn of_peer(peer: Peer, words: &[&str]) -> Option<Effect> {
-    match words {
-        ["up", asn] => Some(Effect::Up {
+// The place of a route of the peer: view, prefix and path identifier.
+fn place_of(peer: Peer, words: &[&str]) -> Option<RowKey> {
+    match (parse_view(at(words, 4).as_bytes()), prefix_at(words, 5)) {
+        (Some(view), Some(prefix)) => Some(RowKey {
             peer,
-            asn: number_of(asn),
+            view,
+            address: address_of(prefix.addr()),
+            bits: prefix.bits(),
+            id: parse_number(at(words, 6).as_bytes()),
         }),
-        ["down", reason] => Some(Effect::Down {
-            peer,
-            reason: octet_of(reason),
-        }),
-        ["announce", view, prefix, id, origin] => Some(Effect::Announce(Row {
-            row_key: place_of(peer, view, prefix, id)?,
-            route: Route {
-                origin: number_of(origin),
-            },
-        })),
-        ["withdraw", view, prefix, id] => Some(Effect::Withdraw(place_of(peer, view, prefix, id)?)),
         _ => None,
     }
 }
 
-fn effect_of(alloc: Global, word: &str) -> Result<Option<Effect>, AllocError> {
-    let words: Vec<&str> = word.split(',').collect(alloc)?;
-    let words = words.as_slice();
-    if words.len() < 4 {
-        return Ok(None);
-    }
-    let Some(peer) = peer_of(words[0], words[1], words[2]) else {
-        return Ok(None);
-    };
-    Ok(of_peer(peer, &words[3..]))
-}
-
-fn effects_of(alloc: Global, words: &[&str]) -> Result<Vec<Effect>, AllocError> {
-    let mut effects = Vec::new(alloc);
-    for word in words {
-        match effect_of(alloc, word)? {
-            Some(effect) => effects.push(effect)?,
-            None => effects.push(Effect::Passed)?,
+fn of_route(peer: Peer, words: &[&str]) -> Effect {
+    match place_of(peer, words) {
+        Some(row_key) => {
+            if at(words, 3) == "announce" {
+                let origin = number_at(words, 7);
+                Effect::Announce(Row {
+                    row_key,
+                    route: Route { origin },
+                })
+            } else {
+                Effect::Withdraw(row_key)
+            }
         }
+        None => Effect::Passed,
     }
-    Ok(effects)
 }
 
-fn put_row(out: &mut String, row: &Row) -> Result<(), AllocError> {
-    let key = row.row_key;
-    let (kind, distinguisher) = (key.peer.kind, key.peer.distinguisher);
-    let (peer, addr) = (key.peer.address.octets, key.address.octets);
-    let (view, bits, id, origin) = (key.view, key.bits, key.id, row.route.origin);
-    write!(out, "{kind} {distinguisher} {peer:?} {view:?} ")?;
-    write!(out, "{addr:?} {bits} {id:?} {origin};")
+// What the words do to a peer.
+fn of_peer(peer: Peer, words: &[&str]) -> Effect {
+    match at(words, 3) {
+        "up" => Effect::Up {
+            peer,
+            asn: number_at(words, 4),
+        },
+        "down" => Effect::Down {
+            peer,
+            reason: octet_at(words, 4),
+        },
+        _ => of_route(peer, words),
+    }
+}
+
+fn effect_of(words: &[&str]) -> Effect {
+    match peer_of(words) {
+        Some(peer) => of_peer(peer, words),
+        None => Effect::Passed,
+    }
+}
+
+// Puts the effect of a text.
+fn put_effect(alloc: Global, effects: &mut Vec<Effect>, text: &str) -> bool {
+    match text.split(',').collect::<Vec<&str>>(alloc) {
+        Ok(words) => effects.push(effect_of(words.as_slice())).is_ok(),
+        Err(_) => false,
+    }
+}
+
+fn put_key(out: &mut Line, key: &RowKey) {
+    out.show("", &key.peer.kind);
+    out.show(" ", &key.peer.distinguisher);
+    out.show(" ", &key.peer.address.octets);
+    out.show(" ", &key.view);
+    out.show(" ", &key.address.octets);
+    out.show(" ", &key.bits);
+    out.show(" ", &key.id);
+}
+
+fn put_row(out: &mut Line, row: &Row) {
+    put_key(out, &row.row_key);
+    out.show(" ", &row.route.origin);
+    out.put(";");
 }
 
 // The rows that the effects leave, in the order of a reply.
-fn model_rows(alloc: Global, out: &mut String, words: &[&str]) -> Result<(), AllocError> {
-    let effects = effects_of(alloc, words)?;
-    let rows = rows(alloc, effects.as_slice())?;
-    for row in rows.as_slice() {
-        put_row(out, row)?;
+fn put_rows(out: &mut Line, effects: &[Effect]) {
+    match rows(out.alloc, effects) {
+        Ok(rows) => {
+            for row in rows.as_slice() {
+                put_row(out, row);
+            }
+        }
+        Err(_) => out.fail(),
     }
-    Ok(())
 }
 
-// What one of these calls answers; false where the case has none of their words.
-pub(crate) fn answer(alloc: Global, out: &mut String, words: &[&str]) -> Result<bool, AllocError> {
-    let done = match words {
-        ["model-walk", hex] => model_walk(alloc, out, hex),
-        ["model-rows", effects @ ..] => model_rows(alloc, out, effects),
-        _ => return Ok(false),
-    };
-    done?;
-    Ok(true)
+// Puts the effects of these texts; false where there is no memory.
+fn put_effects(alloc: Global, effects: &mut Vec<Effect>, texts: &[&str]) -> bool {
+    let mut is_put = true;
+    for text in texts {
+        is_put = put_effect(alloc, effects, text) && is_put;
+    }
+    is_put
+}
+
+pub(crate) fn model_rows(out: &mut Line, words: &[&str]) {
+    let mut effects = Vec::new(out.alloc);
+    if !put_effects(out.alloc, &mut effects, behind(words, 1)) {
+        out.fail();
+    }
+    put_rows(out, effects.as_slice());
 }

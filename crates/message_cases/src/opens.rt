@@ -1,9 +1,9 @@
 //! OPEN messages.
-use crate::words::bytes_of;
+use crate::words::{Line, bytes_at};
 use bgp_open::{Open, Side, bgp_frame, path_ids, read_open};
 use ip_prefix::Family;
-use std::alloc::{AllocError, Global};
-use wire_io::{BodyFault, NoMemory};
+use std::alloc::Global;
+use wire_io::BodyFault;
 
 // The OPEN of a whole BGP message.
 fn read(alloc: Global, message: &[u8]) -> Result<Open, BodyFault> {
@@ -13,76 +13,76 @@ fn read(alloc: Global, message: &[u8]) -> Result<Open, BodyFault> {
     }
 }
 
-fn put_open(out: &mut String, open: &Open) -> Result<(), AllocError> {
-    let (version, my_as, hold, identifier) = (open.version, open.my_as, open.hold, open.identifier);
-    write!(
-        out,
-        "version={version} as={my_as} hold={hold} id={identifier:?}"
-    )?;
-    let (four, asn, extended) = (open.four, open.asn(), open.extended);
-    write!(out, " four={four:?} asn={asn} extended={extended}")?;
-    let (families, paths) = (open.families.as_slice(), open.paths.as_slice());
-    write!(out, " families={families:?} paths={paths:?}")
+fn open_at(alloc: Global, words: &[&str], place: usize) -> Result<Open, BodyFault> {
+    let message = bytes_at(alloc, words, place);
+    read(alloc, message.as_slice())
 }
 
-fn put_copy(out: &mut String, copy: &Result<Open, NoMemory>) -> Result<(), AllocError> {
-    match copy {
-        Ok(open) => put_open(out, open),
-        Err(_) => Err(AllocError),
+// Version, AS number in two octets, hold time and identifier.
+fn put_fields(out: &mut Line, open: &Open) {
+    out.show("version=", &open.version);
+    out.show(" as=", &open.my_as);
+    out.show(" hold=", &open.hold);
+    out.show(" id=", &open.identifier);
+}
+
+fn put_capabilities(out: &mut Line, open: &Open) {
+    out.show(" four=", &open.four);
+    out.show(" asn=", &open.asn());
+    out.show(" extended=", &open.extended);
+    out.show(" families=", &open.families.as_slice());
+    out.show(" paths=", &open.paths.as_slice());
+}
+
+fn put_copy(out: &mut Line, open: &Open) {
+    match open.copy() {
+        Ok(copy) => {
+            put_fields(out, &copy);
+            put_capabilities(out, &copy);
+        }
+        Err(_) => out.fail(),
     }
 }
 
-fn put_read(out: &mut String, read: &Result<Open, BodyFault>) -> Result<(), AllocError> {
+fn put_read(out: &mut Line, read: &Result<Open, BodyFault>) {
     match read {
-        Ok(open) => put_copy(out, &open.copy()),
-        Err(fault) => write!(out, "{fault:?}"),
+        Ok(open) => put_copy(out, open),
+        Err(fault) => out.show("", fault),
     }
 }
 
-fn open(alloc: Global, out: &mut String, hex: &str) -> Result<(), AllocError> {
-    let bytes = bytes_of(alloc, hex);
-    put_read(out, &read(alloc, bytes.as_slice()))
+pub(crate) fn open(out: &mut Line, words: &[&str]) {
+    let read = open_at(out.alloc, words, 1);
+    put_read(out, &read);
 }
 
-fn put_ids(out: &mut String, sent: &Open, received: &Open) -> Result<(), AllocError> {
+fn put_use(out: &mut Line, sent: &Open, received: &Open, family: Family, side: Side) {
+    let uses = path_ids(sent, received, family, side);
+    out.show("", &family);
+    out.show(" ", &side);
+    out.show(" ", &uses);
+    out.put(";");
+}
+
+fn put_ids(out: &mut Line, sent: &Open, received: &Open) {
     for family in [Family::V4, Family::V6] {
         for side in [Side::Inward, Side::Outward, Side::Local] {
-            let uses = path_ids(sent, received, family, side);
-            write!(out, "{family:?} {side:?} {uses};")?;
+            put_use(out, sent, received, family, side);
         }
     }
-    Ok(())
 }
 
-fn put_ids_of(
-    out: &mut String,
-    sent: &Result<Open, BodyFault>,
-    received: &Result<Open, BodyFault>,
-) -> Result<(), AllocError> {
-    match (sent, received) {
-        (Ok(sent), Ok(received)) => put_ids(out, sent, received),
-        _ => out.push_str("-"),
+fn put_ids_with(out: &mut Line, sent: &Open, words: &[&str]) {
+    match open_at(out.alloc, words, 2) {
+        Ok(received) => put_ids(out, sent, &received),
+        Err(fault) => out.show("", &fault),
     }
 }
 
 // In which families and on which sides the OPENs agree on path identifiers.
-fn ids(alloc: Global, out: &mut String, sent: &str, received: &str) -> Result<(), AllocError> {
-    let sent = bytes_of(alloc, sent);
-    let received = bytes_of(alloc, received);
-    put_ids_of(
-        out,
-        &read(alloc, sent.as_slice()),
-        &read(alloc, received.as_slice()),
-    )
-}
-
-// What one of these calls answers; false where the case has none of their words.
-pub(crate) fn answer(alloc: Global, out: &mut String, words: &[&str]) -> Result<bool, AllocError> {
-    let done = match words {
-        ["open", hex] => open(alloc, out, hex),
-        ["ids", sent, received] => ids(alloc, out, sent, received),
-        _ => return Ok(false),
-    };
-    done?;
-    Ok(true)
+pub(crate) fn ids(out: &mut Line, words: &[&str]) {
+    match open_at(out.alloc, words, 1) {
+        Ok(sent) => put_ids_with(out, &sent, words),
+        Err(fault) => out.show("", &fault),
+    }
 }

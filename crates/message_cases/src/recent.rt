@@ -2,9 +2,9 @@
 ghost use Rattle.std.specs.Prelude.{◌≡◌, refl};
 ghost use Rattle.std.proofs.Common.{rules};
 
-use crate::words::number_of;
+use crate::words::{Line, behind, number_of};
 use recent_ring::{Keep, Recent};
-use std::alloc::{AllocError, Global};
+use std::alloc::Global;
 use wire_io::NoMemory;
 
 // An item that is a number.
@@ -28,143 +28,130 @@ fn shared<T: Send + Sync>(ring: &T) -> &T {
     ring
 }
 
-fn number_at(ring: &Recent<Item>, place: u64) -> Option<u64> {
+fn item_at(ring: &Recent<Item>, place: u64) -> Option<u64> {
     match ring.get(place) {
         Some(item) => Some(item.0),
         None => None,
     }
 }
 
-// The total, how many are kept, the oldest of them, one between, the newest, and none behind it.
-fn put_ring(out: &mut String, ring: &Recent<Item>) -> Result<(), AllocError> {
-    let (total, kept) = (ring.total(), ring.len());
-    let (oldest, between) = (number_at(ring, 0), number_at(ring, kept / 2));
-    let (newest, behind) = (
-        number_at(ring, kept.saturating_sub(1)),
-        number_at(ring, kept),
-    );
-    write!(
-        out,
-        "{total} {kept} {oldest:?} {between:?} {newest:?} {behind:?};"
-    )
+// The item at a place, or none.
+fn put_item(out: &mut Line, ring: &Recent<Item>, place: u64) {
+    out.show(" ", &item_at(ring, place));
 }
 
-fn put_both(out: &mut String, one: &Recent<Item>, other: &Recent<Item>) -> Result<(), AllocError> {
-    put_ring(out, shared(one))?;
-    put_ring(out, other)
+// The total, how many are kept, the oldest of them, one between, the newest, and none behind it.
+fn put_ring(out: &mut Line, ring: &Recent<Item>) {
+    let kept = ring.len();
+    out.show("", &ring.total());
+    out.show(" ", &kept);
+    put_item(out, ring, 0);
+    put_item(out, ring, kept / 2);
+    put_item(out, ring, kept.saturating_sub(1));
+    put_item(out, ring, kept);
+    out.put(";");
 }
 
 // Pushes so many items, each of which is the number of those before it.
-fn push(ring: &mut Recent<Item>, count: u64) {
+fn push(ring: &mut Recent<Item>, count: u32) {
     let total = ring.total();
-    for number in total..total.saturating_add(count) {
+    for number in total..total.saturating_add(count as u64) {
         ring.push(Item(number));
     }
 }
 
-// Pushes, and shows a copy and the ring.
-fn go_on(out: &mut String, ring: &mut Recent<Item>, count: u64) -> Result<(), AllocError> {
-    push(ring, count);
-    match ring.copy() {
-        Ok(copy) => put_both(out, &copy, ring),
-        Err(_) => Err(AllocError),
+// Shows one ring that was made of the other, and then the other.
+fn put_both(out: &mut Line, made: &Result<Recent<Item>, NoMemory>, other: &Recent<Item>) {
+    match made {
+        Ok(made) => {
+            put_ring(out, shared(made));
+            put_ring(out, other);
+        }
+        Err(_) => out.fail(),
     }
+}
+
+fn push_to(made: &mut Result<Recent<Item>, NoMemory>, count: u32) {
+    if let Ok(made) = made {
+        push(made, count);
+    }
+}
+
+// Goes on with the ring that was made.
+fn go_on_with(ring: &mut Recent<Item>, made: Result<Recent<Item>, NoMemory>) {
+    if let Ok(made) = made {
+        *ring = made;
+    }
+}
+
+// Pushes, and shows a copy and the ring.
+fn push_and_copy(out: &mut Line, ring: &mut Recent<Item>, count: u32) {
+    push(ring, count);
+    let copy = ring.copy();
+    put_both(out, &copy, ring);
 }
 
 // Pushes to a copy, shows it and the ring, and goes on with the copy.
-fn go_on_in_a_copy(
-    out: &mut String,
-    ring: &mut Recent<Item>,
-    count: u64,
-) -> Result<(), AllocError> {
-    match ring.copy() {
-        Ok(mut copy) => {
-            push(&mut copy, count);
-            let shown = put_both(out, &copy, ring);
-            *ring = copy;
-            shown
-        }
-        Err(_) => Err(AllocError),
+fn push_to_copy(out: &mut Line, ring: &mut Recent<Item>, count: u32) {
+    let mut copy = ring.copy();
+    push_to(&mut copy, count);
+    put_both(out, &copy, ring);
+    go_on_with(ring, copy);
+}
+
+// Puts so many items from a number on; false where there is no memory.
+fn put_items(items: &mut Vec<Item>, from: u64, count: u32) -> bool {
+    let mut is_put = true;
+    for number in from..from.saturating_add(count as u64) {
+        is_put = items.push(Item(number)).is_ok() && is_put;
+    }
+    is_put
+}
+
+// Makes a longer ring of the ring and of so many items behind `passed` others, shows both, and goes on with the longer.
+fn make_longer(out: &mut Line, ring: &mut Recent<Item>, passed: u32, count: u32) {
+    let passed = passed as u64;
+    let mut last = Vec::new(out.alloc);
+    if !put_items(&mut last, ring.total().saturating_add(passed), count) {
+        out.fail();
+    }
+    let longer = ring.with_last(passed, last);
+    put_both(out, &longer, ring);
+    go_on_with(ring, longer);
+}
+
+fn make_longer_by(out: &mut Line, ring: &mut Recent<Item>, numbers: &str) {
+    match numbers.split_once(',') {
+        Some((passed, count)) => make_longer(out, ring, number_of(passed), number_of(count)),
+        None => out.put("?"),
     }
 }
 
-// The items with these numbers.
-fn items(alloc: Global, from: u64, to: u64) -> Result<Vec<Item>, AllocError> {
-    let mut list = Vec::new(alloc);
-    for number in from..to {
-        list.push(Item(number))?;
-    }
-    Ok(list)
-}
-
-// Makes a longer ring of the ring and of these items behind `passed` others, shows both, and goes on with the longer.
-fn go_on_behind(
-    out: &mut String,
-    ring: &mut Recent<Item>,
-    passed: u64,
-    last: Vec<Item>,
-) -> Result<(), AllocError> {
-    match ring.with_last(passed, last) {
-        Ok(longer) => {
-            let shown = put_both(out, &longer, ring);
-            *ring = longer;
-            shown
-        }
-        Err(_) => Err(AllocError),
+fn take(out: &mut Line, ring: &mut Recent<Item>, word: &str, numbers: &str) {
+    match word {
+        "push" => push_and_copy(out, ring, number_of(numbers)),
+        "copy" => push_to_copy(out, ring, number_of(numbers)),
+        _ => make_longer_by(out, ring, numbers),
     }
 }
 
-fn go_on_with_last(
-    alloc: Global,
-    out: &mut String,
-    ring: &mut Recent<Item>,
-    passed: u64,
-    count: u64,
-) -> Result<(), AllocError> {
-    let first = ring.total().saturating_add(passed);
-    let last = items(alloc, first, first.saturating_add(count))?;
-    go_on_behind(out, ring, passed, last)
-}
-
-fn take_step(
-    alloc: Global,
-    out: &mut String,
-    ring: &mut Recent<Item>,
-    step: &str,
-) -> Result<(), AllocError> {
-    let words: Vec<&str> = step.split(',').collect(alloc)?;
-    match words.as_slice() {
-        ["push", count] => go_on(out, ring, number_of(count) as u64),
-        ["copy", count] => go_on_in_a_copy(out, ring, number_of(count) as u64),
-        ["last", passed, count] => {
-            let (passed, count) = (number_of(passed) as u64, number_of(count) as u64);
-            go_on_with_last(alloc, out, ring, passed, count)
-        }
-        _ => out.push_str("?"),
+fn take_step(out: &mut Line, ring: &mut Recent<Item>, step: &str) {
+    match step.split_once(',') {
+        Some((word, numbers)) => take(out, ring, word, numbers),
+        None => out.put("?"),
     }
 }
 
-fn take_steps(
-    alloc: Global,
-    out: &mut String,
-    ring: &mut Recent<Item>,
-    steps: &[&str],
-) -> Result<(), AllocError> {
-    put_ring(out, ring)?;
+fn take_steps(out: &mut Line, ring: &mut Recent<Item>, steps: &[&str]) {
+    put_ring(out, ring);
     for step in steps {
-        take_step(alloc, out, ring, step)?;
+        take_step(out, ring, step);
     }
-    Ok(())
 }
 
-// What the call answers; false where the case has another word.
-pub(crate) fn answer(alloc: Global, out: &mut String, words: &[&str]) -> Result<bool, AllocError> {
-    let ["ring", steps @ ..] = words else {
-        return Ok(false);
-    };
-    match Recent::new(alloc) {
-        Ok(mut ring) => take_steps(alloc, out, &mut ring, steps)?,
-        Err(_) => return Err(AllocError),
+pub(crate) fn ring(out: &mut Line, words: &[&str]) {
+    match Recent::new(out.alloc) {
+        Ok(mut ring) => take_steps(out, &mut ring, behind(words, 1)),
+        Err(_) => out.fail(),
     }
-    Ok(true)
 }

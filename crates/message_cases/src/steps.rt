@@ -1,12 +1,12 @@
 //! Steps that are kept.
-use crate::words::{nlri_of, number_of, put_nlri};
+use crate::words::{Line, nlri_at, number_at};
 use bmp_frames::PeerKey;
 use bmp_specs::View;
 use ip_prefix::{Addr, Nlri};
 use path_attrs::Attrs;
 use recent_ring::Keep;
 use rib_model::{Route, Step};
-use std::alloc::{AllocError, Global};
+use std::alloc::Global;
 use std::sync::Arc;
 use wire_io::NoMemory;
 
@@ -20,53 +20,45 @@ fn peer() -> PeerKey {
 }
 
 // A route that is told from others by its MULTI_EXIT_DISC.
-fn route(alloc: Global, med: u32) -> Result<Route, NoMemory> {
+fn route(alloc: Global, med: u32) -> Option<Route> {
     let mut attrs = Attrs::none(alloc);
     attrs.med = Some(med);
-    Ok(Arc::new(alloc, attrs)?)
+    Arc::new(alloc, attrs).ok()
 }
 
-fn announced(alloc: Global, nlri: Nlri, med: u32) -> Result<Step, NoMemory> {
-    Ok(Step::Announce {
-        key: peer(),
-        view: View::InPre,
-        nlri,
-        route: route(alloc, med)?,
-    })
-}
-
-fn put_kept_step(out: &mut String, kept: &Result<Step, NoMemory>) -> Result<(), AllocError> {
+fn put_kept(out: &mut Line, kept: &Result<Step, NoMemory>) {
     match kept {
         Ok(Step::Announce { nlri, route, .. }) => {
-            let med = route.med;
-            put_nlri(out, nlri)?;
-            write!(out, " {med:?}")
+            out.put_nlri(nlri);
+            out.show(" ", &route.med);
         }
-        Ok(_) => out.push_str("other"),
-        Err(_) => Err(AllocError),
+        Ok(_) => out.put("other"),
+        Err(_) => out.fail(),
     }
 }
 
 // The step that is kept of an announcement.
-fn put_step(out: &mut String, step: &Result<Step, NoMemory>) -> Result<(), AllocError> {
-    match step {
-        Ok(step) => put_kept_step(out, &step.keep()),
-        Err(_) => Err(AllocError),
-    }
-}
-
-fn keep(alloc: Global, out: &mut String, prefix: &str, med: &str) -> Result<(), AllocError> {
-    match nlri_of(prefix, "-") {
-        Some(nlri) => put_step(out, &announced(alloc, nlri, number_of(med))),
-        None => out.push_str("no prefix"),
-    }
-}
-
-// What the call answers; false where the case has another word.
-pub(crate) fn answer(alloc: Global, out: &mut String, words: &[&str]) -> Result<bool, AllocError> {
-    let ["keep", prefix, med] = words else {
-        return Ok(false);
+fn put_step(out: &mut Line, nlri: Nlri, route: Route) {
+    let step = Step::Announce {
+        key: peer(),
+        view: View::InPre,
+        nlri,
+        route,
     };
-    keep(alloc, out, prefix, med)?;
-    Ok(true)
+    let kept = step.keep();
+    put_kept(out, &kept);
+}
+
+fn put_announced(out: &mut Line, nlri: Nlri, med: u32) {
+    match route(out.alloc, med) {
+        Some(route) => put_step(out, nlri, route),
+        None => out.fail(),
+    }
+}
+
+pub(crate) fn keep(out: &mut Line, words: &[&str]) {
+    match nlri_at(words, 1, 3) {
+        Some(nlri) => put_announced(out, nlri, number_at(words, 2)),
+        None => out.put("no prefix"),
+    }
 }

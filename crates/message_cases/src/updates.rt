@@ -1,15 +1,14 @@
 //! Bodies of UPDATE messages. Prefixes with `-` are withdrawn, those with `+` stand in the NLRI and those with `*` in
 //! MP_REACH_NLRI.
-use crate::words::{bytes_of, put_nlri, width_of};
+use crate::words::{Line, at, bytes_at, prefix_at, width_at};
 use bgp_update::{
     FramedUpdate, IdUse, NlriList, Update, UpdateReader, contained_routes, fits_family,
     frame_update, read_update,
 };
-use ip_prefix::{Family, Nlri, Prefix, parse_prefix};
+use ip_prefix::{Family, Nlri, Prefix};
 use path_attrs::{Attrs, Width};
-use std::alloc::{AllocError, Global};
 use std::sync::Arc;
-use wire_io::{BodyFault, NoMemory};
+use wire_io::BodyFault;
 
 // Where path identifiers are used: `ids` names both families, any other word none.
 fn ids_of(word: &str) -> IdUse {
@@ -17,12 +16,11 @@ fn ids_of(word: &str) -> IdUse {
     IdUse { v4: both, v6: both }
 }
 
-fn put_list(out: &mut String, sign: &str, list: &NlriList) -> Result<(), AllocError> {
+fn put_list(out: &mut Line, sign: &str, list: &NlriList) {
     for nlri in list.as_slice() {
-        out.push_str(sign)?;
-        put_nlri(out, nlri)?;
+        out.put(sign);
+        out.put_nlri(nlri);
     }
-    Ok(())
 }
 
 fn mark_of(update: &Update) -> &'static str {
@@ -41,102 +39,119 @@ fn hop_size(attrs: &Attrs) -> Option<usize> {
 }
 
 // The sizes of the next hops of both kinds of routes.
-fn put_hops(out: &mut String, update: &Update) -> Result<(), AllocError> {
-    let (plain, multi) = (hop_size(&update.plain_attrs), hop_size(&update.multi_attrs));
-    write!(out, "hops={plain:?},{multi:?}")
+fn put_hops(out: &mut Line, update: &Update) {
+    out.show("hops=", &hop_size(&update.plain_attrs));
+    out.show(",", &hop_size(&update.multi_attrs));
 }
 
 // What an UPDATE says, and the sizes of its two next hops.
-fn put_update(out: &mut String, update: &Update) -> Result<(), AllocError> {
-    put_list(out, "-", &update.withdrawn)?;
-    put_list(out, "+", &update.plain)?;
-    put_list(out, "*", &update.multi)?;
-    out.push_str(mark_of(update))?;
-    let unread = update.unread;
-    write!(out, " unread={unread} ")?;
-    put_hops(out, update)
+fn put_update(out: &mut Line, update: &Update) {
+    put_list(out, "-", &update.withdrawn);
+    put_list(out, "+", &update.plain);
+    put_list(out, "*", &update.multi);
+    out.put(mark_of(update));
+    out.show(" unread=", &update.unread);
+    out.put(" ");
+    put_hops(out, update);
 }
 
-fn put_read(out: &mut String, read: &Result<Update, BodyFault>) -> Result<(), AllocError> {
+fn put_read(out: &mut Line, read: &Result<Update, BodyFault>) {
     match read {
         Ok(update) => put_update(out, update),
-        Err(fault) => write!(out, "{fault:?}"),
+        Err(fault) => out.show("", fault),
     }
 }
 
-fn put_shares(out: &mut String, update: &Update) -> Result<(), AllocError> {
-    put_hops(out, update)?;
-    let shares = Arc::strong_count(&update.plain_attrs);
-    write!(out, " {shares}")
+fn put_after(out: &mut Line, reader: &mut UpdateReader, words: &[&str], body: &[u8]) {
+    let read = reader.read(body, width_at(words, 1), ids_of(at(words, 2)));
+    put_read(out, &read);
 }
 
-fn put_shares_of(out: &mut String, read: &Result<Update, BodyFault>) -> Result<(), AllocError> {
+// What the reader of all cases answers, after those that it has read.
+pub(crate) fn after(out: &mut Line, reader: &mut UpdateReader, words: &[&str]) {
+    let body = bytes_at(out.alloc, words, 3);
+    put_after(out, reader, words, body.as_slice());
+}
+
+// The sizes of both next hops, and how many shares the attributes have.
+fn put_shares(out: &mut Line, read: &Result<Update, BodyFault>) {
     match read {
-        Ok(update) => put_shares(out, update),
-        Err(fault) => write!(out, "{fault:?}"),
+        Ok(update) => {
+            put_hops(out, update);
+            out.show(" ", &Arc::strong_count(&update.plain_attrs));
+        }
+        Err(fault) => out.show("", fault),
     }
 }
 
-// The sizes of both next hops of an UPDATE, and how many shares its attributes have.
-fn shares(alloc: Global, out: &mut String, hex: &str) -> Result<(), AllocError> {
-    let body = bytes_of(alloc, hex);
-    let read = read_update(alloc, body.as_slice(), Width::Four, ids_of("-"));
-    put_shares_of(out, &read)
+fn put_shares_once(out: &mut Line, body: &[u8]) {
+    let read = read_update(out.alloc, body, Width::Four, ids_of(""));
+    put_shares(out, &read);
 }
 
-// The same of what a reader has read, and of what it reads again.
-fn put_second(
-    out: &mut String,
-    reader: &mut UpdateReader,
-    body: &[u8],
-    first: &Result<Update, BodyFault>,
-) -> Result<(), AllocError> {
-    put_shares_of(out, first)?;
-    out.push_str(" ")?;
-    let second = reader.read(body, Width::Four, ids_of("-"));
-    put_shares_of(out, &second)
+pub(crate) fn shares(out: &mut Line, words: &[&str]) {
+    let body = bytes_at(out.alloc, words, 1);
+    put_shares_once(out, body.as_slice());
 }
 
-fn put_twice(out: &mut String, reader: &mut UpdateReader, body: &[u8]) -> Result<(), AllocError> {
-    let first = reader.read(body, Width::Four, ids_of("-"));
-    put_second(out, reader, body, &first)
+fn put_shares_by(out: &mut Line, reader: &mut UpdateReader, body: &[u8]) {
+    let read = reader.read(body, Width::Four, ids_of(""));
+    put_shares(out, &read);
 }
 
-fn shares_read_twice(alloc: Global, out: &mut String, hex: &str) -> Result<(), AllocError> {
-    let body = bytes_of(alloc, hex);
-    let mut reader = UpdateReader::new(alloc);
-    put_twice(out, &mut reader, body.as_slice())
+// The same of what a reader has read, and of what it reads again while that stands.
+fn put_twice(out: &mut Line, reader: &mut UpdateReader, body: &[u8]) {
+    let first = reader.read(body, Width::Four, ids_of(""));
+    put_shares(out, &first);
+    out.put(" ");
+    put_shares_by(out, reader, body);
+}
+
+pub(crate) fn shares_read_twice(out: &mut Line, words: &[&str]) {
+    let body = bytes_at(out.alloc, words, 1);
+    let mut reader = UpdateReader::new(out.alloc);
+    put_twice(out, &mut reader, body.as_slice());
+}
+
+fn put_fit(out: &mut Line, framed: &FramedUpdate<'_>, has_ids: bool, text: &str) {
+    if fits_family(framed, Family::V4, has_ids) {
+        out.put(text);
+    }
 }
 
 // Which lists of IPv4 fit, without path identifiers and with them, and what the frame contains.
-fn put_framed(
-    alloc: Global,
-    out: &mut String,
-    framed: &FramedUpdate<'_>,
-    ids: IdUse,
-) -> Result<(), AllocError> {
-    if fits_family(framed, Family::V4, false) {
-        out.push_str("bare ")?;
-    }
-    if fits_family(framed, Family::V4, true) {
-        out.push_str("identified ")?;
-    }
-    match contained_routes(alloc, framed, ids) {
+fn put_framed(out: &mut Line, framed: &FramedUpdate<'_>, ids: IdUse) {
+    put_fit(out, framed, false, "bare ");
+    put_fit(out, framed, true, "identified ");
+    match contained_routes(out.alloc, framed, ids) {
         Ok(routes) => put_list(out, "-", &routes),
-        Err(_) => Err(AllocError),
+        Err(_) => out.fail(),
     }
 }
 
-fn framed(alloc: Global, out: &mut String, ids: &str, hex: &str) -> Result<(), AllocError> {
-    let body = bytes_of(alloc, hex);
-    match frame_update(body.as_slice()) {
-        Some(framed) => put_framed(alloc, out, &framed, ids_of(ids)),
-        None => out.push_str("none"),
+fn put_frame(out: &mut Line, body: &[u8], ids: IdUse) {
+    match frame_update(body) {
+        Some(framed) => put_framed(out, &framed, ids),
+        None => out.put("none"),
     }
 }
 
-// A list of the prefix without a path identifier, and with the identifier 7.
-fn two_of(alloc: Global, prefix: Prefix) -> Result<NlriList, NoMemory> {
+pub(crate) fn framed(out: &mut Line, words: &[&str]) {
+    let body = bytes_at(out.alloc, words, 2);
+    put_frame(out, body.as_slice(), ids_of(at(words, 1)));
+}
+
+// The last item of a list, and how many are left without it.
+fn put_last(out: &mut Line, list: &mut NlriList) {
+    if let Some(nlri) = list.pop() {
+        out.put_nlri(&nlri);
+    }
+    let left = list.as_slice().len();
+    out.show(" ", &left);
+}
+
+// Of the prefix without a path identifier, and with the identifier 7.
+fn put_last_of_two(out: &mut Line, prefix: Prefix) {
     let nlris = [
         Nlri { prefix, id: None },
         Nlri {
@@ -144,68 +159,15 @@ fn two_of(alloc: Global, prefix: Prefix) -> Result<NlriList, NoMemory> {
             id: Some(7),
         },
     ];
-    NlriList::from_slice(alloc, &nlris)
-}
-
-// The last item of the list, and how many are left without it.
-fn put_last(out: &mut String, list: &mut NlriList) -> Result<(), AllocError> {
-    if let Some(nlri) = list.pop() {
-        put_nlri(out, &nlri)?;
-    }
-    let left = list.as_slice().len();
-    write!(out, " {left}")
-}
-
-fn last(alloc: Global, out: &mut String, text: &str) -> Result<(), AllocError> {
-    match parse_prefix(text.as_bytes()) {
-        Some(prefix) => match two_of(alloc, prefix) {
-            Ok(mut list) => put_last(out, &mut list),
-            Err(_) => Err(AllocError),
-        },
-        None => out.push_str("no prefix"),
+    match NlriList::from_slice(out.alloc, &nlris) {
+        Ok(mut list) => put_last(out, &mut list),
+        Err(_) => out.fail(),
     }
 }
 
-// What one of these calls answers; false where the case has none of their words.
-pub(crate) fn answer(alloc: Global, out: &mut String, words: &[&str]) -> Result<bool, AllocError> {
-    let done = match words {
-        ["shares", hex] => shares(alloc, out, hex),
-        ["shares-read-twice", hex] => shares_read_twice(alloc, out, hex),
-        ["frame", ids, hex] => framed(alloc, out, ids, hex),
-        ["last", text] => last(alloc, out, text),
-        _ => return Ok(false),
-    };
-    done?;
-    Ok(true)
-}
-
-fn after(
-    alloc: Global,
-    out: &mut String,
-    reader: &mut UpdateReader,
-    form: [&str; 2],
-    hex: &str,
-) -> Result<(), AllocError> {
-    let [width, ids] = form;
-    let body = bytes_of(alloc, hex);
-    put_read(
-        out,
-        &reader.read(body.as_slice(), width_of(width), ids_of(ids)),
-    )
-}
-
-// What the reader of all cases answers, after those that it has read; false where the case has another word.
-pub(crate) fn answer_after(
-    alloc: Global,
-    out: &mut String,
-    reader: &mut UpdateReader,
-    words: &[&str],
-) -> Result<bool, AllocError> {
-    match words {
-        ["after", width, ids, hex] => {
-            after(alloc, out, reader, [*width, *ids], hex)?;
-            Ok(true)
-        }
-        _ => Ok(false),
+pub(crate) fn last(out: &mut Line, words: &[&str]) {
+    match prefix_at(words, 1) {
+        Some(prefix) => put_last_of_two(out, prefix),
+        None => out.put("no prefix"),
     }
 }

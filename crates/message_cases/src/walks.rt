@@ -2,11 +2,11 @@
 ghost use Rattle.std.specs.Prelude.{◌≡◌, ◌+◌, ◌≤◌, length, IfOk};
 ghost use Rattle.bmp_message.specs.StreamWalk.{Advances, fed_of};
 
-use crate::words::bytes_of;
+use crate::words::{Line, bytes_at};
 use bmp_message::{Entries, Judged, Judgements, Progress, Reading, StreamWalk};
 use bmp_specs::Why;
 use rib_model::Entry;
-use std::alloc::{AllocError, Global};
+use std::alloc::Global;
 use wire_io::NoMemory;
 
 // The next message, as the one or the other reading gives it. An entry that is no message would be one of type 0 and
@@ -73,33 +73,30 @@ fn take(
 
 // What a walk gave: its messages, the offset, the rest and the end.
 fn put_walked(
-    out: &mut String,
+    out: &mut Line,
     walk: &StreamWalk<Reading>,
     messages: &[(u8, u32)],
     end: Result<&'static str, NoMemory>,
-) -> Result<(), AllocError> {
+) {
     for message in messages {
         let (kind, length) = *message;
-        write!(out, "{kind} {length};")?;
+        out.show("", &kind);
+        out.show(" ", &length);
+        out.put(";");
     }
-    let (offset, rest) = (walk.offset(), walk.rest());
-    write!(out, " {offset} {rest} {end:?}")
+    out.show(" ", &walk.offset());
+    out.show(" ", &walk.rest());
+    out.show(" ", &end);
 }
 
 // The walk of a stream in two pieces.
-fn walked(
-    alloc: Global,
-    out: &mut String,
-    calls: [bool; 2],
-    first: &[u8],
-    second: &[u8],
-) -> Result<(), AllocError>
+fn put_two(out: &mut Line, calls: [bool; 2], first: &[u8], second: &[u8])
     requires { length first.now + length second.now ≤ 1000 }
 {
-    let mut messages = Vec::new(alloc);
-    let mut walk: StreamWalk<Reading> = StreamWalk::new(alloc);
+    let mut messages = Vec::new(out.alloc);
+    let mut walk: StreamWalk<Reading> = StreamWalk::new(out.alloc);
     let end = take(&mut walk, calls, first, second, &mut messages);
-    put_walked(out, &walk, messages.as_slice(), end)
+    put_walked(out, &walk, messages.as_slice(), end);
 }
 
 // Whether the walk of a stream in these two pieces gives something else.
@@ -108,60 +105,48 @@ fn is_other(
     calls: [bool; 2],
     first: &[u8],
     second: &[u8],
-    whole: &str,
-) -> Result<bool, AllocError>
+    whole: Option<&str>,
+) -> bool
     requires { length first.now + length second.now ≤ 1000 }
 {
-    let mut seen = String::new(alloc);
-    walked(alloc, &mut seen, calls, first, second)?;
-    Ok(seen.as_str() != whole)
+    let mut seen = Line::new(alloc);
+    put_two(&mut seen, calls, first, second);
+    seen.text() != whole
 }
 
 // How many of the ways to walk the stream in these two pieces give something else.
-fn others_at(alloc: Global, first: &[u8], second: &[u8], whole: &str) -> Result<u64, AllocError>
+fn others_at(alloc: Global, first: &[u8], second: &[u8], whole: Option<&str>) -> u64
     requires { length first.now + length second.now ≤ 1000 }
 {
     let mut others = 0u64;
     for calls in [[false, false], [true, true], [false, true]] {
-        if is_other(alloc, calls, first, second, whole)? {
-            others = others.saturating_add(1);
-        }
+        others = others.saturating_add(is_other(alloc, calls, first, second, whole) as u64);
     }
-    Ok(others)
+    others
 }
 
 // How many ways to walk the stream in two pieces give something else.
-fn others(alloc: Global, stream: &[u8], whole: &str) -> Result<u64, AllocError>
+fn others(alloc: Global, stream: &[u8], whole: Option<&str>) -> u64
     requires { length stream.now ≤ 1000 }
 {
     let mut others = 0u64;
     for place in 0..stream.len() + 1 {
         let (first, second) = stream.split_at(place);
-        others = others.saturating_add(others_at(alloc, first, second, whole)?);
+        others = others.saturating_add(others_at(alloc, first, second, whole));
     }
-    Ok(others)
+    others
 }
 
 // What a walk gives of a stream, and how many of the others of it give something else.
-fn put_walks(alloc: Global, out: &mut String, stream: &[u8]) -> Result<(), AllocError>
+fn put_walks(out: &mut Line, stream: &[u8])
     requires { length stream.now ≤ 1000 }
 {
-    walked(alloc, out, [false, false], stream, &[])?;
-    let others = others(alloc, stream, out.as_str())?;
-    write!(out, " {others}")
+    put_two(out, [false, false], stream, &[]);
+    let others = others(out.alloc, stream, out.text());
+    out.show(" ", &others);
 }
 
-fn walk(alloc: Global, out: &mut String, hex: &str) -> Result<(), AllocError> {
-    let stream = bytes_of(alloc, hex);
-    put_walks(alloc, out, stream.as_slice())
-}
-
-// What one of these calls answers; false where the case has none of their words.
-pub(crate) fn answer(alloc: Global, out: &mut String, words: &[&str]) -> Result<bool, AllocError> {
-    let done = match words {
-        ["walk", hex] => walk(alloc, out, hex),
-        _ => return Ok(false),
-    };
-    done?;
-    Ok(true)
+pub(crate) fn walk(out: &mut Line, words: &[&str]) {
+    let stream = bytes_at(out.alloc, words, 1);
+    put_walks(out, stream.as_slice());
 }

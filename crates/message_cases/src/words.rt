@@ -1,15 +1,110 @@
-//! The words of a case, and the texts of an answer.
+//! The words of a case, and the line that it prints.
 ghost use Rattle.std.specs.Prelude.{◌≤◌, length};
 
 use bmp_specs::Width;
-use ip_prefix::{Nlri, ShortText, parse_number, parse_prefix};
-use std::alloc::{AllocError, Global};
+use ip_prefix::{Addr, Family, Nlri, Prefix, ShortText, parse_addr, parse_number, parse_prefix};
+use std::alloc::Global;
+use std::fmt::Debug;
+
+// The line of a case. Where there is no memory for a piece of it, it has failed, and isn't printed.
+#[derive(Drop)]
+pub(crate) struct Line {
+    pub(crate) alloc: Global,
+    text: String,
+    has_failed: bool,
+}
+
+impl Line {
+    pub(crate) fn new(alloc: Global) -> Line {
+        Line {
+            alloc,
+            text: String::new(alloc),
+            has_failed: false,
+        }
+    }
+
+    // The text, or none where the line has failed.
+    pub(crate) fn text(&self) -> Option<&str> {
+        if self.has_failed {
+            None
+        } else {
+            Some(self.text.as_str())
+        }
+    }
+
+    pub(crate) fn fail(&mut self) {
+        self.has_failed = true;
+    }
+
+    pub(crate) fn put(&mut self, text: &str) {
+        if self.text.push_str(text).is_err() {
+            self.fail();
+        }
+    }
+
+    // A text, and behind it a value.
+    pub(crate) fn show<D: Debug>(&mut self, text: &str, value: &D) {
+        self.put(text);
+        if write!(self.text, "{value:?}").is_err() {
+            self.fail();
+        }
+    }
+
+    // Bytes that are a text; where they are no UTF-8, nothing.
+    pub(crate) fn put_text(&mut self, bytes: &[u8]) {
+        self.put(str::from_utf8(bytes).unwrap_or(""));
+    }
+
+    // The text of an address, a prefix, a peer or a view.
+    pub(crate) fn put_short(&mut self, text: &ShortText) {
+        self.put_text(text.as_slice());
+    }
+
+    // Bytes in hexadecimal.
+    pub(crate) fn put_hex(&mut self, bytes: &[u8]) {
+        match hex::encode(self.alloc, bytes) {
+            Ok(text) => self.put(text.as_str()),
+            Err(_) => self.fail(),
+        }
+    }
+
+    // A prefix, with `#` before its path identifier.
+    pub(crate) fn put_nlri(&mut self, nlri: &Nlri) {
+        self.put_short(&nlri.prefix.text());
+        if let Some(id) = nlri.id {
+            self.show("#", &id);
+        }
+    }
+
+    // Whether something is so; `-` where it is neither.
+    pub(crate) fn put_truth(&mut self, truth: Option<bool>) {
+        match truth {
+            Some(true) => self.put("true"),
+            Some(false) => self.put("false"),
+            None => self.put("-"),
+        }
+    }
+}
+
+// The word at a place, counted from that of the call; where there is none, an empty one.
+pub(crate) fn at<'a>(words: &[&'a str], place: usize) -> &'a str {
+    match words.get(place) {
+        Some(word) => *word,
+        None => "",
+    }
+}
+
+// The words behind so many others.
+pub(crate) fn behind<'a>(words: &'a [&'a str], count: usize) -> &'a [&'a str] {
+    let (_, behind) = words.split_at(count.min(words.len()));
+    behind
+}
 
 // The bytes of a word in hexadecimal, up to 1000 of them; of any other word there are none.
-pub(crate) fn bytes_of(alloc: Global, word: &str) -> Vec<u8>
+pub(crate) fn bytes_at(alloc: Global, words: &[&str], place: usize) -> Vec<u8>
     ensures { length result.items ≤ 1000 }
 {
-    match hex::decode(alloc, word) {
+    match hex::decode(alloc, at(words, place)) {
         Ok(bytes) => {
             if bytes.len() <= 1000 {
                 bytes
@@ -26,47 +121,48 @@ pub(crate) fn number_of(word: &str) -> u32 {
     parse_number(word.as_bytes()).unwrap_or(0)
 }
 
+pub(crate) fn number_at(words: &[&str], place: usize) -> u32 {
+    number_of(at(words, place))
+}
+
 // The octet that a word is; of any other word 0.
-pub(crate) fn octet_of(word: &str) -> u8 {
-    word.parse::<u8>().unwrap_or(0)
+pub(crate) fn octet_at(words: &[&str], place: usize) -> u8 {
+    at(words, place).parse::<u8>().unwrap_or(0)
 }
 
 // The width of AS numbers that a word names: `4`, or two octets.
-pub(crate) fn width_of(word: &str) -> Width {
-    if word == "4" { Width::Four } else { Width::Two }
-}
-
-// A prefix and its path identifier; by any other word than a number there is no identifier.
-pub(crate) fn nlri_of(prefix: &str, id: &str) -> Option<Nlri> {
-    let prefix = parse_prefix(prefix.as_bytes())?;
-    let id = parse_number(id.as_bytes());
-    Some(Nlri { prefix, id })
-}
-
-// Bytes in hexadecimal.
-pub(crate) fn put_hex(alloc: Global, out: &mut String, bytes: &[u8]) -> Result<(), AllocError> {
-    let text = hex::encode(alloc, bytes)?;
-    out.push_str(text.as_str())
-}
-
-// Bytes that are a text; where they are no UTF-8, nothing.
-pub(crate) fn put_text(out: &mut String, bytes: &[u8]) -> Result<(), AllocError> {
-    match str::from_utf8(bytes) {
-        Ok(text) => out.push_str(text),
-        Err(_) => Ok(()),
+pub(crate) fn width_at(words: &[&str], place: usize) -> Width {
+    if at(words, place) == "4" {
+        Width::Four
+    } else {
+        Width::Two
     }
 }
 
-// The text of an address, a prefix, a peer or a view.
-pub(crate) fn put(out: &mut String, text: &ShortText) -> Result<(), AllocError> {
-    put_text(out, text.as_slice())
+// The family that a word names: `6`, or IPv4.
+pub(crate) fn family_at(words: &[&str], place: usize) -> Family {
+    if at(words, place) == "6" {
+        Family::V6
+    } else {
+        Family::V4
+    }
 }
 
-// A prefix, with `#` before its path identifier.
-pub(crate) fn put_nlri(out: &mut String, nlri: &Nlri) -> Result<(), AllocError> {
-    put(out, &nlri.prefix.text())?;
-    match nlri.id {
-        Some(id) => write!(out, "#{id}"),
-        None => Ok(()),
+pub(crate) fn addr_at(words: &[&str], place: usize) -> Option<Addr> {
+    parse_addr(at(words, place).as_bytes())
+}
+
+pub(crate) fn prefix_at(words: &[&str], place: usize) -> Option<Prefix> {
+    parse_prefix(at(words, place).as_bytes())
+}
+
+// A prefix, and its path identifier in another word; by any other word than a number there is no identifier.
+pub(crate) fn nlri_at(words: &[&str], place: usize, id: usize) -> Option<Nlri> {
+    match prefix_at(words, place) {
+        Some(prefix) => Some(Nlri {
+            prefix,
+            id: parse_number(at(words, id).as_bytes()),
+        }),
+        None => None,
     }
 }

@@ -6,7 +6,7 @@ ghost use Rattle.bmp_specs.specs.Query.{quit};
 ghost use Rattle.query_lang.specs.Queries.{query_value};
 
 use crate::sessions::take_all;
-use crate::{long_of, number_of, put_bytes, rest_of};
+use crate::words::{Line, at, long_at, number_at};
 use cut_publisher::{Cut, CutLane};
 use ip_prefix::{Prefix, parse_prefix};
 use query_eval::answer as answer_query;
@@ -15,9 +15,9 @@ use recent_ring::Recent;
 use rib_model::Step;
 use route_watch::{missed, poll};
 use router_tables::RouterTables;
-use std::alloc::{AllocError, Global};
+use std::alloc::Global;
 use std::sync::Arc;
-use wire_io::{MemSink, NoMemory};
+use wire_io::MemSink;
 
 // The tables of the entries of a text.
 fn tables_of(alloc: Global, texts: &str) -> Option<RouterTables> {
@@ -33,48 +33,57 @@ fn tables_of(alloc: Global, texts: &str) -> Option<RouterTables> {
     }
 }
 
+fn shared(alloc: Global, texts: &str) -> Option<Arc<RouterTables>> {
+    match tables_of(alloc, texts) {
+        Some(tables) => Arc::new(alloc, tables).ok(),
+        None => None,
+    }
+}
+
 // A lane of these entries.
 fn lane_of(alloc: Global, texts: &str) -> Option<CutLane<RouterTables>>
     ensures { IfSome result (λ lane. lane.1 ≤ 1000) }
 {
     let count = texts.split(' ').count().min(1000) as u64;
-    match tables_of(alloc, texts) {
-        Some(tables) => match Arc::new(alloc, tables) {
-            Ok(value) => Some(CutLane { value, count }),
-            Err(_) => None,
-        },
+    match shared(alloc, texts) {
+        Some(value) => Some(CutLane { value, count }),
+        None => None,
+    }
+}
+
+fn cut_with(alloc: Global, first: CutLane<RouterTables>, second: &str) -> Option<Cut<RouterTables>>
+    requires { first.1 ≤ 1000 }
+{
+    match lane_of(alloc, second) {
+        Some(second) => Cut::of(alloc, &[first, second]).ok(),
         None => None,
     }
 }
 
 // The cut of two lanes.
 fn cut_of(alloc: Global, first: &str, second: &str) -> Option<Cut<RouterTables>> {
-    match (lane_of(alloc, first), lane_of(alloc, second)) {
-        (Some(first), Some(second)) => Cut::of(alloc, &[first, second]).ok(),
-        _ => None,
+    match lane_of(alloc, first) {
+        Some(first) => cut_with(alloc, first, second),
+        None => None,
     }
 }
 
-fn put_cut(out: &mut String, cut: &Option<Cut<RouterTables>>) -> Result<(), AllocError> {
+fn put_cut(out: &mut Line, cut: &Option<Cut<RouterTables>>) {
     match cut {
         Some(cut) => {
-            let (rev, lanes) = (cut.rev(), cut.lanes());
-            write!(out, "{rev} {lanes}")
+            out.show("", &cut.rev());
+            out.show(" ", &cut.lanes());
         }
-        None => out.push_str("no cut"),
+        None => out.put("no cut"),
     }
 }
 
 // Puts the cut of two lanes in the place of the one before.
-fn lanes(
-    alloc: Global,
-    out: &mut String,
-    cut: &mut Option<Cut<RouterTables>>,
-    first: &str,
-    second: &str,
-) -> Result<(), AllocError> {
-    *cut = cut_of(alloc, first, second);
-    put_cut(out, cut)
+pub(crate) fn lanes(out: &mut Line, cut: &mut Option<Cut<RouterTables>>, texts: &str) {
+    if let Some((first, second)) = texts.split_once(" / ") {
+        *cut = cut_of(out.alloc, first, second);
+    }
+    put_cut(out, cut);
 }
 
 // Whether it is the end of a session, which has no reply.
@@ -88,107 +97,57 @@ fn is_quit(query: &Query) -> bool
 }
 
 // The reply of a query, and then what the call answers.
-fn put_reply(
-    out: &mut String,
-    cut: &Cut<RouterTables>,
-    query: &Query,
-    sink: &mut MemSink,
-) -> Result<(), AllocError> {
+fn put_reply(out: &mut Line, cut: &Cut<RouterTables>, query: &Query, sink: &mut MemSink) {
     if is_quit(query) {
-        return out.push_str("quit");
+        out.put("quit");
+    } else {
+        let answered = answer_query(cut, query, sink);
+        out.put_text(sink.taken());
+        out.show("", &answered);
     }
-    let answered = answer_query(cut, query, sink);
-    put_bytes(out, sink.taken())?;
-    write!(out, "{answered:?}")
 }
 
-fn reply(
-    out: &mut String,
-    cut: &Cut<RouterTables>,
-    query: &Query,
-    sink: &mut Result<MemSink, NoMemory>,
-) -> Result<(), AllocError> {
-    match sink {
-        Ok(sink) => put_reply(out, cut, query, sink),
-        Err(_) => Err(AllocError),
+fn reply(out: &mut Line, cut: &Cut<RouterTables>, query: &Query, fails: &[u64]) {
+    match MemSink::new(out.alloc, 4096, fails) {
+        Ok(mut sink) => put_reply(out, cut, query, &mut sink),
+        Err(_) => out.fail(),
     }
 }
 
 // What is answered to a line, where the writes with these numbers fail.
-fn ask(
-    alloc: Global,
-    out: &mut String,
-    cut: &Option<Cut<RouterTables>>,
-    line: &str,
-    fails: &[u64],
-) -> Result<(), AllocError> {
+pub(crate) fn ask(out: &mut Line, cut: &Option<Cut<RouterTables>>, line: &str, fails: &[u64]) {
     match (cut, parse(line.as_bytes())) {
-        (Some(cut), Some(query)) => {
-            reply(out, cut, &query, &mut MemSink::new(alloc, 4096, fails))
-        }
-        _ => out.push_str("-"),
+        (Some(cut), Some(query)) => reply(out, cut, &query, fails),
+        _ => out.put("-"),
     }
 }
 
 // How many steps are missed from a number on, and the numbers of the first changes of a prefix.
-fn put_changes(
-    out: &mut String,
-    recent: &Recent<Step>,
-    from: u64,
-    prefix: &Prefix,
-) -> Result<(), AllocError> {
-    let missed = missed(recent, from);
-    write!(out, "{missed}")?;
+fn put_changes(out: &mut Line, recent: &Recent<Step>, from: u64, prefix: &Prefix) {
+    out.show("", &missed(recent, from));
     let mut next = from;
     for _ in 0..6 {
         if let Some((number, _)) = poll(recent, next, prefix) {
-            write!(out, " {number}")?;
+            out.show(" ", &number);
             next = number.saturating_add(1);
         } else {
             break;
         }
     }
-    Ok(())
 }
 
-fn changes(
-    out: &mut String,
-    cut: &Option<Cut<RouterTables>>,
-    lane: u32,
-    from: u64,
-    prefix: &str,
-) -> Result<(), AllocError> {
-    match (cut, parse_prefix(prefix.as_bytes())) {
-        (Some(cut), Some(prefix)) => {
-            if lane < cut.lanes() {
-                put_changes(out, cut.value(lane).recent(), from, &prefix)
-            } else {
-                out.push_str("no lane")
-            }
-        }
-        _ => out.push_str("-"),
+fn put_changes_of(out: &mut Line, cut: &Cut<RouterTables>, words: &[&str], prefix: &Prefix) {
+    let lane = number_at(words, 1);
+    if lane < cut.lanes() {
+        put_changes(out, cut.value(lane).recent(), long_at(words, 2), prefix);
+    } else {
+        out.put("no lane");
     }
 }
 
-// What one of these calls answers; false where the case has none of their words.
-pub(crate) fn answer(
-    alloc: Global,
-    out: &mut String,
-    cut: &mut Option<Cut<RouterTables>>,
-    case: &str,
-    words: &[&str],
-) -> Result<bool, AllocError> {
-    match words {
-        ["lanes", ..] => match rest_of(case).split_once(" / ") {
-            Some((first, second)) => lanes(alloc, out, cut, first, second)?,
-            None => return Ok(false),
-        },
-        ["ask", ..] => ask(alloc, out, cut, rest_of(case), &[])?,
-        ["ask-failing", ..] => ask(alloc, out, cut, rest_of(case), &[0])?,
-        ["poll", lane, from, prefix] => {
-            changes(out, cut, number_of(lane), long_of(from), prefix)?
-        }
-        _ => return Ok(false),
+pub(crate) fn poll_changes(out: &mut Line, cut: &Option<Cut<RouterTables>>, words: &[&str]) {
+    match (cut, parse_prefix(at(words, 3).as_bytes())) {
+        (Some(cut), Some(prefix)) => put_changes_of(out, cut, words, &prefix),
+        _ => out.put("-"),
     }
-    Ok(true)
 }

@@ -1,41 +1,53 @@
 //! Entries: `open`, `close`, or the length of a message and its effects, with `;` between them. An effect is words
 //! with commas between them.
-
 use crate::routes::{nlris_of, route_at};
 use crate::states::{REMOTE_SILENT, info_of, list_of};
-use crate::{family_of, long_of, number_of, octet_of, peer_of, short_of, view_of};
+use crate::words::{
+    at, behind, family_at, long_at, number_at, octet_at, peer_at, short_at, view_at,
+};
 use bmp_specs::Cause;
+use ip_prefix::{Nlri, parse_number};
 use rib_model::{Effect, EffectList, Entry};
 use std::alloc::Global;
+use wire_io::List;
 use wire_tables::Stat;
 
-fn up(alloc: Global, peer: &str) -> Option<Effect> {
+fn up(alloc: Global, words: &[&str]) -> Option<Effect> {
     match info_of(alloc, false, None) {
         Some(info) => Some(Effect::Up {
-            key: peer_of(peer),
+            key: peer_at(words, 1),
             info,
         }),
         None => None,
     }
 }
 
-fn announce(alloc: Global, peer: &str, view: &str, prefixes: &str, hex: &str) -> Option<Effect> {
-    match (nlris_of(alloc, prefixes, 1), route_at(alloc, hex)) {
-        (Some(nlris), Some(route)) => Some(Effect::Announce {
-            key: peer_of(peer),
-            view: view_of(view),
+fn announce_all(alloc: Global, words: &[&str], nlris: List<Nlri>) -> Option<Effect> {
+    match route_at(alloc, words, 4) {
+        Some(route) => Some(Effect::Announce {
+            key: peer_at(words, 1),
+            view: view_at(words, 2),
             nlris,
             route,
         }),
-        _ => None,
+        None => None,
     }
 }
 
-fn withdraw(alloc: Global, peer: &str, view: &str, prefixes: &str, times: u32) -> Option<Effect> {
-    match nlris_of(alloc, prefixes, times) {
+fn announce(alloc: Global, words: &[&str]) -> Option<Effect> {
+    match nlris_of(alloc, at(words, 3), 1) {
+        Some(nlris) => announce_all(alloc, words, nlris),
+        None => None,
+    }
+}
+
+// Each prefix is withdrawn so many times, where a number says so, or once.
+fn withdraw(alloc: Global, words: &[&str]) -> Option<Effect> {
+    let times = parse_number(at(words, 4).as_bytes()).unwrap_or(1);
+    match nlris_of(alloc, at(words, 3), times) {
         Some(nlris) => Some(Effect::Withdraw {
-            key: peer_of(peer),
-            view: view_of(view),
+            key: peer_at(words, 1),
+            view: view_at(words, 2),
             nlris,
         }),
         None => None,
@@ -43,19 +55,18 @@ fn withdraw(alloc: Global, peer: &str, view: &str, prefixes: &str, times: u32) -
 }
 
 // The statistic of a code, a family and a value.
-pub(crate) fn stat_of(words: [&str; 4]) -> Stat {
-    let [code, afi, safi, value] = words;
+pub(crate) fn stat_of(words: &[&str]) -> Stat {
     Stat {
-        code: short_of(code),
-        afi: short_of(afi),
-        safi: octet_of(safi),
-        value: long_of(value),
+        code: short_at(words, 0),
+        afi: short_at(words, 1),
+        safi: octet_at(words, 2),
+        value: long_at(words, 3),
     }
 }
 
-fn told(alloc: Global, is_name: bool, text: &str) -> Option<Effect> {
-    match list_of(alloc, text.as_bytes()) {
-        Some(bytes) => Some(if is_name {
+fn told(alloc: Global, words: &[&str]) -> Option<Effect> {
+    match list_of(alloc, at(words, 1).as_bytes()) {
+        Some(bytes) => Some(if at(words, 0) == "name" {
             Effect::Name(bytes)
         } else {
             Effect::Descr(bytes)
@@ -64,68 +75,70 @@ fn told(alloc: Global, is_name: bool, text: &str) -> Option<Effect> {
     }
 }
 
-// An effect on a peer, or none where the words name none.
+// An effect on a peer.
 fn of_peer(alloc: Global, words: &[&str]) -> Option<Effect> {
-    match words {
-        ["up", peer] => up(alloc, peer),
-        ["down", peer] => Some(Effect::Down {
-            key: peer_of(peer),
+    match at(words, 0) {
+        "up" => up(alloc, words),
+        "down" => Some(Effect::Down {
+            key: peer_at(words, 1),
             info: REMOTE_SILENT,
         }),
-        ["mark", peer, view, family] => Some(Effect::Mark {
-            key: peer_of(peer),
-            view: view_of(view),
-            family: family_of(family),
+        "mark" => Some(Effect::Mark {
+            key: peer_at(words, 1),
+            view: view_at(words, 2),
+            family: family_at(words, 3),
         }),
-        ["stat", peer, code, afi, safi, value] => Some(Effect::Statistic {
-            key: peer_of(peer),
-            stat: stat_of([code, afi, safi, value]),
+        "stat" => Some(Effect::Statistic {
+            key: peer_at(words, 1),
+            stat: stat_of(behind(words, 2)),
         }),
-        _ => None,
+        _ => of_routes(alloc, words),
     }
 }
 
 // An effect on routes or on the router, or none where the words name none.
 fn of_routes(alloc: Global, words: &[&str]) -> Option<Effect> {
-    match words {
-        ["announce", peer, view, prefixes, hex] => announce(alloc, peer, view, prefixes, hex),
-        ["withdraw", peer, view, prefixes] => withdraw(alloc, peer, view, prefixes, 1),
-        ["withdraw", peer, view, prefixes, times] => {
-            withdraw(alloc, peer, view, prefixes, number_of(times))
-        }
-        ["name", text] => told(alloc, true, text),
-        ["descr", text] => told(alloc, false, text),
-        ["orphan"] => Some(Effect::Orphan),
+    match at(words, 0) {
+        "announce" => announce(alloc, words),
+        "withdraw" => withdraw(alloc, words),
+        "name" => told(alloc, words),
+        "descr" => told(alloc, words),
+        "orphan" => Some(Effect::Orphan),
         _ => None,
+    }
+}
+
+fn effect_of(alloc: Global, text: &str) -> Option<Effect> {
+    match text.split(',').collect::<Vec<&str>>(alloc) {
+        Ok(words) => of_peer(alloc, words.as_slice()),
+        Err(_) => None,
     }
 }
 
 // Puts the effect of a text.
 fn put_effect(alloc: Global, effects: &mut EffectList, text: &str) -> bool {
-    let Ok(words) = text.split(',').collect::<Vec<&str>>(alloc) else {
-        return false;
-    };
-    let found = match of_peer(alloc, words.as_slice()) {
-        Some(effect) => Some(effect),
-        None => of_routes(alloc, words.as_slice()),
-    };
-    match found {
+    match effect_of(alloc, text) {
         Some(effect) => effects.push(effect).is_ok(),
         None => false,
     }
 }
 
+// Puts the effects of a text.
+fn put_effects(alloc: Global, effects: &mut EffectList, texts: &str) -> bool {
+    let mut is_well = true;
+    for text in texts.split(';') {
+        is_well = is_well && put_effect(alloc, effects, text);
+    }
+    is_well
+}
+
 // The message of a length and its effects.
 fn message(alloc: Global, length: &str, texts: &str) -> Option<Entry> {
     let mut effects = EffectList::new(alloc);
-    let mut is_well = true;
-    for text in texts.split(';') {
-        is_well = is_well && put_effect(alloc, &mut effects, text);
-    }
-    if is_well {
+    if put_effects(alloc, &mut effects, texts) {
         Some(Entry::Message {
             kind: 0,
-            length: number_of(length),
+            length: number_at(&[length], 0),
             effects,
         })
     } else {
@@ -137,12 +150,10 @@ fn message(alloc: Global, length: &str, texts: &str) -> Option<Entry> {
 pub(crate) fn entry_of(alloc: Global, text: &str) -> Option<Entry> {
     match text.split_once(';') {
         Some((length, texts)) => message(alloc, length, texts),
-        None => {
-            if text == "open" {
-                Some(Entry::Opened)
-            } else {
-                Some(Entry::Closed(Cause::Ended))
-            }
-        }
+        None => Some(if text == "open" {
+            Entry::Opened
+        } else {
+            Entry::Closed(Cause::Ended)
+        }),
     }
 }

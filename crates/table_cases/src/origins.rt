@@ -1,12 +1,12 @@
 //! Origin validation (RFC 6811): files of validated ROA payloads (VRPs), verdicts, and the origin AS of a route. In the
 //! text of a file `;` stands for a line feed, `^` for a carriage return and `~` for a byte order mark.
 
-use crate::rest_of;
 use crate::routes::route_at;
 use crate::states::info_of;
+use crate::words::{Line, at, behind, rest_of};
 use ip_prefix::{parse_number, parse_prefix};
+use path_attrs::Attrs;
 use rov_table::{Verdict, VrpFault, VrpTable, origin_of, verdict};
-use std::alloc::{AllocError, Global};
 
 // The character of a file that this one stands for.
 fn char_of(mark: char) -> char {
@@ -18,23 +18,23 @@ fn char_of(mark: char) -> char {
     }
 }
 
-fn file_of(alloc: Global, text: &str) -> Result<String, AllocError> {
-    let mut file = String::new(alloc);
+// Puts the text of a file; false where there is no memory.
+fn put_marks(file: &mut String, text: &str) -> bool {
+    let mut is_put = true;
     for mark in text.chars() {
-        file.push(char_of(mark))?;
+        is_put = file.push(char_of(mark)).is_ok() && is_put;
     }
-    Ok(file)
+    is_put
 }
 
-// The file of these VRPs, behind a heading.
-fn file_with(alloc: Global, vrps: &[&str]) -> Result<String, AllocError> {
-    let mut file = String::new(alloc);
-    file.push_str("ASN,IP Prefix,Max Length")?;
+// Puts these VRPs behind a heading; false where there is no memory.
+fn put_vrps(file: &mut String, vrps: &[&str]) -> bool {
+    let mut is_put = file.push_str("ASN,IP Prefix,Max Length").is_ok();
     for vrp in vrps {
-        file.push_str("\n")?;
-        file.push_str(vrp)?;
+        is_put = file.push_str("\n").is_ok() && is_put;
+        is_put = file.push_str(vrp).is_ok() && is_put;
     }
-    Ok(file)
+    is_put
 }
 
 fn word_of(found: Verdict) -> &'static str {
@@ -61,76 +61,72 @@ fn judged(table: &VrpTable, route: &str) -> &'static str {
     }
 }
 
-fn put_fault(out: &mut String, fault: VrpFault) -> Result<(), AllocError> {
+fn put_fault(out: &mut Line, fault: VrpFault) {
     match fault {
-        VrpFault::Bad { line } => write!(out, "bad {line}"),
-        VrpFault::NoMemory => Err(AllocError),
+        VrpFault::Bad { line } => out.show("bad ", &line),
+        VrpFault::NoMemory => out.fail(),
     }
 }
 
-// Writes that the file was read, and the verdicts on the routes between the `+`.
-fn put_judged(out: &mut String, table: &VrpTable, routes: &str) -> Result<(), AllocError> {
-    out.push_str("read")?;
+// Writes the verdicts on the routes between the `+`.
+fn put_judged(out: &mut Line, table: &VrpTable, routes: &str) {
+    out.put("read");
     for route in routes.split('+') {
-        out.push_str(" ")?;
-        out.push_str(judged(table, route))?;
+        out.put(" ");
+        out.put(judged(table, route));
     }
-    Ok(())
 }
 
-fn put_file(alloc: Global, out: &mut String, routes: &str, file: &str) -> Result<(), AllocError> {
-    match VrpTable::read(alloc, file.as_bytes()) {
+// Whether the file is read, and the verdicts.
+fn put_file(out: &mut Line, routes: &str, file: &str) {
+    match VrpTable::read(out.alloc, file.as_bytes()) {
         Ok(table) => put_judged(out, &table, routes),
         Err(fault) => put_fault(out, fault),
     }
 }
 
+pub(crate) fn vrp_file(out: &mut Line, case: &str, words: &[&str]) {
+    let mut file = String::new(out.alloc);
+    if !put_marks(&mut file, rest_of(rest_of(case))) {
+        out.fail();
+    }
+    put_file(out, at(words, 1), file.as_str());
+}
+
 // Writes the verdict of these VRPs on a route.
-fn put_verdict(
-    alloc: Global,
-    out: &mut String,
-    [prefix, origin]: [&str; 2],
-    file: &str,
-) -> Result<(), AllocError> {
-    match VrpTable::read(alloc, file.as_bytes()) {
-        Ok(table) => out.push_str(verdict_word(&table, prefix, origin)),
+fn put_verdict(out: &mut Line, words: &[&str], file: &str) {
+    match VrpTable::read(out.alloc, file.as_bytes()) {
+        Ok(table) => out.put(verdict_word(&table, at(words, 1), at(words, 2))),
         Err(fault) => put_fault(out, fault),
     }
 }
 
-fn put_number(out: &mut String, number: Option<u32>) -> Result<(), AllocError> {
+pub(crate) fn verdict_of(out: &mut Line, words: &[&str]) {
+    let mut file = String::new(out.alloc);
+    if !put_vrps(&mut file, behind(words, 3)) {
+        out.fail();
+    }
+    put_verdict(out, words, file.as_str());
+}
+
+fn put_number(out: &mut Line, number: Option<u32>) {
     match number {
-        Some(number) => write!(out, "{number}"),
-        None => out.push_str("none"),
+        Some(number) => out.show("", &number),
+        None => out.put("none"),
     }
 }
 
-// The origin of a route with these attributes, which a speaker of AS 64500 has.
-fn origin(alloc: Global, out: &mut String, attributes: &str) -> Result<(), AllocError> {
-    match (route_at(alloc, attributes), info_of(alloc, false, None)) {
-        (Some(route), Some(info)) => put_number(out, origin_of(&route, &info)),
-        _ => out.push_str("?"),
+// The origin of a route which a speaker of AS 64500 has.
+fn put_origin(out: &mut Line, route: &Attrs) {
+    match info_of(out.alloc, false, None) {
+        Some(info) => put_number(out, origin_of(route, &info)),
+        None => out.fail(),
     }
 }
 
-// What one of these calls answers; false where the case has none of their words.
-pub(crate) fn answer(
-    alloc: Global,
-    out: &mut String,
-    case: &str,
-    words: &[&str],
-) -> Result<bool, AllocError> {
-    match words {
-        ["vrp-file", routes, ..] => {
-            let file = file_of(alloc, rest_of(rest_of(case)))?;
-            put_file(alloc, out, routes, file.as_str())?
-        }
-        ["verdict", prefix, origin, vrps @ ..] => {
-            let file = file_with(alloc, vrps)?;
-            put_verdict(alloc, out, [*prefix, *origin], file.as_str())?
-        }
-        ["origin", attributes] => origin(alloc, out, attributes)?,
-        _ => return Ok(false),
+pub(crate) fn origin(out: &mut Line, words: &[&str]) {
+    match route_at(out.alloc, words, 1) {
+        Some(route) => put_origin(out, &route),
+        None => out.put("?"),
     }
-    Ok(true)
 }

@@ -1,46 +1,44 @@
 //! The peers of a session, and which of their tables are complete.
-
 use crate::states::{REMOTE_SILENT, info_of};
-use crate::{family_of, peer_of, view_of};
+use crate::words::{Line, at, behind, family_at, peer_at, view_at};
 use bmp_frames::{PeerKey, View};
 use bmp_specs::Family;
 use peer_book::{PeerBook, PeerState};
-use std::alloc::{AllocError, Global};
-use wire_io::NoMemory;
+use std::alloc::Global;
 
-fn up(alloc: Global, book: &mut PeerBook, peer: &str) -> bool {
+fn up(alloc: Global, book: &mut PeerBook, words: &[&str]) -> bool {
     match info_of(alloc, false, None) {
-        Some(info) => book.up(peer_of(peer), info).is_ok(),
+        Some(info) => book.up(peer_at(words, 1), info).is_ok(),
         None => false,
     }
 }
 
 // Does an act, and answers what it answers.
 fn act(alloc: Global, book: &mut PeerBook, words: &[&str]) -> bool {
-    match words {
-        ["up", peer] => up(alloc, book, peer),
-        ["down", peer] => book.down(peer_of(peer), REMOTE_SILENT).is_ok(),
-        ["mark", peer, view, family] => {
-            book.mark(&peer_of(peer), view_of(view), family_of(family))
-        }
-        _ => false,
+    match at(words, 0) {
+        "up" => up(alloc, book, words),
+        "down" => book.down(peer_at(words, 1), REMOTE_SILENT).is_ok(),
+        _ => book.mark(&peer_at(words, 1), view_at(words, 2), family_at(words, 3)),
     }
 }
 
-// Does the act of a text, and writes what it answers.
-fn take(
-    alloc: Global,
-    out: &mut String,
-    book: &mut PeerBook,
-    text: &str,
-) -> Result<(), AllocError> {
-    let words: Vec<&str> = text.split(',').collect(alloc)?;
-    let answered = act(alloc, book, words.as_slice());
-    write!(out, "{answered} ")
+// Does the act of a text, and answers what it answers.
+fn take(alloc: Global, book: &mut PeerBook, text: &str) -> bool {
+    match text.split(',').collect::<Vec<&str>>(alloc) {
+        Ok(words) => act(alloc, book, words.as_slice()),
+        Err(_) => false,
+    }
+}
+
+fn put_if_complete(out: &mut Line, book: &PeerBook, key: &PeerKey, view: View, family: Family) {
+    if book.is_complete(key, view, family) {
+        out.show(" ", &view);
+        out.show("/", &family);
+    }
 }
 
 // The tables of a peer that are complete.
-fn put_complete(out: &mut String, book: &PeerBook, key: &PeerKey) -> Result<(), AllocError> {
+fn put_complete(out: &mut Line, book: &PeerBook, key: &PeerKey) {
     for view in [
         View::InPre,
         View::InPost,
@@ -48,13 +46,9 @@ fn put_complete(out: &mut String, book: &PeerBook, key: &PeerKey) -> Result<(), 
         View::OutPost,
         View::Loc,
     ] {
-        for family in [Family::V4, Family::V6] {
-            if book.is_complete(key, view, family) {
-                write!(out, " {view:?}/{family:?}")?;
-            }
-        }
+        put_if_complete(out, book, key, view, Family::V4);
+        put_if_complete(out, book, key, view, Family::V6);
     }
-    Ok(())
 }
 
 // The AS of a peer that is up, or the reason of one that is down.
@@ -65,58 +59,45 @@ fn number(state: &PeerState) -> u32 {
     }
 }
 
-fn put_peer(
-    out: &mut String,
-    book: &PeerBook,
-    key: &PeerKey,
-    state: &PeerState,
-) -> Result<(), AllocError> {
-    let (kind, number, is_up) = (key.kind, number(state), book.is_up(key));
-    write!(out, "; {kind} {number} {is_up}")?;
-    put_complete(out, book, key)
+fn put_peer(out: &mut Line, book: &PeerBook, key: &PeerKey, state: &PeerState) {
+    out.show("; ", &key.kind);
+    out.show(" ", &number(state));
+    out.show(" ", &book.is_up(key));
+    put_complete(out, book, key);
 }
 
 // The peers, one after another, up to four.
-fn put_peers(out: &mut String, book: &PeerBook) -> Result<(), AllocError> {
+fn put_peers(out: &mut Line, book: &PeerBook) {
     let mut place: Option<PeerKey> = None;
     for _ in 0..4 {
         if let Some(line) = book.after(place.as_ref()) {
-            put_peer(out, book, &line.key, line.state)?;
+            put_peer(out, book, &line.key, line.state);
             place = Some(line.key);
         } else {
             break;
         }
     }
-    Ok(())
 }
 
-fn put_copy(out: &mut String, copy: &Result<PeerBook, NoMemory>) -> Result<(), AllocError> {
-    match copy {
-        Ok(copy) => put_peers(out, copy),
-        Err(_) => Err(AllocError),
+fn put_copy(out: &mut Line, book: &PeerBook) {
+    match book.copy() {
+        Ok(copy) => put_peers(out, &copy),
+        Err(_) => out.fail(),
     }
 }
 
-// The peers of a book and of its copy.
-fn put_both(out: &mut String, book: &PeerBook) -> Result<(), AllocError> {
-    put_peers(out, book)?;
-    out.push_str(" copy")?;
-    put_copy(out, &book.copy())
+fn take_all(out: &mut Line, book: &mut PeerBook, texts: &[&str]) {
+    for text in texts {
+        out.show("", &take(out.alloc, book, text));
+        out.put(" ");
+    }
 }
 
-fn peers(alloc: Global, out: &mut String, acts: &[&str]) -> Result<(), AllocError> {
-    let mut book = PeerBook::new(alloc);
-    for text in acts {
-        take(alloc, out, &mut book, text)?;
-    }
-    put_both(out, &book)
-}
-
-// What the call answers; false where the case has none of its words.
-pub(crate) fn answer(alloc: Global, out: &mut String, words: &[&str]) -> Result<bool, AllocError> {
-    match words {
-        ["peers", acts @ ..] => peers(alloc, out, acts)?,
-        _ => return Ok(false),
-    }
-    Ok(true)
+// What each act answers, and the peers of the book and of its copy.
+pub(crate) fn peers(out: &mut Line, words: &[&str]) {
+    let mut book = PeerBook::new(out.alloc);
+    take_all(out, &mut book, behind(words, 1));
+    put_peers(out, &book);
+    out.put(" copy");
+    put_copy(out, &book);
 }

@@ -1,5 +1,6 @@
 //! Prefixes and routes by their texts.
 
+use crate::words::at;
 use ip_prefix::{Nlri, parse_number, parse_prefix};
 use path_attrs::{Attrs, AttrsRead, Width, read_attrs};
 use rib_model::Route;
@@ -7,9 +8,9 @@ use std::alloc::Global;
 use std::sync::Arc;
 use wire_io::List;
 
-// The bytes of a text in hexadecimal; of any other text there are none.
-pub(crate) fn bytes_of(alloc: Global, text: &str) -> Vec<u8> {
-    match hex::decode(alloc, text) {
+// The bytes of a word in hexadecimal; of any other word there are none.
+pub(crate) fn bytes_at(alloc: Global, words: &[&str], place: usize) -> Vec<u8> {
+    match hex::decode(alloc, at(words, place)) {
         Ok(bytes) => bytes,
         Err(_) => Vec::new(alloc),
     }
@@ -36,9 +37,9 @@ pub(crate) fn route_of(alloc: Global, field: &[u8]) -> Option<Route> {
     }
 }
 
-// The route with these attributes, which are hexadecimal.
-pub(crate) fn route_at(alloc: Global, hex: &str) -> Option<Route> {
-    let field = bytes_of(alloc, hex);
+// The route with the attributes of a word, which are hexadecimal.
+pub(crate) fn route_at(alloc: Global, words: &[&str], place: usize) -> Option<Route> {
+    let field = bytes_at(alloc, words, place);
     route_of(alloc, field.as_slice())
 }
 
@@ -53,6 +54,11 @@ pub(crate) fn nlri_of(prefix: &str, id: &str) -> Option<Nlri> {
     }
 }
 
+// A prefix, and its path identifier in another word.
+pub(crate) fn nlri_at(words: &[&str], place: usize, id: usize) -> Option<Nlri> {
+    nlri_of(at(words, place), at(words, id))
+}
+
 // A prefix, and its path identifier where one stands behind a `#`.
 fn tagged(text: &str) -> Option<Nlri> {
     match text.split_once('#') {
@@ -63,9 +69,13 @@ fn tagged(text: &str) -> Option<Nlri> {
 
 // Puts the prefix of a text, so many times.
 fn put_nlri(list: &mut List<Nlri>, text: &str, times: u32) -> bool {
-    let Some(nlri) = tagged(text) else {
-        return false;
-    };
+    match tagged(text) {
+        Some(nlri) => push(list, nlri, times),
+        None => false,
+    }
+}
+
+fn push(list: &mut List<Nlri>, nlri: Nlri, times: u32) -> bool {
     let mut is_well = true;
     for _ in 0..times {
         is_well = is_well && list.push(nlri).is_ok();
@@ -73,12 +83,20 @@ fn put_nlri(list: &mut List<Nlri>, text: &str, times: u32) -> bool {
     is_well
 }
 
+fn put_nlris(list: &mut List<Nlri>, text: &str, times: u32) -> bool {
+    let mut is_well = true;
+    for prefix in text.split('+') {
+        is_well = is_well && put_nlri(list, prefix, times);
+    }
+    is_well
+}
+
 // The prefixes between the `+` of a text, each so many times.
 pub(crate) fn nlris_of(alloc: Global, text: &str, times: u32) -> Option<List<Nlri>> {
     let mut list = List::new(alloc);
-    let mut is_well = true;
-    for prefix in text.split('+') {
-        is_well = is_well && put_nlri(&mut list, prefix, times);
+    if put_nlris(&mut list, text, times) {
+        Some(list)
+    } else {
+        None
     }
-    if is_well { Some(list) } else { None }
 }

@@ -5,12 +5,12 @@
 ghost use Rattle.std.specs.Prelude.{◌≡◌, ◌<◌};
 
 use crate::routes::{nlri_of, nlris_of, route_of};
-use crate::{number_of, put};
+use crate::words::{Line, at, behind, number_at};
 use ip_prefix::{Addr, Nlri, Prefix, parse_addr};
 use prefix_trie::Steps;
 use rib_model::Route;
 use route_runs::{Changes, Place, RouteTable};
-use std::alloc::{AllocError, Global};
+use std::alloc::Global;
 use std::marker::Brand;
 use std::sync::ledger::{Blank, Ledger};
 use wire_io::NoMemory;
@@ -31,9 +31,10 @@ fn numbered(number: u32) -> Nlri {
     }
 }
 
-fn announce_numbered(alloc: Global, changes: &mut Changes, number: u32, med: u32) -> bool {
+// Announces these prefixes with this MULTI_EXIT_DISC.
+fn announce_all(alloc: Global, changes: &mut Changes, nlris: &[Nlri], med: u32) -> bool {
     match route_with(alloc, med) {
-        Some(route) => changes.announce(&[numbered(number)], &route).is_ok(),
+        Some(route) => changes.announce(nlris, &route).is_ok(),
         None => false,
     }
 }
@@ -41,15 +42,15 @@ fn announce_numbered(alloc: Global, changes: &mut Changes, number: u32, med: u32
 fn announce_first(alloc: Global, changes: &mut Changes, count: u32, med: u32) -> bool {
     let mut is_well = true;
     for number in 0..count {
-        is_well = is_well && announce_numbered(alloc, changes, number, med);
+        is_well = is_well && announce_all(alloc, changes, &[numbered(number)], med);
     }
     is_well
 }
 
 fn announce(alloc: Global, changes: &mut Changes, prefixes: &str, med: u32) -> bool {
-    match (nlris_of(alloc, prefixes, 1), route_with(alloc, med)) {
-        (Some(nlris), Some(route)) => changes.announce(nlris.as_slice(), &route).is_ok(),
-        _ => false,
+    match nlris_of(alloc, prefixes, 1) {
+        Some(nlris) => announce_all(alloc, changes, nlris.as_slice(), med),
+        None => false,
     }
 }
 
@@ -60,18 +61,21 @@ fn withdraw(alloc: Global, changes: &mut Changes, prefixes: &str) -> bool {
     }
 }
 
-// Puts the change of a text.
-fn change(alloc: Global, changes: &mut Changes, text: &str) -> bool {
-    let mut words = text.split(',');
-    match (words.next(), words.next(), words.next()) {
-        (Some("first"), Some(count), Some(med)) => {
-            announce_first(alloc, changes, number_of(count), number_of(med))
-        }
-        (Some("+"), Some(prefixes), Some(med)) => {
-            announce(alloc, changes, prefixes, number_of(med))
-        }
-        (Some("-"), Some(prefixes), None) => withdraw(alloc, changes, prefixes),
+// Puts a change.
+fn change(alloc: Global, changes: &mut Changes, words: &[&str]) -> bool {
+    match at(words, 0) {
+        "first" => announce_first(alloc, changes, number_at(words, 1), number_at(words, 2)),
+        "+" => announce(alloc, changes, at(words, 1), number_at(words, 2)),
+        "-" => withdraw(alloc, changes, at(words, 1)),
         _ => false,
+    }
+}
+
+// Puts the change of a text.
+fn put_change(alloc: Global, changes: &mut Changes, text: &str) -> bool {
+    match text.split(',').collect::<Vec<&str>>(alloc) {
+        Ok(words) => change(alloc, changes, words.as_slice()),
+        Err(_) => false,
     }
 }
 
@@ -89,22 +93,27 @@ fn renew(table: &mut RouteTable, changes: &mut Changes) -> bool {
 // Makes the change of a text.
 fn take(alloc: Global, table: &mut RouteTable, text: &str) -> bool {
     let mut changes = Changes::new(alloc);
-    change(alloc, &mut changes, text) && renew(table, &mut changes)
+    put_change(alloc, &mut changes, text) && renew(table, &mut changes)
 }
 
 // The place before or behind a prefix, or before all.
+fn place_by(word: &str, prefix: &str) -> Place {
+    match nlri_of(prefix, "-") {
+        Some(nlri) => {
+            if word == "after" {
+                Place::After(nlri)
+            } else {
+                Place::From(nlri)
+            }
+        }
+        None => Place::First,
+    }
+}
+
+// The same of a text.
 fn place_of(text: &str) -> Place {
     match text.split_once(',') {
-        Some((word, prefix)) => match nlri_of(prefix, "-") {
-            Some(nlri) => {
-                if word == "after" {
-                    Place::After(nlri)
-                } else {
-                    Place::From(nlri)
-                }
-            }
-            None => Place::First,
-        },
+        Some((word, prefix)) => place_by(word, prefix),
         None => Place::First,
     }
 }
@@ -132,64 +141,58 @@ fn count_origins(table: &RouteTable, asn: u32, place: Place) -> u32 {
     count
 }
 
-fn put_row(out: &mut String, nlri: &Nlri, route: &Route) -> Result<(), AllocError> {
-    out.push_str(" ")?;
-    put(out, &nlri.prefix.text())?;
+fn put_row(out: &mut Line, nlri: &Nlri, route: &Route) {
+    out.put(" ");
+    out.put_short(&nlri.prefix.text());
     if let Some(id) = nlri.id {
-        write!(out, "#{id}")?;
+        out.show("#", &id);
     }
-    match route.med {
-        Some(med) => write!(out, "={med}"),
-        None => Ok(()),
+    if let Some(med) = route.med {
+        out.show("=", &med);
     }
 }
 
 // The first routes from a place on, each with its MULTI_EXIT_DISC.
-pub(crate) fn put_rows(
-    out: &mut String,
-    table: &RouteTable,
-    place: Place,
-    most: u32,
-) -> Result<(), AllocError> {
+pub(crate) fn put_rows(out: &mut Line, table: &RouteTable, place: Place, most: u32) {
     let mut walk = table.walk(place);
     for _ in 0..most {
         if let Some((nlri, route)) = walk.next() {
-            put_row(out, &nlri, route)?;
+            put_row(out, &nlri, route);
         } else {
             break;
         }
     }
-    Ok(())
 }
 
-fn put_longest<L: Ledger>(
-    out: &mut String,
-    table: &RouteTable,
-    addr: &str,
-    steps: &mut Steps<L>,
-) -> Result<(), AllocError> {
-    match parse_addr(addr.as_bytes()) {
-        Some(addr) => match table.longest(&addr, steps) {
-            Some(prefix) => put(out, &prefix.text()),
-            None => out.push_str("-"),
-        },
-        None => out.push_str("-"),
+fn put_longest<L: Ledger>(out: &mut Line, table: &RouteTable, addr: &Addr, steps: &mut Steps<L>) {
+    match table.longest(addr, steps) {
+        Some(prefix) => out.put_short(&prefix.text()),
+        None => out.put("-"),
     }
+}
+
+fn put_found<L: Ledger>(out: &mut Line, table: &RouteTable, text: &str, steps: &mut Steps<L>) {
+    match parse_addr(text.as_bytes()) {
+        Some(addr) => put_longest(out, table, &addr, steps),
+        None => out.put("-"),
+    }
+}
+
+// The first routes of a table from the place on.
+fn put_first(out: &mut Line, table: &RouteTable, words: &[&str]) {
+    put_rows(out, table, place_of(at(words, 1)), number_at(words, 2));
 }
 
 // How many routes there are, how many numbered prefixes have one, how many of the origin AS come from the place on,
 // the longest prefix that holds the address, and the first routes from the place on.
-fn put_table<L: Ledger>(
-    out: &mut String,
-    table: &RouteTable,
-    [place, most, asn, addr]: [&str; 4],
-    steps: &mut Steps<L>,
-) -> Result<(), AllocError> {
-    let (count, found) = (table.count(), count_found(table));
-    let origins = count_origins(table, number_of(asn), place_of(place));
-    write!(out, "{count} {found} {origins} ")?;
-    put_longest(out, table, addr, steps)?;
-    put_rows(out, table, place_of(place), number_of(most))
+fn put_table<L: Ledger>(out: &mut Line, table: &RouteTable, words: &[&str], steps: &mut Steps<L>) {
+    let origins = count_origins(table, number_at(words, 3), place_of(at(words, 1)));
+    out.show("", &table.count());
+    out.show(" ", &count_found(table));
+    out.show(" ", &origins);
+    out.put(" ");
+    put_found(out, table, at(words, 4), steps);
+    put_first(out, table, words);
 }
 
 // Makes the changes of these texts.
@@ -201,72 +204,59 @@ fn take_all(alloc: Global, table: &mut RouteTable, texts: &[&str]) -> bool {
     is_well
 }
 
-// The first routes of a table from a place on.
-fn put_kept(
-    out: &mut String,
-    kept: &Result<RouteTable, NoMemory>,
-    [place, most, ..]: [&str; 4],
-) -> Result<(), AllocError> {
+fn put_kept(out: &mut Line, kept: &Result<RouteTable, NoMemory>, words: &[&str]) {
     match kept {
-        Ok(kept) => put_rows(out, kept, place_of(place), number_of(most)),
-        Err(_) => Err(AllocError),
+        Ok(kept) => put_first(out, kept, words),
+        Err(_) => out.fail(),
     }
 }
 
-// A table, and one that is kept.
+// A table that is to change once more, and it before, which is kept.
 fn put_both<L: Ledger>(
-    out: &mut String,
-    table: &RouteTable,
-    kept: &Result<RouteTable, NoMemory>,
-    sought: [&str; 4],
+    out: &mut Line,
+    table: &mut RouteTable,
+    last: &str,
+    words: &[&str],
     steps: &mut Steps<L>,
-) -> Result<(), AllocError> {
-    put_table(out, table, sought, steps)?;
-    out.push_str(" |")?;
-    put_kept(out, kept, sought)
+) {
+    let kept = table.share();
+    if !take(out.alloc, table, last) {
+        out.put("not changed");
+    }
+    put_table(out, table, words, steps);
+    out.put(" |");
+    put_kept(out, &kept, words);
 }
 
-// A table of these changes, and the one before the last of them, which is kept.
-fn put_versions<L: Ledger>(
-    alloc: Global,
-    out: &mut String,
-    sought: [&str; 4],
-    (texts, last): (&[&str], &str),
+// Makes the changes behind five words, and shows the table, and it before the last of them.
+fn put_changes<L: Ledger>(
+    out: &mut Line,
+    table: &mut RouteTable,
+    words: &[&str],
     steps: &mut Steps<L>,
-) -> Result<(), AllocError> {
-    let mut table = RouteTable::new(alloc);
-    let is_early = take_all(alloc, &mut table, texts);
-    let kept = table.share();
-    if is_early && take(alloc, &mut table, last) {
-        put_both(out, &table, &kept, sought, steps)
-    } else {
-        out.push_str("not changed")
+) {
+    if let [texts @ .., last] = behind(words, 5) {
+        if !take_all(out.alloc, table, texts) {
+            out.put("not changed");
+        }
+        put_both(out, table, last, words, steps);
     }
 }
 
-fn table<L: Ledger>(
-    alloc: Global,
-    out: &mut String,
-    sought: [&str; 4],
-    changes: (&[&str], &str),
-    blank: Blank,
-) -> Result<(), AllocError>
+fn put_versions<L: Ledger>(out: &mut Line, words: &[&str], steps: &mut Steps<L>) {
+    let mut table = RouteTable::new(out.alloc);
+    put_changes(out, &mut table, words, steps);
+}
+
+fn put_with<L: Ledger>(out: &mut Line, words: &[&str], blank: Blank)
     requires name { blank.name ≡ L.name }
     requires parts { blank.parts ≡ L.parts }
     requires some { 0 < blank.parts }
 {
     let mut steps = Steps::<L>::new(blank);
-    put_versions(alloc, out, sought, changes, &mut steps)
+    put_versions(out, words, &mut steps);
 }
 
-// What the call answers; false where the case has none of its words.
-pub(crate) fn answer(alloc: Global, out: &mut String, words: &[&str]) -> Result<bool, AllocError> {
-    match words {
-        ["table", place, most, asn, addr, texts @ .., last] => {
-            let sought = [*place, *most, *asn, *addr];
-            table::<Brand>(alloc, out, sought, (texts, last), Blank::new(1))?
-        }
-        _ => return Ok(false),
-    }
-    Ok(true)
+pub(crate) fn table(out: &mut Line, words: &[&str]) {
+    put_with::<Brand>(out, words, Blank::new(1));
 }
