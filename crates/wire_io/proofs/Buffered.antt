@@ -1,6 +1,6 @@
 -- What a buffer and the sink below it have together.
 use Rattle.std.proofs.Common.{◌≡◌, ℕ, ◌+◌, ◌≤◌, length, take, drop, List, [], ◌∷◌, ◌++◌, Option, None, Some, Result, Ok, Err, refl, ap, sym, ◌∙◌, subst, append_assoc, append-nil, length-take, arith}
-use Rattle.std.specs.Prelude.{OnOk}
+use Rattle.std.specs.Prelude.{IsOk, OnOk}
 use Rattle.std.proofs.lemmas.List.{take-append-drop, drop-drop, append_cancel_left, drop-append-le}
 use Rattle.std.specs.Io.KnownBytes.{Appends, Keeps, append_known}
 use Rattle.wire_io.specs.declared.sink.Failed.{Failed}
@@ -123,6 +123,7 @@ module _ {O : Type 0} (faults : O → ℕ) (told : O → Option (List ℕ)) (asi
     answer = Err d;
     left = subst (λ (q : BufferValue O). Leaves q (Err d) p1) e left;
     written = λ text w. through out new _ p1 text (Err d) refl n1 x1 tt w;
+    sound = tt;
     kept = ap aside n1;
     cause = λ h. subst (λ (o : O). HasCause {T = Unit {0}} {E = Failed} (faults out) (faults o) (Err d)) (sym n1) h;
   })
@@ -142,12 +143,17 @@ module _ {O : Type 0} (faults : O → ℕ) (told : O → Option (List ℕ)) (asi
     answer = Ok u;
     left = subst (λ (q : BufferValue O). Leaves q (Ok u) p1) e left;
     written = λ text w. through out new _ p2 text s refl n2 x2 empty (flushed _ p1 p2 text u s w same (λ i. laid_over (told (first i)) (kept i)) cause);
+    sound = at_ok s;
     kept = ap aside n2 ∙ kept;
     cause = λ h. subst (λ (o : O). HasCause (faults out) (faults o) s) (sym n2) (subst (λ (before : ℕ). HasCause before (faults p2.below) s) h.fine cause);
   })
     where
       n2 : new ≡ p2.below
       n2 = n ∙ ap (λ (q : BufferValue O). q.below) is
+
+      at_ok : (s : Result (Unit {0}) Failed) → OnOk s (IsOk {E = Failed} (Ok u))
+      at_ok (Ok _) = refl
+      at_ok (Err _) = tt
 
       x2 : Extends (told p2.first) (told new)
       x2 = subst (λ (q : BufferValue O). Extends (told q.first) (told new)) is x

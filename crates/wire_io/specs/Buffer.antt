@@ -1,5 +1,5 @@
 -- A buffer over a sink.
-use Rattle.std.specs.Prelude.{◌≡◌, ℕ, List, [], ◌++◌, drop, Option, Result}
+use Rattle.std.specs.Prelude.{◌≡◌, ℕ, List, [], ◌++◌, drop, Option, Result, IsOk, OnOk}
 use Rattle.std.specs.Io.KnownBytes.{Appends, append_known}
 use Rattle.wire_io.specs.declared.sink.Failed.{Failed}
 use Rattle.wire_io.specs.Aside.{Aside, laid_over}
@@ -34,6 +34,7 @@ pub record GoesThrough {O : Type 0} (faults : O → ℕ) (told : O → Option (L
   pub left : Leaves (record { first = old; below = old; held = []; used = 0 }) answer last
   -- what it wrote to the buffer was written to the sink
   pub written : (text : List ℕ) → Writes (λ (p : BufferValue O). faults p.below) (λ (p : BufferValue O). append_known (told p.below) p.held) (λ (p : BufferValue O). laid_over (told p.first) (aside p.below)) (record { first = old; below = old; held = []; used = 0 }) text answer last → Writes faults told aside old text result new
-  -- whatever it wrote
+  -- whatever it wrote: Ok comes only after its own Ok
+  pub sound : OnOk result (IsOk answer)
   pub kept : aside new ≡ aside last.below
   pub cause : HasCause (faults old) (faults last.below) answer → HasCause (faults old) (faults new) result

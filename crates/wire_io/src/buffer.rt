@@ -160,7 +160,7 @@ pub trait Puts<O: Sink> {
 }
 
 /// Writes this to a buffer over the sink, which is handed on at the end. A write that fails ends the call; what
-/// the buffer still holds is then lost. It takes no memory.
+/// the buffer still holds is then lost. It takes no memory but what `put` takes.
 pub fn through_buffer<O: Sink, P: Puts<O>>(out: &mut O, what: P) -> Result<(), Failed>
     requires { P.may_put what }
     ensures { GoesThrough O.faults O.told O.aside (P.leaves what) out.old result out.new }
