@@ -1,7 +1,10 @@
 -- What a crash leaves of an archive in each of the two steps of an append.
-use Rattle.std.proofs.Common.{◌≡◌, ◌≢◌, inl, inr, ℕ, ◌+◌, ◌≤◌, List, [], ◌∷◌, ◌++◌, length, get_or, take, drop, refl, sym, ◌∙◌, ap, subst, arith, append_assoc, length-append}
+use Rattle.std.proofs.Common.{◌≡◌, ◌≢◌, inl, inr, ℕ, ◌+◌, ◌≤◌, List, [], ◌∷◌, ◌++◌, length, get_or, take, drop, Some, refl, sym, ◌∙◌, ap, subst, arith, append_assoc, length-append}
+use Rattle.std.specs.Prelude.{slice_get}
+use Rattle.std.proofs.Math.Seq.{get_or-append_seam}
 use Rattle.std.proofs.lemmas.Bool.{cases_eq}
 use Rattle.std.proofs.lemmas.List.{take_at, drop_at, take-append-drop}
+use Rattle.std.proofs.lemmas.Option.{slice_get-get_or}
 use Rattle.byteorder.specs.Endian.{big_bytes}
 use Rattle.byteorder.specs.Numbers.{length-bytes_high_first}
 use Rattle.bmp_specs.specs.Parts.{AreParts}
@@ -20,6 +23,10 @@ tail_of piece = big_bytes 4 (length piece) ++ piece ++ 0 ∷ []
 pub length-tail : (piece : List ℕ) → length (tail_of piece) ≡ length piece + 5
 length-tail piece = omega (arith, length-append (big_bytes 4 (length piece) ++ piece) (0 ∷ []), length-append (big_bytes 4 (length piece)) piece, length-bytes_high_first 4 (length piece))
 
+-- the record, and the byte 0 behind it
+open_split : (front more piece : List ℕ) → front ++ 1 ∷ (tail_of piece ++ more) ≡ (front ++ record_of piece) ++ 0 ∷ more
+open_split front more piece = ap (λ (l : List ℕ). front ++ 1 ∷ l) (append_assoc (big_bytes 4 (length piece) ++ piece) (0 ∷ []) more) ∙ sym (append_assoc front (record_of piece) (0 ∷ more))
+
 -- behind records stands a gate, and a whole record without its gate: the gate says whether it counts
 pub shut_is : (front more : List ℕ) (pieces : List (List ℕ)) (gate : ℕ) → AreParts IsRecord front pieces → gate ≢ 1 → IsArchive (front ++ gate ∷ more) pieces (length front)
 shut_is front more pieces gate p c = record { front = front; gate = gate; rest = more; split = refl; records = p; closed = c; place_is = refl }
@@ -27,12 +34,11 @@ shut_is front more pieces gate p c = record { front = front; gate = gate; rest =
 pub open_is : (front more : List ℕ) (pieces : List (List ℕ)) (piece : List ℕ) → AreParts IsRecord front pieces → length piece ≤ most_record
     → IsArchive (front ++ 1 ∷ (tail_of piece ++ more)) (pieces ++ piece ∷ []) (length front + 5 + length piece)
 open_is front more pieces piece p size =
-    let body = big_bytes 4 (length piece) ++ piece in
     record {
       front = front ++ record_of piece;
       gate = 0;
       rest = more;
-      split = ap (λ (l : List ℕ). front ++ 1 ∷ l) (append_assoc body (0 ∷ []) more) ∙ sym (append_assoc front (record_of piece) (0 ∷ more));
+      split = open_split front more piece;
       records = parts_snoc IsRecord front (record_of piece) pieces piece p (is_record piece size);
       closed = λ e. omega (arith, e);
       place_is = omega (arith, length-append front (record_of piece), length-record piece size);
@@ -108,11 +114,24 @@ module _ (file : List ℕ) (front : List ℕ) (gate : ℕ) (piece more : List �
       ∙ ap (λ (l : List ℕ). front ++ g ∷ l) (sym (take-append-drop k rest) ∙ ap (λ (l : List ℕ). l ++ after) tail) in
       subst (IsBeforeOrAfter (joined pieces) piece) (sym whole) (either g after)
 
-  -- and then it counts
-  pub opened_file : IsArchive (overwritten file (length front) (1 ∷ [])) (pieces ++ piece ∷ []) (length front + 5 + length piece)
-  opened_file =
+  opened_is : overwritten file (length front) (1 ∷ []) ≡ front ++ 1 ∷ (tail_of piece ++ more)
+  opened_is =
       let at = length front in
       let within : at + 1 ≤ length file = omega (arith, long) in
       let is = overwritten_is front (1 ∷ []) file (omega (arith, within)) front_is in
       let rest : drop (at + 1) (padded file (at + 1)) ≡ tail_of piece ++ more = ap (λ (l : List ℕ). drop (at + 1) l) (padded_long file (at + 1) within) ∙ behind in
-      subst (λ (l : List ℕ). IsArchive l (pieces ++ piece ∷ []) (at + 5 + length piece)) (sym (is ∙ ap (λ (l : List ℕ). front ++ 1 ∷ l) rest)) (open_is front more pieces piece records size)
+      is ∙ ap (λ (l : List ℕ). front ++ 1 ∷ l) rest
+
+  -- and then it counts
+  pub opened_file : IsArchive (overwritten file (length front) (1 ∷ [])) (pieces ++ piece ∷ []) (length front + 5 + length piece)
+  opened_file = subst (λ (l : List ℕ). IsArchive l (pieces ++ piece ∷ []) (length front + 5 + length piece)) (sym opened_is) (open_is front more pieces piece records size)
+
+  -- and 0 closes it
+  pub opened_zero : slice_get (overwritten file (length front) (1 ∷ [])) (length front + 5 + length piece) ≡ Some 0
+  opened_zero =
+      let before = front ++ record_of piece in
+      let at : length before ≡ length front + 5 + length piece = omega (arith, length-append front (record_of piece), length-record piece size) in
+      ap (λ (l : List ℕ). slice_get l (length front + 5 + length piece)) (opened_is ∙ open_split front more piece)
+      ∙ ap (λ (n : ℕ). slice_get (before ++ 0 ∷ more) n) (sym at)
+      ∙ slice_get-get_or (before ++ 0 ∷ more) (length before) 0 (omega (arith, length-append before (0 ∷ more)))
+      ∙ ap (λ (n : ℕ). Some n) (get_or-append_seam before 0 more 0)

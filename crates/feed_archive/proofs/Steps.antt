@@ -1,5 +1,6 @@
 -- The two steps of an append, each a write and a sync.
-use Rattle.std.proofs.Common.{◌≡◌, inl, ℕ, ◌+◌, ◌≤◌, List, [], ◌∷◌, ◌++◌, length, refl, sym, ◌∙◌, ap, subst, arith, Result, Ok}
+use Rattle.std.proofs.Common.{◌≡◌, inl, ℕ, ◌+◌, ◌≤◌, List, [], ◌∷◌, ◌++◌, length, refl, sym, ◌∙◌, ap, subst, arith, Some, Result, Ok}
+use Rattle.std.specs.Prelude.{slice_get}
 use Rattle.wire_io.specs.declared.sink.Failed.{Failed}
 use Rattle.disk_doors.specs.Images.{Moment, IsTorn, settled, overwritten}
 use Rattle.disk_doors.specs.Disk.{DiskValue, Passes}
@@ -7,11 +8,11 @@ use Rattle.disk_doors.specs.Put.{Puts}
 use Rattle.disk_doors.proofs.Passing.{passes_none, passes_weaker, passes_then}
 use Rattle.feed_archive.specs.Archive.{IsArchive, joined, most_record, most_archive}
 use Rattle.feed_archive.specs.Recovering.{Holds, HasOnly, seen}
-use Rattle.feed_archive.specs.Appending.{IsClosedAt, IsBeforeOrAfter}
+use Rattle.feed_archive.specs.Appending.{IsClosedAt, IsZeroAt, IsBeforeOrAfter}
 use Rattle.feed_archive.proofs.Records.{joined-snoc}
 use Rattle.feed_archive.proofs.OneContent.{content_one, seen_holds}
 use Rattle.feed_archive.proofs.Empty.{settled_only}
-use Rattle.feed_archive.proofs.Appended.{tail_of, staged_image, staged_file, gate_image, opened_file}
+use Rattle.feed_archive.proofs.Appended.{tail_of, staged_image, staged_file, gate_image, opened_file, opened_zero}
 
 -- nothing was done
 pub unappended : (content piece : List ℕ) (d : DiskValue) → HasOnly d.now content → Passes (IsBeforeOrAfter content piece) d d
@@ -47,6 +48,15 @@ module _ (old : DiskValue) (place : ℕ) (piece : List ℕ) (size : length piece
         pieces = closed.pieces ++ piece ∷ [];
         is = subst (λ (f : List ℕ). IsArchive f (closed.pieces ++ piece ∷ []) (place + 5 + length piece)) (sym same) (opened mid new bytes u v is p q);
       }
+
+  -- by the byte 0
+  pub zero_again : (mid new : DiskValue) (bytes : List ℕ) (u v : Unit {0}) → bytes ≡ tail_of piece → Puts old mid (place + 1) bytes (Ok u) → Puts mid new place (1 ∷ []) (Ok v)
+      → IsZeroAt new.now (place + 5 + length piece)
+  zero_again mid new bytes u v is p q =
+      let s = staged mid bytes u is p in
+      ap (λ (m : Moment). slice_get m.file (place + 5 + length piece)) q.done
+      ∙ subst (λ (n : ℕ). slice_get (overwritten mid.now.file n (1 ∷ [])) (n + 5 + length piece) ≡ Some 0) closed.is.place_is
+      (opened_zero mid.now.file closed.is.front closed.is.gate piece s.0 closed.pieces closed.is.records size fits_front s.1)
 
   module _ (content : List ℕ) (only : HasOnly old.now content) where
     content_is : joined closed.pieces ≡ content

@@ -1,5 +1,5 @@
 -- What an archive that is appended to shows, and what an append leaves.
-use Rattle.std.specs.Prelude.{◌≡◌, ℕ, ◌+◌, ◌<◌, ◌≤◌, ◌⊎◌, Bool, true, false, List, ◌++◌, Result, Ok, Err}
+use Rattle.std.specs.Prelude.{◌≡◌, ℕ, ◌+◌, ◌<◌, ◌≤◌, ◌⊎◌, Bool, true, false, List, ◌++◌, Some, slice_get, Result, Ok, Err}
 use Rattle.wire_io.specs.Faults.{Rose}
 use Rattle.disk_doors.specs.Images.{Moment, settled}
 use Rattle.disk_doors.specs.Disk.{DiskValue, moments, Passes, Lasts, Rests, IsSound}
@@ -21,6 +21,10 @@ pub record IsClosedAt (m : Moment) (place : ℕ) : Type 0 where
   pub kept : m ≡ settled m.file
   pub pieces : List (List ℕ)
   pub is : IsArchive m.file pieces place
+
+-- The byte at this place is 0. An append closes the archive with this one, though any byte but 1 closes one that is read.
+abbrev pub IsZeroAt : Moment → ℕ → Type 0
+IsZeroAt m place = slice_get m.file place ≡ Some 0
 
 -- the content with one more piece, or without it
 abbrev pub IsBeforeOrAfter : List ℕ → List ℕ → List ℕ → Type 0

@@ -3,7 +3,7 @@ ghost use Rattle.disk_doors.specs.Disk.{Passes, Lasts};
 ghost use Rattle.disk_doors.specs.Images.{settled};
 ghost use Rattle.feed_archive.specs.Recovering.{HasOnly, FaultCause, FaultFits, FaultPlanned};
 ghost use Rattle.feed_archive.specs.Scanning.{IsPlain};
-ghost use Rattle.feed_archive.specs.Appending.{IsBeforeOrAfter, IsClosedAt, AppendAnswers, AppendCause, AppendPlanned, Began, Keeps, Refuses};
+ghost use Rattle.feed_archive.specs.Appending.{IsBeforeOrAfter, IsClosedAt, IsZeroAt, AppendAnswers, AppendCause, AppendPlanned, Began, Keeps, Refuses};
 
 use crate::filling::{ROOM, fill};
 use crate::scanning::{MOST, scan};
@@ -108,9 +108,9 @@ impl<D: Disk> Archive<D> {
 
     /// Appends the piece, of 1 to 65,536 bytes, as one record. It takes no memory.
     ///
-    /// A crash at any moment of it leaves the archive with the piece or without it, and after Ok with it. `Full` comes
-    /// exactly where the archive would have more than 2^31 bytes, and `Stopped` where the disk failed in an earlier
-    /// append; both leave all as it was. After `Failed` the archive is to be begun again.
+    /// A crash at any moment of it leaves the archive with the piece or without it, and after Ok with it; the byte that
+    /// closes it is then 0. `Full` comes exactly where the archive would have more than 2^31 bytes, and `Stopped` where the
+    /// disk failed in an earlier append; both leave all as it was. After `Failed` the archive is to be begun again.
     pub fn append(&mut self, piece: &[u8]) -> Result<(), AppendFault>
         requires some { 0 < length piece.now }
         requires most { length piece.now ≤ 65536 }
@@ -118,6 +118,7 @@ impl<D: Disk> Archive<D> {
             → Passes (IsBeforeOrAfter content piece.now) (D.shows self.old.disk) (D.shows self.new.disk) }
         ensures kept { OnOk result (D.tells → (content : List ℕ) → HasOnly (D.shows self.old.disk).now content → HasOnly (D.shows self.new.disk).now (content ++ piece.now)) }
         ensures closed { D.tells → self.old.stopped ≡ false → IsClosedAt (D.shows self.old.disk).now self.old.place }
+        ensures zero { OnOk result (D.tells → IsZeroAt (D.shows self.new.disk).now self.new.place) }
         ensures answers { AppendAnswers self.old self.new (length piece.now) result }
         ensures lasts { D.tells → Lasts (D.shows self.old.disk) (D.shows self.new.disk) }
         ensures planned { D.tells → AppendPlanned (D.shows self.old.disk) (self.old.place + 6 + length piece.now) result }

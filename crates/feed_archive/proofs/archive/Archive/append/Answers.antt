@@ -1,7 +1,7 @@
 use Rattle.std.proofs.Common.{◌≡◌, ℕ, ◌+◌, ◌-◌, ◌^◌, ◌≤◌, ◌∙◌, subst, arith, length}
 use Rattle.disk_doors.proofs.Passing.{lasts_then}
-use Rattle.feed_archive.specs.Appending.{IsClosedAt}
-use Rattle.feed_archive.proofs.Steps.{unappended, first_step, second_step, closed_again, kept_again}
+use Rattle.feed_archive.specs.Appending.{IsClosedAt, IsZeroAt}
+use Rattle.feed_archive.proofs.Steps.{unappended, first_step, second_step, closed_again, zero_again, kept_again}
 use Rattle.feed_archive.proofs.archive.Archive.append.Goals as goal
 
 pub returns-in_err-put-clause-any_moment : goal.returns-in_err-put-clause-any_moment
@@ -33,6 +33,12 @@ pub returns-clause-kept : goal.returns-clause-kept
 returns-clause-kept g c =
     let fits : c.self.inside.place + 6 + length c.args.piece.now ≤ 2 ^ 31 = omega (arith, c.if-end-gt-MOST.false) in
     rw (← c.self.view_is) (λ t content only. kept_again _ _ _ c.requires.most fits (c.self.invariant.2 c.if-self.false t) content only _ _ _ _ _ (c.as_slice.ensures.value ∙ c.fill.ensures.bytes) (c.in_ok-put.ensures.told t) (c.in_ok-put-2.ensures.told t))
+
+pub returns-clause-zero : goal.returns-clause-zero
+returns-clause-zero g c =
+    let fits : c.self.inside.place + 6 + length c.args.piece.now ≤ 2 ^ 31 = omega (arith, c.if-end-gt-MOST.false) in
+    let is : c.self.inside.place + 5 + length c.args.piece.now ≡ c.self.inside.place + 6 + length c.args.piece.now - 1 = omega arith in
+    λ t. subst (λ (n : ℕ). IsZeroAt (g.D.Disk.shows c.put-2.new.disk).now n) is (zero_again _ _ _ c.requires.most fits (c.self.invariant.2 c.if-self.false t) _ _ _ _ _ (c.as_slice.ensures.value ∙ c.fill.ensures.bytes) (c.in_ok-put.ensures.told t) (c.in_ok-put-2.ensures.told t))
 
 pub returns-in_err-put-clause-lasts : goal.returns-in_err-put-clause-lasts
 returns-in_err-put-clause-lasts g c = rw (← c.self.view_is) (λ t. (c.put.ensures.told t).passes.lasts)
