@@ -184,6 +184,7 @@ module _ {P D : Type 0} (aside : P → Aside) (calls : P → ℕ) (shows : D →
           bytes = gave k.events;
           rest = f.0;
           front = f.1 ∙ ap (λ (l : List ℕ). (gave k.events ++ l) ++ f.0) (lost_none fine) ∙ ap (λ (l : List ℕ). l ++ f.0) (append-nil (gave k.events));
+          told = subst (λ (l : List ℕ). Told (aside k.inner) l) (ap (λ (l : List ℕ). gave k.events ++ l) (lost_none fine) ∙ append-nil (gave k.events)) told_below;
           kept = all_kept (gave k.events) refl fine;
           only = only_kept (λ is. cc (is, none));
           calm = calm_none none;

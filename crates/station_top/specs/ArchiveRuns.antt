@@ -168,12 +168,13 @@ pub record KeepsFor (why : AppendFault) (bytes : List ℕ) (plan : Plan) (shows 
   pub told : Told shows (bytes ++ lost)
   pub refused : IsRefused why (length (first_of plan.connections)) bytes begun back
 
--- Some first bytes of the first connection were kept, and then there was no memory: the disk is an archive of them. The
--- port shows what it shows where a replay is broken off so.
+-- Some first bytes of the first connection were kept, and then there was no memory: the disk is an archive of them, and they
+-- are what the port shows as given. It shows what it shows where a replay is broken off so.
 pub record KeepsFront (meaning : Meaning) (plan : Plan) (shows : Aside) (begun back : DiskShown) : Type 0 where
   pub bytes : List ℕ
   pub rest : List ℕ
   pub front : first_of plan.connections ≡ bytes ++ rest
+  pub told : Told shows bytes
   pub kept : KeepsBytes bytes [] begun back
   pub only : HasOnly back.value.now bytes
   pub calm : back.faults ≡ begun.faults
