@@ -1,5 +1,5 @@
 -- What was written relays the session.
-use Rattle.std.proofs.Common.{◌≡◌, ℕ, List, [], ◌∷◌, ◌++◌, Option, Result, Ok, Err, OnOk, IfErr, IsErrAnd, refl, sym, ap, ◌∙◌, subst, append_assoc, append-nil}
+use Rattle.std.proofs.Common.{◌≡◌, ℕ, List, [], ◌∷◌, ◌++◌, Option, Result, Ok, Err, OnOk, IfErr, IsErrAnd, inl, inr, refl, sym, ap, ◌∙◌, subst, append_assoc, append-nil}
 use Rattle.std.specs.List.{AllByRecursion}
 use Rattle.bmp_specs.specs.Parts.{AreParts}
 use Rattle.bmp_specs.specs.Values.{EffectValue}
@@ -104,7 +104,7 @@ module _ {O : Type 0} (faults : O → ℕ) (told : O → Option (List ℕ)) (asi
         by : (d : EmitFault) → Refuses first d → Relays faults told aside effects a (Err d) a
         by Failed p = absurd p
         by Unwritable p = (λ can. not_first items first rest e p (all_writable effects s is can), refl)
-        by NoMemory p = (s, is, nothing_begun a items, refl)
+        by NoMemory p = (inr refl, s, is, nothing_begun a items, refl)
 
     -- all of them can be written, and were, or not
     pub relays : (old new : O) (r : Result (Unit {0}) EmitFault) → AllByRecursion IsWritable items → Emits faults told aside items old r new → Relays faults told aside effects old r new
@@ -114,4 +114,4 @@ module _ {O : Type 0} (faults : O → ℕ) (told : O → Option (List ℕ)) (asi
         (session, bytes, stream, reads_back effects bytes stream session, grown, kept, calm)
     relays old new (Err Failed) can (first, rest, split, (begun, rose)) = (are_writable effects s is can, s, is, begun_further old new items first rest split begun, rose)
     relays old new (Err Unwritable) can (first, rest, split, not) = absurd not
-    relays old new (Err NoMemory) can (first, rest, split, (begun, calm)) = (s, is, begun_further old new items first rest split begun, calm)
+    relays old new (Err NoMemory) can (first, rest, split, (begun, calm)) = (inl (are_writable effects s is can), s, is, begun_further old new items first rest split begun, calm)

@@ -1,5 +1,5 @@
 -- What a writer of messages has written, and what it holds back.
-use Rattle.std.specs.Prelude.{◌≡◌, ℕ, List, [], ◌++◌, Option, Result, Ok, Err}
+use Rattle.std.specs.Prelude.{◌≡◌, ◌⊎◌, ℕ, List, [], ◌++◌, Option, Result, Ok, Err}
 use Rattle.std.specs.Io.KnownBytes.{Appends}
 use Rattle.bmp_specs.specs.Parts.{AreParts}
 use Rattle.bmp_specs.specs.Values.{EffectValue}
@@ -65,9 +65,10 @@ module _ {O : Type 0} (faults : O → ℕ) (told : O → Option (List ℕ)) (asi
   Emits items old (Err fault) new = (first : List ItemValue) × (rest : List ItemValue) × (items ≡ first ++ rest) × IsStopped old new first fault
 
   -- What a call leaves that relays a session with these effects: the whole stream was written, which is read back; or
-  -- nothing, since the session can't be relayed; or a front of the stream.
+  -- nothing, since the session can't be relayed; or a front of the stream. Out of memory, too, nothing was written of a
+  -- session that can't be relayed.
   abbrev pub Relays : List EffectValue → O → Result (Unit {0}) EmitFault → O → Type 0
   Relays effects old (Ok v) new = AreWritable effects × (bytes : List ℕ) × IsRelayStream effects bytes × ReadsBack effects bytes × Appends (told old) (told new) bytes × (aside new ≡ aside old) × (faults new ≡ faults old)
   Relays effects old (Err Unwritable) new = ¬ (AreWritable effects) × (new ≡ old)
   Relays effects old (Err Failed) new = AreWritable effects × (s : StreamValue) × IsTold effects s × HasBegun old new (stream_items s) × Rose (faults old) (faults new)
-  Relays effects old (Err NoMemory) new = (s : StreamValue) × IsTold effects s × HasBegun old new (stream_items s) × (faults new ≡ faults old)
+  Relays effects old (Err NoMemory) new = (AreWritable effects ⊎ (new ≡ old)) × (s : StreamValue) × IsTold effects s × HasBegun old new (stream_items s) × (faults new ≡ faults old)

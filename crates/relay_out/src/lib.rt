@@ -8,8 +8,8 @@
 //! which lie anywhere, are fetched from memory side by side.
 //!
 //! Proved: what was written is the whole stream, which follows from the entries that the tables stand for; whoever reads it
-//! by the RFCs alone is left with the same name, description, rows, complete tables and peers that are up; nothing is
-//! written exactly where some message can't be; and after a failed write, or out of memory, a front of the stream's first
+//! by the RFCs alone is left with the same name, description, rows, complete tables and peers that are up; where some
+//! message can't be written, nothing is; and after a failed write, or out of memory, a front of the stream's first
 //! messages was written. `sessions_have_one_stream` says that of lists of octets one alone is the stream.
 //! Begin with `specs/Told.antt` and `specs/Messages.antt`, then `src/relay.rt`.
 #![tactic(auto)]

@@ -1,5 +1,5 @@
 -- What `relay` comes to, from what its steps say.
-use Rattle.std.proofs.Common.{◌≡◌, ℕ, List, ◌∷◌, Option, Result, Ok, Err, refl, sym, ◌∙◌}
+use Rattle.std.proofs.Common.{◌≡◌, ℕ, List, ◌∷◌, Option, Result, Ok, Err, inl, inr, refl, sym, ◌∙◌}
 use Rattle.bmp_specs.specs.declared.causes.Cause.{Cause}
 use Rattle.bmp_specs.specs.Meaning.{Meaning}
 use Rattle.bmp_specs.specs.Session.{session_effects}
@@ -21,7 +21,8 @@ module _ {O : Type 0} (faults : O → ℕ) (told : O → Option (List ℕ)) (asi
   relayed_by effects cause a b (Ok v) (can, bytes, stream, back, grown, kept, calm) = wrote can bytes stream back grown
   relayed_by effects cause a b (Err fault.Failed) (can, s, is, begun, rose) = cut can s begun.written is begun.front begun.grown
   relayed_by effects cause a b (Err fault.Unwritable) (cannot, same) = unwritable cannot (λ i. told (same i))
-  relayed_by effects cause a b (Err fault.NoMemory) (s, is, begun, calm) = broken_off s begun.written is begun.front begun.grown
+  relayed_by effects cause a b (Err fault.NoMemory) (inl can, s, is, begun, calm) = broken_off (inl can) s begun.written is begun.front begun.grown
+  relayed_by effects cause a b (Err fault.NoMemory) (inr same, s, is, begun, calm) = broken_off (inr (λ i. told (same i))) s begun.written is begun.front begun.grown
 
   -- the input was taken, and what it left is relayed
   pub relay_concludes : (meaning : Meaning) (Stands : List EntryValue → Type 0) (old new : Option YardValue) (number : ℕ) (taken : Taken) (t : IsTaken meaning Stands old new number taken) (a b : O) (r : Result (Unit {0}) EmitFault) (status : Status)

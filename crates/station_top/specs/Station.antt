@@ -168,8 +168,8 @@ pub data Relayed (effects : List EffectValue) (cause : Cause) (told0 told1 : Opt
   unwritable : ¬ (AreWritable effects) → told1 ≡ told0 → Relayed effects cause told0 told1 Unwritable
   -- a front of the stream: a write failed
   cut : AreWritable effects → (stream : StreamValue) (written : List ℕ) → IsTold effects stream → IsFront (stream_items stream) written → Appends told0 told1 written → Relayed effects cause told0 told1 WriteFault
-  -- a front of the stream's first messages, or nothing: there was no memory
-  broken_off : (stream : StreamValue) (written : List ℕ) → IsTold effects stream → IsFront (stream_items stream) written → Appends told0 told1 written → Relayed effects cause told0 told1 NoMemory
+  -- a front of the stream's first messages, or nothing: there was no memory. Where it can't be relayed, nothing
+  broken_off : AreWritable effects ⊎ (told1 ≡ told0) → (stream : StreamValue) (written : List ℕ) → IsTold effects stream → IsFront (stream_items stream) written → Appends told0 told1 written → Relayed effects cause told0 told1 NoMemory
 
 -- what `relay` comes to by the yard, and what it wrote, by its status
 pub data RelayConcludes (meaning : Meaning) (old new : Option YardValue) (number : ℕ) (told0 told1 : Option (List ℕ)) : Status → Type 0 where
