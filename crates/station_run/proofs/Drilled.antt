@@ -1,8 +1,8 @@
 -- The works and the passes of a drill.
-use Rattle.std.proofs.Common.{◌≡◌, ℕ, ◌+◌, ◌<◌, ◌≤◌, List, [], ◌∷◌, ◌++◌, length, get_or, Option, Some, None, refl, sym, ap, ◌∙◌, subst, inl, inr, arith}
-use Rattle.std.specs.Prelude.{◌⊎◌, IsTrue, IfSome}
+use Rattle.std.proofs.Common.{◌≡◌, ℕ, zero, suc, ◌+◌, ◌<◌, ◌≤◌, List, [], ◌∷◌, ◌++◌, length, get_or, Option, Some, None, refl, sym, ap, ◌∙◌, subst, inl, inr, arith}
+use Rattle.std.specs.Prelude.{◌⊎◌, IsTrue, IfSome, slice_index}
 use Rattle.std.specs.Io.KnownBytes.{Consumes, IsAtEnd}
-use Rattle.std.specs.List.{All, Contains}
+use Rattle.std.specs.List.{All, AllByRecursion, Contains}
 use Rattle.std.proofs.lemmas.Bool.{cases_lt}
 use Rattle.std.proofs.lemmas.List.{get_or_append_left, get_or_push, length_push}
 use Rattle.std.proofs.lemmas.List.Elements.{All-nil, All-push, Contains-append_left, Contains-get_or, Contains-push, Contains-push_cases}
@@ -25,6 +25,11 @@ use Rattle.station_run.specs.declared.drill_tasks.DrillLane.{DrillLane}
 use Rattle.station_run.specs.declared.drill_tasks.DrillTask.{DrillTask}
 use Rattle.station_run.specs.declared.drill_tasks.DrillTask.TheVariants.{Lane, Ask}
 use Rattle.station_run.proofs.Decided.{walks_whole}
+
+-- what holds of the number at each place of a list holds of all
+pub all_at : (P : ℕ → Type 0) (xs : List ℕ) → ((i : ℕ) → P (slice_index xs i)) → AllByRecursion P xs
+all_at P [] at = tt
+all_at P (x ∷ xs) at = (at zero, all_at P xs (λ i. at (suc i)))
 
 -- what a read connection has left
 consumed : (stream bytes : List ℕ) (rest : Option (List ℕ)) → Consumes (Some stream) rest bytes → (left : List ℕ) × (stream ≡ bytes ++ left) × (IsAtEnd rest → left ≡ [])
@@ -61,15 +66,15 @@ adding_none seed messages b lanes feeds tasks none fresh = record {
 }
 
 pub adding_more : (seed messages : ℕ) (b : Site) (lanes : ℕ) (left rest : List (Fed Entry)) (tasks after : List DrillTask) (w : DrillLane) → left ≡ rest ++ w.pass ∷ [] → after ≡ tasks ++ Lane w ∷ []
-    → IsDrillStream seed w.pass.lane messages w.stream → length w.stream < most_taken → Adding seed messages b lanes left tasks → Adding seed messages b lanes rest after
-adding_more seed messages b lanes left rest tasks after w e t stream short a =
+    → AllByRecursion (λ b. b < 256) w.stream → IsDrillStream seed w.pass.lane messages w.stream → length w.stream < most_taken → Adding seed messages b lanes left tasks → Adding seed messages b lanes rest after
+adding_more seed messages b lanes left rest tasks after w e t octets stream short a =
     let long : length left ≡ length rest + 1 = ap (λ (l : List (Fed Entry)). length l) e ∙ length_push rest w.pass in
     let here : w.pass ≡ fresh_feed b (length rest) = sym (get_or_push rest w.pass w.pass (length rest) refl) ∙ ap (λ (l : List (Fed Entry)). get_or l (length rest) w.pass) (sym e) ∙ a.fresh (length rest) w.pass (omega (arith, long)) in
     record {
       fresh = λ k d h. sym (get_or_append_left rest (w.pass ∷ []) d k h) ∙ ap (λ (l : List (Fed Entry)). get_or l k d) (sym e) ∙ a.fresh k d (omega (arith, h, long));
       few = omega (arith, a.few, long);
       each = subst (λ (l : List DrillTask). All (Begins seed messages b) l) (sym t)
-          (All-push (Begins seed messages b) tasks (Lane w) a.each (ap (λ (f : Fed Entry). f.station) here, record { none = ap (λ (f : Fed Entry). f.entries) here; short = short }, stream));
+          (All-push (Begins seed messages b) tasks (Lane w) a.each (ap (λ (f : Fed Entry). f.station) here, record { none = ap (λ (f : Fed Entry). f.entries) here; short = short }, octets, stream));
       all = λ lane low high. elim (cases_lt lane (length left)) [
         | inl this ↦ (
           Lane w,
@@ -133,7 +138,7 @@ drill_ready seed messages b lanes tasks a = record {
 ends_of : (seed messages : ℕ) (b : Site) (t u : DrillTask) → Begins seed messages b t → HasDrilled t u → Ends seed messages b u
 ends_of seed messages b (Lane w) (Lane v) begins done = (
   done.station ∙ begins.0,
-  λ whole. record { bytes = w.stream; stream = subst (λ (n : ℕ). IsDrillStream seed n messages w.stream) (sym done.lane) begins.2; taken = done.whole whole },
+  λ whole. record { bytes = w.stream; octets = begins.2; stream = subst (λ (n : ℕ). IsDrillStream seed n messages w.stream) (sym done.lane) begins.3; taken = done.whole whole },
 )
 ends_of seed messages b (Lane w) (Ask v) begins done = absurd done
 ends_of seed messages b (Ask w) (Lane v) begins done = absurd done

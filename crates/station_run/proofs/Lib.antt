@@ -1,4 +1,3 @@
-pub mod Halves
 pub mod Handing
 pub mod Returning
 pub mod Taking

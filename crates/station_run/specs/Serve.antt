@@ -68,6 +68,13 @@ pub record Ends {E : Type 0} (Shows : E → List (TablesValue × ℕ) → List (
   pub takes : Takes old new ending
   pub outcome_is : outcome ≡ outcome_of (map end_of runs)
 
+-- the first text was written whole, and of the second one a front
+pub record AppendsPast (old : Option (List ℕ)) (first text : List ℕ) (new : Option (List ℕ)) : Type 0 where
+  pub front : List ℕ
+  pub back : List ℕ
+  pub parts : text ≡ front ++ back
+  pub grown : Appends old new (first ++ front)
+
 -- What a run comes to, by its outcome: what the yard sees of it, and what is written.
 pub data Comes {E : Type 0} (Shows : E → List (TablesValue × ℕ) → List (Fed Entry) → List (Asker Entry) → Type 0) (meaning : Meaning) (at : Listening) (rounds : ℕ) (old new : YardSeen E) (told told' : Option (List ℕ)) (outcome : Outcome) : Type 0 where
   -- out of memory before anything was asked of the yard
@@ -83,7 +90,7 @@ pub data Comes {E : Type 0} (Shows : E → List (TablesValue × ℕ) → List (F
   -- all was served; a lane may have ended out of memory
   finished : (rev : ℕ) → Ends Shows meaning at rounds old new outcome rev → Appends told told' (ready_line ++ done_line rev) → Comes Shows meaning at rounds old new told told' outcome
   -- the same, and the last line couldn't be written
-  undone : (rev : ℕ) (meant : Outcome) → outcome ≡ WriteFault → Ends Shows meaning at rounds old new meant rev → AppendsFront told (ready_line ++ done_line rev) told' → Comes Shows meaning at rounds old new told told' outcome
+  undone : (rev : ℕ) (meant : Outcome) → outcome ≡ WriteFault → Ends Shows meaning at rounds old new meant rev → AppendsPast told ready_line (done_line rev) told' → Comes Shows meaning at rounds old new told told' outcome
 
 -- the outcome is this one exactly where the count rose, by the one fault that ended the call
 pub record AnswersFault (before now : ℕ) (outcome fault : Outcome) : Type 0 where

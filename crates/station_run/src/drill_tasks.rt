@@ -50,13 +50,10 @@ impl<J: Naming + Send + Sync> Work<RouterTables, J> for DrillTask {
         rt: &R,
         alloc: Global,
         publisher: &Publisher<RouterTables, J>,
-    ) -> Result<(), cut_publisher::NoMemory> {
+    ) {
         match self {
             DrillTask::Lane(lane) => lane.take(rt, alloc, publisher),
-            DrillTask::Ask(work) => {
-                work.serve();
-                Ok(())
-            }
+            DrillTask::Ask(work) => work.serve(),
         }
     }
 }
@@ -104,7 +101,7 @@ impl DrillLane {
         rt: &R,
         alloc: Global,
         publisher: &Publisher<RouterTables, J>,
-    ) -> Result<(), cut_publisher::NoMemory>
+    )
         requires station { self.old.pass.station ≡ J.site }
         requires ready { LaneMayDrill self.old }
         ensures { LaneHasDrilled self.old self.new }
@@ -112,9 +109,5 @@ impl DrillLane {
         let stream = replace(&mut self.stream, ByteList::new(alloc));
         let taken = take_stream(rt, alloc, publisher, &mut self.pass, stream);
         self.is_whole = taken.is_ok();
-        match taken {
-            Ok(()) => Ok(()),
-            Err(NoMemory) => Err(cut_publisher::NoMemory),
-        }
     }
 }

@@ -1,6 +1,7 @@
 //! A drill: lanes and askers at once, over streams that follow from a few numbers.
-ghost use Rattle.std.specs.Prelude.{◌≡◌, ◌≤◌, ◌<◌, ℕ, [], length, IfOk, IfSome, OnOk};
+ghost use Rattle.std.specs.Prelude.{◌≡◌, ◌≤◌, ◌<◌, ℕ, [], length, IfOk, IfSome, IsTrue, OnOk};
 ghost use Rattle.std.specs.Arc.{arc_value};
+ghost use Rattle.std.specs.List.{AllByRecursion};
 ghost use Rattle.bmp_specs.specs.Life.{most_taken};
 ghost use Rattle.cut_publisher.specs.History.{Site};
 ghost use Rattle.cut_publisher.specs.Opening.{AreAsksOf, AreFreshFeeds, IsOpened};
@@ -32,13 +33,22 @@ const ASKERS: u32 = 4;
 /// How often each of them asks.
 const ASKED: u32 = 16;
 
+// Whether a stream can be taken whole. That its numbers are octets, only a slice of it says.
+fn is_short(stream: &[u8]) -> bool
+    ensures short { IsTrue result → length stream.now < most_taken }
+    ensures octets { AllByRecursion (λ b. b < 256) stream.now }
+{
+    (stream.len() as u64) < MOST_TAKEN
+}
+
 // The stream of a lane. One that is too long to be taken whole counts as out of memory.
 fn short_stream(alloc: Global, seed: u32, lane: u32, messages: u32) -> Result<ByteList, NoMemory>
     ensures stream { IfOk result (λ bytes. IsDrillStream seed lane messages bytes) }
+    ensures octets { IfOk result (λ bytes. AllByRecursion (λ b. b < 256) bytes) }
     ensures short { IfOk result (λ bytes. length bytes < most_taken) }
 {
     let stream = drill_stream(alloc, seed, lane, messages)?;
-    if stream.as_slice().len() as u64 >= MOST_TAKEN {
+    if !is_short(stream.as_slice()) {
         return Err(NoMemory);
     }
     Ok(stream)
@@ -163,7 +173,7 @@ fn do_all<J: Naming + Send + Sync, R: Threads + Wait + Sync>(
     requires { AreReady drill_station MayDrill J.site tasks.old.items }
     ensures { AreDone HasDrilled tasks.old.items tasks.new.items }
 {
-    let _ = run_all(rt, alloc, publisher, tasks.as_mut_slice());
+    run_all(rt, alloc, publisher, tasks.as_mut_slice());
 }
 
 // Does all works, and gives their passes, where each lane took its stream whole.

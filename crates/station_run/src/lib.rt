@@ -2,7 +2,7 @@
 //!
 //! Each router's connections are the work of a lane (`feed_worker`), each client's the work of an asker
 //! (`ask_session`); all of them publish to, and read of, one history (`cut_publisher`). `run_all` does any number of
-//! works side by side, by halves of halves, each in a thread of its own where one can be started. `serve` is a whole run
+//! works side by side, each in a thread of its own where one can be started. `serve` is a whole run
 //! over any yard: it asks for all ports and links, serves them, gives all back, ends the history and gives the yard the
 //! ending. `drill` is a run without a yard: lanes take streams that follow from a few numbers (`drill_streams`), side by
 //! side with askers.

@@ -33,7 +33,7 @@ fn do_all<
     requires { AreReady station_of (λ _. Unit {0}) J.site tasks.old.items }
     ensures { AreDone (IsDone B.meaning P.aside K.aside K.told K.faults) tasks.old.items tasks.new.items }
 {
-    let _ = run_all(rt, alloc, publisher, tasks.as_mut_slice());
+    run_all(rt, alloc, publisher, tasks.as_mut_slice());
 }
 
 /// Serves the connections of all ports and links at once, by the passes of a station that was just opened. The ports, the

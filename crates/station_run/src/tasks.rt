@@ -5,7 +5,7 @@ ghost use Rattle.station_run.specs.Tasks.{LaneIsDone};
 use crate::works::Work;
 use ask_session::serve_session;
 use bmp_message::BodyReading;
-use cut_publisher::{AskPass, FeedPass, Naming, NoMemory, Publisher};
+use cut_publisher::{AskPass, FeedPass, Naming, Publisher};
 use feed_worker::{FeedPort, LaneEnd, serve_feed};
 use router_tables::RouterTables;
 use station_doors::Link;
@@ -58,13 +58,10 @@ impl<B: BodyReading + Drop, J: Naming + Send + Sync, P: FeedPort<B, J> + Drop, K
         rt: &R,
         alloc: Global,
         publisher: &Publisher<RouterTables, J>,
-    ) -> Result<(), NoMemory> {
+    ) {
         match self {
             Task::Lane(work) => serve_lane::<B, J, P, R>(rt, alloc, publisher, work),
-            Task::Ask(work) => {
-                work.serve();
-                Ok(())
-            }
+            Task::Ask(work) => work.serve(),
         }
     }
 }
@@ -75,7 +72,7 @@ fn serve_lane<B: BodyReading + Drop, J: Naming, P: FeedPort<B, J> + Drop, R: Wai
     alloc: Global,
     publisher: &Publisher<RouterTables, J>,
     work: &mut LaneWork<B, P>,
-) -> Result<(), NoMemory>
+)
     requires { work.old.pass.station ≡ J.site }
     ensures { LaneIsDone B.meaning P.aside work.old work.new }
 {
@@ -87,10 +84,6 @@ fn serve_lane<B: BodyReading + Drop, J: Naming, P: FeedPort<B, J> + Drop, R: Wai
         &mut work.port,
         work.rounds,
     );
-    match work.end {
-        LaneEnd::Over => Ok(()),
-        LaneEnd::NoMemory => Err(NoMemory),
-    }
 }
 
 impl<K: Link + Drop> AskWork<K> {

@@ -22,13 +22,12 @@ use Rattle.drill_streams.specs.DrillStream.{IsDrillStream, IsMessageAt, is_up}
 use Rattle.drill_streams.specs.Messages.{IsMessageOf, IsUp, closed_remotely, lane_name}
 use Rattle.drill_streams.specs.Peers.{peer_info, peer_key}
 use Rattle.query_eval.specs.Replies.{lanes_from, lanes_of}
-use Rattle.relay_out.specs.Octets.{AreOctets}
 use Rattle.relay_out.proofs.OneForm.{IsOne, octets_of, parts_one, peer_message_one}
 use Rattle.relay_out.proofs.OneMessage.{routes_one, told_one, up_one}
 use Rattle.rib_model.specs.declared.entry.Entry.{Entry}
 use Rattle.rib_model.specs.Entries.{entry_values}
 use Rattle.station_run.specs.Drill.{IsDrilled}
-use Rattle.station_top.specs.Drill.{AreReplies, HaveOctets, IsDrillText}
+use Rattle.station_top.specs.Drill.{AreReplies, IsDrillText}
 
 -- the message of a word
 message_one : (up : Bool) (w : ℕ) → IsOne (IsMessageOf up w)
@@ -63,9 +62,9 @@ drill_stream_one seed lane messages a b oa ob x y =
     x.joined ∙ (λ i. initiation i ++ (ups i ++ drawn i)) ∙ sym y.joined
 
 -- what a lane makes of its stream
-entries_one : (seed messages lane : ℕ) (es fs : List EntryValue) (p : IsDrilled seed messages lane es) (q : IsDrilled seed messages lane fs) → AreOctets p.bytes → AreOctets q.bytes → es ≡ fs
-entries_one seed messages lane es fs p q op oq =
-    let bytes : p.bytes ≡ q.bytes = drill_stream_one seed lane messages p.bytes q.bytes op oq p.stream q.stream in
+entries_one : (seed messages lane : ℕ) (es fs : List EntryValue) (p : IsDrilled seed messages lane es) (q : IsDrilled seed messages lane fs) → es ≡ fs
+entries_one seed messages lane es fs p q =
+    let bytes : p.bytes ≡ q.bytes = drill_stream_one seed lane messages p.bytes q.bytes p.octets q.octets p.stream q.stream in
     let walk = subst (λ (l : List ℕ). WalksBy strict l p.taken.messages p.taken.offset p.taken.verdict) bytes p.taken.walk in
     let one = stream_one strict strict_exact q.bytes p.taken.messages q.taken.messages p.taken.offset q.taken.offset p.taken.verdict q.taken.verdict walk q.taken.walk in
     p.taken.is ∙ ap (λ (ms : List EntryValue). opened ∷ ms) one.0 ∙ sym q.taken.is
@@ -73,17 +72,17 @@ entries_one seed messages lane es fs p q op oq =
 module _ (seed lanes messages : ℕ) where
   -- what all lanes do
   lanes_one : (h k : List (Event Entry)) (ps : (lane : ℕ) → lane < lanes → IsDrilled seed messages lane (entry_values (part lane h))) (qs : (lane : ℕ) → lane < lanes → IsDrilled seed messages lane (entry_values (part lane k)))
-      → ((lane : ℕ) (below : lane < lanes) → AreOctets (ps lane below).bytes) → ((lane : ℕ) (below : lane < lanes) → AreOctets (qs lane below).bytes) → (first n : ℕ) → first + n ≤ lanes → lanes_from first n h ≡ lanes_from first n k
-  lanes_one h k ps qs op oq first zero fits = refl
-  lanes_one h k ps qs op oq first (suc n) fits =
+      → (first n : ℕ) → first + n ≤ lanes → lanes_from first n h ≡ lanes_from first n k
+  lanes_one h k ps qs first zero fits = refl
+  lanes_one h k ps qs first (suc n) fits =
       let below : first < lanes = omega (arith, fits) in
-      let here = entries_one seed messages first (entry_values (part first h)) (entry_values (part first k)) (ps first below) (qs first below) (op first below) (oq first below) in
-      let rest = lanes_one h k ps qs op oq (suc first) n (omega (arith, fits)) in
+      let here = entries_one seed messages first (entry_values (part first h)) (entry_values (part first k)) (ps first below) (qs first below) in
+      let rest = lanes_one h k ps qs (suc first) n (omega (arith, fits)) in
       λ i. here i ∷ rest i
 
-  pub text_one : (a b : List ℕ) (s : IsDrillText seed lanes messages a) (t : IsDrillText seed lanes messages b) → HaveOctets s → HaveOctets t → a ≡ b
-  text_one a b s t os ot =
-      let same : lanes_of lanes s.history ≡ lanes_of lanes t.history = lanes_one s.history t.history s.parts t.parts os ot 0 lanes (omega arith) in
+  pub text_one : (a b : List ℕ) (s : IsDrillText seed lanes messages a) (t : IsDrillText seed lanes messages b) → a ≡ b
+  text_one a b s t =
+      let same : lanes_of lanes s.history ≡ lanes_of lanes t.history = lanes_one s.history t.history s.parts t.parts 0 lanes (omega arith) in
       let told = lanes_of lanes t.history in
       let r : AreReplies told a = subst (λ (l : List (List EntryValue)). AreReplies l a) same s.replies in
       let u = t.replies in

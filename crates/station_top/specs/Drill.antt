@@ -7,7 +7,6 @@ use Rattle.bmp_specs.specs.Values.{EntryValue}
 use Rattle.cut_publisher.specs.declared.history.Event.{Event}
 use Rattle.cut_publisher.specs.History.{part}
 use Rattle.query_eval.specs.Replies.{lanes_of}
-use Rattle.relay_out.specs.Octets.{AreOctets}
 use Rattle.rib_model.specs.declared.entry.Entry.{Entry}
 use Rattle.rib_model.specs.Entries.{entry_values}
 use Rattle.station_run.specs.Drill.{IsDrilled}
@@ -28,7 +27,3 @@ pub record IsDrillText (seed lanes messages : ℕ) (text : List ℕ) : Type 0 wh
   pub history : List (Event Entry)
   pub parts : (lane : ℕ) → lane < lanes → IsDrilled seed messages lane (entry_values (part lane history))
   pub replies : AreReplies (lanes_of lanes history) text
-
--- the streams of its lanes are lists of octets
-abbrev pub HaveOctets : {seed lanes messages : ℕ} {text : List ℕ} → IsDrillText seed lanes messages text → Type 0
-HaveOctets {seed} {lanes} {messages} {text} drilled = (lane : ℕ) (below : lane < lanes) → AreOctets (drilled.parts lane below).bytes

@@ -232,7 +232,8 @@ fn run_recall_of<Y: Yard, O: Sink>(
     out: &mut O,
 ) -> Status
     requires { IsAsked query.now }
-    ensures concludes { RecallConcludes (meaning_of lenient) (IsReplyOf query.now) path.now (Y.seen yard.old).told (Y.seen yard.new).told (Y.seen yard.old).calls (O.told out.old) (O.told out.new) result }
+    ensures concludes { RecallConcludes (meaning_of lenient) (IsReplyOf query.now) path.now
+        (Y.seen yard.old).told (Y.seen yard.new).told (Y.seen yard.old).calls (O.told out.old) (O.told out.new) result }
     ensures calls { (Y.seen yard.new).calls ≡ one_more (Y.seen yard.old).calls }
     ensures nobody { ServesNobody (Y.seen yard.old) (Y.seen yard.new) }
     ensures out { AnswersFault (O.faults out.old) (O.faults out.new) result Status.WriteFault }

@@ -18,7 +18,7 @@ loop-pass-smaller c =
 pub loop-pass-preserved : goal.loop-pass-preserved
 loop-pass-preserved c = λ b lanes fresh.
     let w : DrillLane = record { pass = c.in-Some.pass; stream = c.in_ok-stream.stream; is_whole = false } in
-    adding_more c.args.seed c.args.messages b lanes c.loop-pass.feeds c.pop.new.self c.loop-pass.tasks.items c.push.new.self.items w c.in-Some.ensures c.in_ok-push.ensures.items
+    adding_more c.args.seed c.args.messages b lanes c.loop-pass.feeds c.pop.new.self c.loop-pass.tasks.items c.push.new.self.items w c.in-Some.ensures c.in_ok-push.ensures.items c.in_ok-stream.ensures.octets
     (subst (λ (n : ℕ). IsDrillStream c.args.seed n c.args.messages c.in_ok-stream.stream) c.lane.ensures c.in_ok-stream.ensures.stream) c.in_ok-stream.ensures.short (c.loop-pass.invariant b lanes fresh)
 
 pub returns : goal.returns

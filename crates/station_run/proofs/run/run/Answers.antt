@@ -8,7 +8,7 @@ use Rattle.station_run.specs.Handed.{AllComeBack, link_shows, numbered, numbered
 use Rattle.station_run.specs.Serve.{done_line, ready_line, refused, unready, unfinished, finished, undone}
 use Rattle.station_run.specs.Served.{end_of}
 use Rattle.station_run.specs.declared.outcome.Outcome.TheVariants.{WriteFault, YardFault}
-use Rattle.wire_io.proofs.Joins.{join}
+use Rattle.wire_io.proofs.Joins.{appends_then, join}
 use Rattle.station_run.proofs.Handing.{length-numbered, length-numbered_links}
 use Rattle.station_run.proofs.Runs.{is_served}
 use Rattle.station_run.proofs.Ends.{answers, answers_not, as_many_back, as_many_links_back, ask_runs_are, asks_are_of, asks_of_site, by_runs, feeds_of_site, gives_back, keeps_self, no_memory_write, no_memory_yard, not_write, not_yard, runs_are, serves_all, write_yard}
@@ -123,7 +123,6 @@ returns-in-Err-clause-comes g c =
     let ports_count = length-numbered g.Y.Port.Port.aside 0 c.in-Ok.doors.ports.items ∙ o.asked.0 in
     let links_count = length-numbered_links shows 0 c.in-Ok.doors.links.items ∙ o.asked.1 in
     let told = subst (λ (y : Option YardValue). AllComeBack (g.Y.Yard.seen c.open_doors.new.yard).told y (numbered g.Y.Port.Port.aside 0 c.serve_doors-outcome.new.ports.items) (numbered_links shows 0 c.serve_doors-outcome.new.links.items)) (sym t.told) b.told in
-    let writes = join {faults = g.O.Sink.faults} {told = g.O.Sink.told} {aside = g.O.Sink.aside} c.args.out.now c.put_ready.new.out c.put_done.new.out ready_line (done_line c.rev-rev.result) _ c.in-Ok-put_ready.field-0 (Err c.in-Err.field-0) c.in-Ok-put_ready.ensures c.in-Err.ensures refl in
     undone c.rev-rev.result c.serve_doors-outcome.result.0 refl (record {
       runs = s.runs;
       ask_runs = s.ask_runs;
@@ -139,7 +138,12 @@ returns-in-Err-clause-comes g c =
       shows = c.of.ensures;
       takes = record { endings = t.endings ∙ ap (λ (n : ℕ). one_more n) (b.rest.endings ∙ o.none.endings); last = subst (λ (y : Option YardValue). KeepsEnding y c.of.result (g.Y.Yard.seen c.take_ending.new.self).last_ending) (sym t.told) t.ending };
       outcome_is = s.outcome_is;
-    }) writes.front
+    }) (record {
+      front = c.in-Err.ensures.front.front;
+      back = c.in-Err.ensures.front.back;
+      parts = c.in-Err.ensures.front.parts;
+      grown = appends_then (g.O.Sink.told c.args.out.now) (g.O.Sink.told c.put_ready.new.out) (g.O.Sink.told c.put_done.new.out) ready_line c.in-Err.ensures.front.front c.in-Ok-put_ready.ensures.whole c.in-Err.ensures.front.grown;
+    })
 
 pub returns-in-Err-clause-out : goal.returns-in-Err-clause-out
 returns-in-Err-clause-out g c =
