@@ -8,7 +8,6 @@ use crate::{
 #[derive(Clone, Copy)]
 enum Call {
     WritePieces,
-    WriteBuffered,
     WriteSure,
     WriteToSlice,
     CutBack,
@@ -53,9 +52,8 @@ enum Call {
     ModelRows,
 }
 
-const CALLS: [(&str, Call); 44] = [
+const CALLS: [(&str, Call); 43] = [
     ("write-pieces", Call::WritePieces),
-    ("write-buffered", Call::WriteBuffered),
     ("write-sure", Call::WriteSure),
     ("write-to-slice", Call::WriteToSlice),
     ("cut-back", Call::CutBack),
@@ -122,8 +120,7 @@ pub(crate) fn answer(line: &mut Line, words: &[&str]) {
 
 fn on_lists(line: &mut Line, call: Call, words: &[&str]) {
     match call {
-        Call::WritePieces => lists::write(line, words, false),
-        Call::WriteBuffered => lists::write(line, words, true),
+        Call::WritePieces => lists::write(line, words),
         Call::WriteSure => lists::write_sure(line, words),
         Call::WriteToSlice => lists::write_to_slice(line, words),
         Call::CutBack => lists::cut_back(line, words),

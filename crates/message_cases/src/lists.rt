@@ -1,37 +1,33 @@
 //! Sinks, and lists of bytes.
 use crate::words::{Line, at, number_at};
-use wire_io::{ByteList, MemSink, StdSink, SureSink, write_all, write_buffered, write_pieces};
+use wire_io::{ByteList, MemSink, StdSink, SureSink, write_all, write_pieces};
 
 // Whether all pieces were written, and what was.
-fn put_written(out: &mut Line, sink: &mut MemSink, is_buffered: bool, pieces: &[&[u8]]) {
-    let written = if is_buffered {
-        write_buffered(sink, pieces)
-    } else {
-        write_pieces(sink, pieces)
-    };
+fn put_written(out: &mut Line, sink: &mut MemSink, pieces: &[&[u8]]) {
+    let written = write_pieces(sink, pieces);
     out.show("", &written);
     out.put(" ");
     out.put_text(sink.taken());
 }
 
 // Writes three pieces to a sink with room for so many bytes, where the writes with these numbers fail.
-fn write_in(out: &mut Line, words: &[&str], is_buffered: bool, fails: &[u64]) {
+fn write_in(out: &mut Line, words: &[&str], fails: &[u64]) {
     let pieces = [
         at(words, 3).as_bytes(),
         at(words, 4).as_bytes(),
         at(words, 5).as_bytes(),
     ];
     match MemSink::new(out.alloc, number_at(words, 1), fails) {
-        Ok(mut sink) => put_written(out, &mut sink, is_buffered, &pieces),
+        Ok(mut sink) => put_written(out, &mut sink, &pieces),
         Err(_) => out.fail(),
     }
 }
 
-pub(crate) fn write(out: &mut Line, words: &[&str], is_buffered: bool) {
+pub(crate) fn write(out: &mut Line, words: &[&str]) {
     if at(words, 2) == "-" {
-        write_in(out, words, is_buffered, &[]);
+        write_in(out, words, &[]);
     } else {
-        write_in(out, words, is_buffered, &[number_at(words, 2) as u64]);
+        write_in(out, words, &[number_at(words, 2) as u64]);
     }
 }
 

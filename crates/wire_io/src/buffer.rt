@@ -185,25 +185,3 @@ fn put_over<O: Sink, P: Puts<O>>(out: O, what: P) -> (O, Result<(), Failed>)
     };
     (buffer.into_inner(), result)
 }
-
-// Pieces, one after another.
-struct Pieces<'a> {
-    pieces: &'a [&'a [u8]],
-}
-
-impl<O: Sink> Puts<O> for Pieces<'_> {
-    ghost leaves = { λ p old. Writes (λ b. O.faults b.below) (λ b. append_known (O.told b.below) b.held) (λ b. laid_over (O.told b.first) (O.aside b.below)) old (joined p.pieces.now) };
-
-    fn put(self, buffer: &mut BufferedSink<O>) -> Result<(), Failed> {
-        let Pieces { pieces } = self;
-        write_pieces(buffer, pieces)
-    }
-}
-
-/// Writes the pieces, one after another, through a buffer, which is handed on at the end. A write that
-/// fails ends the call. It takes no memory.
-pub fn write_buffered<O: Sink>(out: &mut O, pieces: &[&[u8]]) -> Result<(), Failed>
-    ensures { Writes O.faults O.told O.aside out.old (joined pieces.now) result out.new }
-{
-    through_buffer(out, Pieces { pieces })
-}
