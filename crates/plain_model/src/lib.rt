@@ -17,7 +17,6 @@ mod table;
 mod values;
 
 pub use bmp_specs::{Family, View, Why};
-pub use order::row_key_order;
 pub use stream::{End, Meaning, Walked, walk};
 pub use table::{row_at, rows};
 pub use values::{Address, Effect, Peer, Route, Row, RowKey};

@@ -36,7 +36,6 @@ pub use peer::put_peer;
 pub use route::put_route;
 pub use route_lines::{RouteLines, is_short};
 pub use router::{RouterLine, RouterState, put_router};
-pub use rov::put_rov;
 pub use rov_lines::RovLines;
 pub use stat::put_stat;
 pub use wire_io::{Failed, Sink};

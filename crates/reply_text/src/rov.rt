@@ -40,7 +40,7 @@ fn put_judged_row<O: Sink>(
 /// Writes the line of a row of this lane with what it is judged to be: its peer, the RIB that it was seen in, its prefix,
 /// the AS that originated its route or `none`, what it is judged to be, and its path identifier where it has one (RFC 7911,
 /// section 3). Where a write fails, a front of the line was written.
-pub fn put_rov<O: Sink>(
+pub(crate) fn put_rov<O: Sink>(
     out: &mut O,
     lane: u32,
     row: &RowKey,
