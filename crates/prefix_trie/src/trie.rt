@@ -56,6 +56,7 @@ impl<T: Drop> Trie<T> {
         ensures family { self.new.family ≡ self.old.family }
         ensures ordered { IsStrictlySortedBy prefix_cmp (keys_of self.new.pairs) }
     {
+        // For the proof: a prefix has no more bits than its family.
         let _bits = prefix.bits();
         match self.pairs.insert(prefix, Held::new(value)) {
             Ok(Some(before)) => Ok(Some(before.into_value())),

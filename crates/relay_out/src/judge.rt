@@ -130,6 +130,7 @@ impl SetTest for Announceable {
 fn can_announce_all(table: &RouteTable, key: &PeerKey, view: View, info: &PeerInfo) -> bool
     ensures { IsTrue result → AllByRecursion IsWritable (map (announces info.now) (table_rows key.now view (Some table.now))) }
 {
+    // For the proof: the rows are in order.
     table.see_order();
     if !can_complete(key, view) {
         return false;

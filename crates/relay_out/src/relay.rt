@@ -53,6 +53,7 @@ fn write_stream<O: Sink>(alloc: Global, tables: &RouterTables, out: &mut O) -> R
 fn see_order(tables: &RouterTables)
     ensures { IsStrictlySortedBy key_cmp (keys_of tables.now.session.books.peers) }
 {
+    // For the proof: what is read of the book says that its peers are in order.
     let _first = tables.peers().after(None);
 }
 

@@ -124,6 +124,7 @@ fn hand_table<T: Takes>(
     if taker.has_taken(table, key, view, info) {
         return Ok(());
     }
+    // For the proof: the rows are in order.
     table.see_order();
     hand_walk(table.walk(Place::First), key, view, info, taker)
 }

@@ -1,6 +1,9 @@
 -- An NLRI in a few numbers that stand in its order.
 use Rattle.std.specs.Prelude.{◌≡◌, ℕ, zero, suc, ◌+◌, ◌*◌, ◌/◌, ◌%◌, ◌<◌, List, ◌++◌, Option, Some, None}
+use Rattle.std.specs.declared.cmp.Ordering.{Ordering}
+use Rattle.std.specs.Cmp.Lexicographic.{slice_cmp}
 use Rattle.std.specs.Int.{w32, w64, to_be_bytes}
+use Rattle.std.specs.Ordering.{nat_cmp}
 use Rattle.std.proofs.Common.{arith, refl, sym}
 use Rattle.bmp_specs.specs.declared.wire.Family.{Family}
 use Rattle.bmp_specs.specs.Address.{IsAddress, IsAddressPrefix}
@@ -18,6 +21,11 @@ octets6 halves = to_be_bytes w64 halves.0 ++ to_be_bytes w64 halves.1
 -- the bytes are those of an address of this family
 abbrev pub AreOctets : Family → List ℕ → Type 0
 AreOctets family octets = IsAddress (record { family = family; octets = octets })
+
+-- the numbers of a family's addresses stand in the order of their bytes
+abbrev pub StandAsOctets : {A : Type 0} → (A → A → Ordering) → Family → (A → List ℕ) → (List ℕ → A) → Type 0
+StandAsOctets {A} cmp family octets number = (a b : A) → number (octets a) ≡ a → number (octets b) ≡ b
+    → AreOctets family (octets a) → AreOctets family (octets b) → cmp a b ≡ slice_cmp nat_cmp (octets a) (octets b)
 
 -- the path identifier, where the mark isn't zero
 abbrev pub id_at : ℕ → ℕ → Option ℕ

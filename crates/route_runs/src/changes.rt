@@ -120,6 +120,7 @@ fn change_half<N: KeyAddress>(
     ensures changed { OnOk result (AreChangedTo nlri_cmp (of_family N.family nlri.now) (option_map shared to.entry) half.old half.new) }
 {
     if !has_family(nlri, N::its_family()) {
+        // For the proof: the pairs are in order.
         half.see_order();
         return Ok(());
     }

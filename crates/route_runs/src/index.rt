@@ -336,6 +336,7 @@ pub(crate) fn with_changes<K: TableKey>(
     ensures changed { IfOk result (λ r. IsChanged K.cmp runs.now changes r.0) }
     ensures known { IfOk result (λ r. IsKnown K.cmp K.Spot.cmp K.spot_of attrs_origin r.0 r.1) }
 {
+    // For the proof: the pairs are in order.
     runs.see_order();
     let rows = changes.into_run(alloc)?;
     match rows {

@@ -1,8 +1,6 @@
 ghost use Rattle.std.specs.Prelude.{◌≡◌, ℕ, List};
-ghost use Rattle.std.specs.Cmp.Lexicographic.{slice_cmp};
-ghost use Rattle.std.specs.Ordering.{nat_cmp};
 ghost use Rattle.bmp_specs.specs.declared.wire.Family.{Family as FamilyValue};
-ghost use Rattle.route_runs.specs.NumberKeys.{AreOctets};
+ghost use Rattle.route_runs.specs.NumberKeys.{StandAsOctets};
 
 use ip_prefix::{Addr, Family};
 
@@ -32,7 +30,7 @@ pub(crate) trait KeyAddress: Copy + Ord {
     /// A number by which the order of addresses is guessed.
     fn rank(&self) -> u64;
 
-    ghost in_order: { (a b : Self) → number (octets a) ≡ a → number (octets b) ≡ b → AreOctets family (octets a) → AreOctets family (octets b) → Self.cmp a b ≡ slice_cmp nat_cmp (octets a) (octets b) };
+    ghost in_order: { StandAsOctets Self.cmp family octets number };
 }
 
 // An IPv4 address is one number.

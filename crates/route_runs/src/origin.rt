@@ -182,6 +182,7 @@ pub(crate) fn first_of<'a, K: TableKey>(
     ensures pairs { pairs_in index.new ≡ pairs_in index.old }
     ensures ordered { IsStrictlySortedBy K.cmp (keys_of rows.old.pairs) }
 {
+    // For the proof: the pairs are in order.
     rows.see_order();
     if at {
         return first_from(rows, index, asn, place);

@@ -73,6 +73,7 @@ fn or_first_of_ipv6<'a>(
     ensures none { is_some found.now ≡ false → IsFirst nlri_cmp (λ q. true) (λ q. value_at nlri_cmp q (with_origin asn ipv6.old)) (option_map shown result) }
     ensures same { ipv6.new ≡ ipv6.old }
 {
+    // For the proof: the pairs are in order.
     ipv6.see_order();
     if found.is_some() {
         return pair(found);
@@ -93,6 +94,7 @@ fn first_in_both<'a>(
     ensures ipv4 { ipv4.new ≡ ipv4.old }
     ensures ipv6 { ipv6.new ≡ ipv6.old }
 {
+    // For the proof: the pairs are in order.
     ipv4.see_order();
     ipv6.see_order();
     match family_of(place) {
@@ -117,6 +119,7 @@ impl<'a> OriginWalk<'a> {
         ensures next { self.old ≡ option_to_list (option_map shown result) ++ self.new }
         ensures none { IsNone result ↔ (self.old ≡ []) }
     {
+        // For the proof: the pairs are in order.
         self.ipv4.see_order();
         self.ipv6.see_order();
         let place = self.place;

@@ -61,6 +61,7 @@ impl<K: RunKey, A: Drop> Runs<K, A> {
     pub(crate) fn see_order(&self)
         ensures { IsStrictlySortedBy K.cmp (keys_of self.now) }
     {
+        // The invariant says it; the length is read so that it is at hand.
         let _runs = self.runs.len();
     }
 

@@ -23,6 +23,7 @@ fn see_number(number: u32)
 pub(crate) fn see(nlri: &Nlri)
     ensures { IsNlri nlri.now }
 {
+    // A prefix has no more bits than its family.
     let _bits = nlri.prefix.bits();
     see_id(nlri.id);
 }

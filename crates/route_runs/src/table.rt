@@ -100,6 +100,7 @@ impl RouteTable {
         ensures ordered { IsStrictlySortedBy nlri_cmp (keys_of self.now) }
         ensures nlri { AreNlri self.now }
     {
+        // For the proof: the pairs are in order.
         self.ipv4.see_order();
         self.ipv6.see_order();
     }
@@ -121,6 +122,7 @@ impl RouteTable {
         ensures longest { IsLongest addr.now self.now result }
         ensures cost { steps.new ≤ steps.old + width_of addr.now.family + 1 }
     {
+        // For the proof: the pairs are in order.
         self.see_order();
         longest_by_looks(&Looks::new(self.ipv4.rows(), self.ipv6.rows()), addr, steps)
     }
@@ -185,6 +187,7 @@ impl RouteTable {
         ensures left { result ≡ left nlri_cmp (when at place) (record { pairs = with_origin asn self.now; place = Some place }) }
         ensures nlri { AreNlri self.now }
     {
+        // For the proof: the pairs are in order.
         self.see_order();
         OriginWalk {
             ipv4: self.ipv4.origins(),

@@ -64,6 +64,7 @@ impl<'a> TableCursor<'a> {
         ensures pairs { self.new.pairs ≡ self.old.pairs }
         ensures ordered { IsStrictlySortedBy nlri_cmp (keys_of self.old.pairs) }
     {
+        // For the proof: the pairs are in order.
         self.ipv4.see_order();
         self.ipv6.see_order();
         let found = next_in_both(&mut self.ipv4, &mut self.ipv6, self.place);
@@ -78,6 +79,7 @@ impl<'a> TableCursor<'a> {
         ensures pairs { self.new.pairs ≡ self.old.pairs }
         ensures ordered { IsStrictlySortedBy nlri_cmp (keys_of self.old.pairs) }
     {
+        // For the proof: the pairs are in order.
         self.ipv4.see_order();
         self.ipv6.see_order();
         let found = from_in_both(&mut self.ipv4, &mut self.ipv6, &nlri);
