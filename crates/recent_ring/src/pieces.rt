@@ -27,7 +27,7 @@ pub(crate) fn not_needed<T>(pieces: &[Arc<Piece<T>>], items: usize) -> usize
 }
 
 /// A list of the same pieces, with memory for two more.
-pub(crate) fn again<T: Drop>(
+pub(crate) fn with_room_for_two<T: Drop>(
     alloc: Global,
     pieces: &[Arc<Piece<T>>],
 ) -> Result<Vec<Arc<Piece<T>>>, NoMemory>
@@ -49,7 +49,7 @@ pub(crate) fn and_one_more<T: Drop>(
 ) -> Result<Vec<Arc<Piece<T>>>, NoMemory>
     ensures { IfOk result (λ list. joined list.items ≡ joined pieces.now ++ piece.items) }
 {
-    let mut list = again(alloc, pieces)?;
+    let mut list = with_room_for_two(alloc, pieces)?;
     list.push(Arc::new(alloc, piece)?)?;
     Ok(list)
 }

@@ -4,7 +4,7 @@ ghost use Rattle.std.specs.Option.{option_copied};
 ghost use Rattle.recent_ring.specs.Recent.{joined, last_items, recent, IsCopy};
 
 use crate::keep::Keep;
-use crate::pieces::{Piece, again, and_one_more, from_the_last, not_needed, piece_of};
+use crate::pieces::{Piece, and_one_more, from_the_last, not_needed, piece_of, with_room_for_two};
 use circular_buffer::HeapCircularBuffer;
 use std::alloc::Global;
 use std::marker::Model;
@@ -171,7 +171,7 @@ impl<T: Keep + Drop> Recent<T> {
         let newer = self.newer.len();
         let first = not_needed(&self.older, items.saturating_sub(newer));
         if newer == 0 {
-            let shared = again(alloc, &self.older[first..])?;
+            let shared = with_room_for_two(alloc, &self.older[first..])?;
             return Ok(shared);
         }
         let piece = piece_of(alloc, &self.newer)?;

@@ -3,7 +3,7 @@ use Rattle.std.specs.Arc.{arc_value}
 use Rattle.std.specs.declared.vec.Vec.{Vec}
 use Rattle.recent_ring.specs.Recent.{joined}
 use Rattle.recent_ring.proofs.Joined.{joined_push, joined_more}
-use Rattle.recent_ring.proofs.pieces.again.Goals as goal
+use Rattle.recent_ring.proofs.pieces.with_room_for_two.Goals as goal
 
 pub loop-piece-preserved : goal.loop-piece-preserved
 loop-piece-preserved g c =
