@@ -1,14 +1,13 @@
 -- One part after another that is passed where something holds of its value, as a loop does.
-use Rattle.std.proofs.Common.{◌≡◌, ◌≢◌, ◌*◌, ◌<◌, ℕ, List, [], ◌∷◌, ◌++◌, length, drop, take, inl, inr, refl, sym, ap, subst, ◌∙◌, arith}
+use Rattle.std.proofs.Common.{◌≡◌, ◌≢◌, ◌*◌, ℕ, List, [], ◌∷◌, ◌++◌, length, drop, inl, inr, subst, arith}
 use Rattle.std.specs.List.{AllByRecursion}
 use Rattle.std.proofs.lemmas.Bool.{cases_eq}
-use Rattle.std.proofs.lemmas.List.{nil_from_length}
 use Rattle.bmp_specs.specs.declared.wire.SegmentKind.{SegmentKind}
 use Rattle.bmp_specs.specs.declared.wire.Width.{Width}
 use Rattle.bmp_specs.specs.AsPath.{as_width, AreAsNumbers, ArePath, IsAsNumber, IsSegment}
 use Rattle.bmp_specs.specs.Parts.{AreParts, IsCode}
 use Rattle.bmp_specs.specs.Values.{SegmentValue}
-use Rattle.bmp_specs.proofs.PartsRead.{AreParts-one, HasRead, HasRead-end, HasRead-more, HasRead-nil}
+use Rattle.bmp_specs.proofs.PartsRead.{AreParts-one, HasRead, HasRead-end, HasRead-more}
 use Rattle.bmp_specs.proofs.PathCode.{as_number_code, segment_code}
 use Rattle.as_path.specs.Reading.{HasHeader}
 use Rattle.as_path.proofs.Judging.{numbers_there}
@@ -29,9 +28,6 @@ held P [] ws v all = all.0
 held P (u ∷ vs) ws v all = held P vs ws v all.1
 
 module _ {V : Type 0} (Is : List ℕ → V → Type 0) (code : IsCode Is) (P : V → Type 0) where
-  pub passes_first : (bytes : List ℕ) → Passes Is P bytes bytes
-  passes_first bytes = record { out = []; read = HasRead-nil Is bytes; hold = tt }
-
   pub passes_more : (bytes rest front after : List ℕ) (v : V) → Passes Is P bytes rest → rest ≡ front ++ after → Is front v → P v → Passes Is P bytes after
   passes_more bytes rest front after v p split is here = record { out = p.out ++ v ∷ []; read = HasRead-more Is code bytes p.out rest front after v p.read split is; hold = push P p.out v p.hold here }
 
@@ -52,9 +48,6 @@ IsNoZero asn = asn ≢ 0
 abbrev pub PassesNumbers : Width → List ℕ → List ℕ → Type 0
 PassesNumbers width bytes rest = Passes (IsAsNumber width) IsNoZero bytes rest
 
-pub numbers_first : (width : Width) (bytes : List ℕ) → PassesNumbers width bytes bytes
-numbers_first width = passes_first (IsAsNumber width) (as_number_code width) IsNoZero
-
 pub numbers_more : (width : Width) (bytes rest front after : List ℕ) (n : ℕ) → PassesNumbers width bytes rest → rest ≡ front ++ after → IsAsNumber width front n → n ≢ 0 → PassesNumbers width bytes after
 numbers_more width = passes_more (IsAsNumber width) (as_number_code width) IsNoZero
 
@@ -70,9 +63,6 @@ HasNoZero segment = AllByRecursion IsNoZero segment.numbers
 
 abbrev pub PassesSegments : Width → List ℕ → List ℕ → Type 0
 PassesSegments width bytes rest = Passes (IsSegment width) HasNoZero bytes rest
-
-pub segments_passed_first : (width : Width) (bytes : List ℕ) → PassesSegments width bytes bytes
-segments_passed_first width = passes_first (IsSegment width) (segment_code width) HasNoZero
 
 module _ (width : Width) (bytes rest front after : List ℕ) (kind : SegmentKind) (count : ℕ) (p : PassesSegments width bytes rest) (h : HasHeader width rest kind count) (split : drop 2 rest ≡ front ++ after) (len : length front ≡ as_width width * count) where
   pub segments_passed_more : ((asns : List ℕ) → AreAsNumbers width front asns → AllByRecursion IsNoZero asns) → PassesSegments width bytes after

@@ -1,7 +1,6 @@
 -- One byte and one piece of the input after another.
 use Rattle.std.proofs.Common.{◌≡◌, ◌≢◌, inl, inr, ℕ, ◌+◌, ◌<◌, Bool, true, false, length, take, drop, get_or, List, [], ◌∷◌, ◌++◌, Option, None, Some, refl, ap, sym, ◌∙◌, subst, append_assoc, append-nil, drop-cons, suc, arith}
 use Rattle.std.proofs.lemmas.List.{take_more, take-append-drop}
-use mathlib.Core.Bool.{false≢true}
 use Rattle.std.specs.Io.KnownBytes.{Appends}
 use Rattle.cut_publisher.specs.History.{Begins, revision}
 use Rattle.cut_publisher.proofs.Prefixes.{begins_self, begins_trans}
@@ -9,7 +8,7 @@ use Rattle.wire_io.proofs.Joins.{appends_then, appends_none}
 use Rattle.ask_session.specs.declared.close.Close.{Close}
 use Rattle.ask_session.specs.declared.close.Close.TheVariants.{Ended, Full, Over, ReadFault, WriteFault}
 use Rattle.ask_session.specs.Lines.{HasNoEnd, IsTooMany, chomped}
-use Rattle.ask_session.specs.Replies.{History, Heard, too_long, unknown, asked, over, IsHeard, is_over}
+use Rattle.ask_session.specs.Replies.{History, Heard, too_long, unknown, asked, over, IsHeard}
 use Rattle.ask_session.specs.Dialogue.{Dialogue}
 use Rattle.ask_session.specs.Connection.{HasWritten}
 use Rattle.ask_session.specs.Hearing.{IsEarly, IsEnd, Replied, Goes, Halts, EndsSo}
@@ -81,9 +80,6 @@ module _ (lanes : ℕ) where
         written = r.answers.2;
       }
 
-  pub long_ends : (seen' : History) (pending : List ℕ) (a b : Option (List ℕ)) (n0 n1 : ℕ) → IsTooMany pending → Replied lanes pending seen' a b n0 n1 None → ⊥
-  long_ends seen' pending a b n0 n1 many r = false≢true (sym r.answers.0 ∙ ap is_over (is_too_long pending r.heard r.is_heard (many_long pending many)))
-
   -- the end of the input
   silent : (close : Close) (ended : Bool) (history : History) (least : ℕ) → IsEnd close → Dialogue lanes close ended history least [] []
   silent Ended ended history least e = record { turns = []; talks = (record { plain = tt; few = few_none; none = λ _. refl }, refl) }
@@ -98,12 +94,6 @@ module _ (lanes : ℕ) where
   calm_end Over text a b n0 n1 e p q = absurd e
   calm_end ReadFault text a b n0 n1 e p q = absurd e
   calm_end WriteFault text a b n0 n1 e p q = absurd e
-
-  pub ends_empty : (close : Close) (seen : History) (pending : List ℕ) (told : Option (List ℕ)) (writes : ℕ) → IsEnd close → pending ≡ [] → EndsSo lanes close close seen seen pending told told writes writes
-  ends_empty close seen pending told writes e none = rw none (record {
-    which = inl refl;
-    halts = record { sees = begins_self seen; replies = []; talk = silent close true seen (revision seen) e; written = calm_end close [] told told writes writes e (appends_none told) refl };
-  })
 
   pub ends_line : (close : Close) (seen seen' : History) (pending : List ℕ) (a b : Option (List ℕ)) (n0 n1 : ℕ) → Begins seen seen' → IsEnd close → HasNoEnd pending → 0 < length pending → Replied lanes pending seen' a b n0 n1 None → EndsSo lanes close close seen seen' pending a b n0 n1
   ends_line close seen seen' pending a b n0 n1 sees e plain some r = record {

@@ -1,6 +1,6 @@
 -- One capability after another, and one parameter after another, as the loops read them.
 use Rattle.std.proofs.Common.{◌≡◌, ◌<◌, ◌≤◌, ℕ, Bool, true, false, cond, List, [], ◌∷◌, ◌++◌, length, take, drop, get_or, Option, Some, None, refl, sym, ap, subst, ◌∙◌, append_assoc, append-nil, arith}
-use Rattle.std.specs.Prelude.{MatchBool, find, option_to_list, if◌then◌else◌}
+use Rattle.std.specs.Prelude.{find, option_to_list, if◌then◌else◌}
 use Rattle.std.proofs.lemmas.List.Concat.{flat_map-append}
 use Rattle.std.proofs.lemmas.List.Elements.{filter_map-append}
 use Rattle.std.proofs.lemmas.List.Folds.{find-append}
@@ -8,14 +8,14 @@ use Rattle.std.specs.List.{cons_option, filter_map, flat_map}
 use Rattle.std.specs.Option.{option_map, option_or}
 use Rattle.byteorder.specs.Endian.{big_number}
 use Rattle.bmp_specs.specs.Coded.{IsCoded}
-use Rattle.bmp_specs.specs.Open.{Announces, AreParameters, HasParameters, IsParameter, entries, family_in, has_extended_length, is_four_octet, paths_in}
+use Rattle.bmp_specs.specs.Open.{Announces, IsParameter, entries, family_in, has_extended_length, is_four_octet, paths_in}
 use Rattle.bmp_specs.specs.Parts.{AreParts}
 use Rattle.bmp_specs.specs.Sequence.{HasFront}
 use Rattle.bmp_specs.specs.Values.{CapValue, CodedValue, OpenValue}
 use Rattle.bmp_specs.proofs.CodedCode.{coded_code}
 use Rattle.bmp_specs.proofs.OpenOne.{parameter_code}
-use Rattle.bmp_specs.proofs.PartsRead.{HasRead, HasRead-nil, HasRead-front, HasRead-none, HasRead-end}
-use Rattle.bgp_open.specs.Telling.{Adds, AddsParameters, HasCapabilities, Tells, TellsParameters, TellsRest}
+use Rattle.bmp_specs.proofs.PartsRead.{HasRead, HasRead-front, HasRead-none, HasRead-end}
+use Rattle.bgp_open.specs.Telling.{Adds, AddsParameters, HasCapabilities, Tells, TellsRest}
 use Rattle.bgp_open.specs.declared.read.Announced.{Announced}
 
 -- the entry in four bytes
@@ -28,13 +28,6 @@ entries_more (a ∷ b ∷ c ∷ []) long = absurd (omega arith)
 entries_more (a ∷ b ∷ []) long = absurd (omega arith)
 entries_more (a ∷ []) long = absurd (omega arith)
 entries_more [] long = absurd (omega arith)
-
-pub entries_end : (bytes : List ℕ) → length bytes < 4 → entries bytes ≡ []
-entries_end (a ∷ b ∷ c ∷ d ∷ bytes) short = absurd (omega arith)
-entries_end (a ∷ b ∷ c ∷ []) short = refl
-entries_end (a ∷ b ∷ []) short = refl
-entries_end (a ∷ []) short = refl
-entries_end [] short = refl
 
 -- one AS number, where the capability has it
 four_single : (c : CodedValue) (b : Bool) → option_map (λ (d : CodedValue). big_number 4 d.value) (cond b (Some c) None) ≡ cond b (Some (big_number 4 c.value)) None
@@ -70,10 +63,6 @@ tells_more cs c a b t four families paths = record {
       ∙ ap (λ (l : List CapValue). flat_map paths_in cs ++ l) (sym (append-nil (paths_in c))) ∙ sym (flat_map-append paths_in cs (c ∷ []));
 }
 
--- nothing is added
-pub adds_none : (a : Announced) → Adds [] a a
-adds_none a cs t = rw (append-nil cs) t
-
 -- what is added in two steps
 adds_both : (ds es : List CodedValue) (a b c : Announced) → Adds ds a b → Adds es b c → Adds (ds ++ es) a c
 adds_both ds es a b c p q cs t = rw (← append_assoc cs ds es) (q (cs ++ ds) (p cs t))
@@ -83,9 +72,6 @@ pub record ReadsCapabilities (bytes rest : List ℕ) (first now : Announced) : T
   pub ds : List CodedValue
   pub read : HasRead IsCoded bytes ds rest
   pub adds : Adds ds first now
-
-pub capabilities_first : (bytes : List ℕ) (a : Announced) → ReadsCapabilities bytes bytes a a
-capabilities_first bytes a = record { ds = []; read = HasRead-nil IsCoded bytes; adds = adds_none a }
 
 pub capabilities_more : (bytes rest after : List ℕ) (first now next : Announced) (c : CodedValue) → ReadsCapabilities bytes rest first now → HasFront IsCoded rest c after
     → Adds (c ∷ []) now next → ReadsCapabilities bytes after first next
@@ -107,9 +93,6 @@ pub record ReadsParameters (bytes rest : List ℕ) (first now : Announced) : Typ
   pub lists : List (List CodedValue)
   pub read : HasRead IsParameter bytes lists rest
   pub adds : Adds (flat_map (λ ds. ds) lists) first now
-
-pub parameters_first : (bytes : List ℕ) (a : Announced) → ReadsParameters bytes bytes a a
-parameters_first bytes a = record { lists = []; read = HasRead-nil IsParameter bytes; adds = adds_none a }
 
 -- a parameter at the front, with its capabilities
 parameter_front : (rest after : List ℕ) (c : CodedValue) (ds : List CodedValue) → HasFront IsCoded rest c after → HasCapabilities c.code c.value ds → HasFront IsParameter rest ds after
@@ -149,17 +132,6 @@ parameters_end bytes rest first now p empty = record { lists = p.lists; are = Ha
 -- what was read of the parameters is what the body of an OPEN says
 announces : (cs : List CodedValue) (a : Announced) (o : OpenValue) → Tells cs a → o.four ≡ a.four → o.families ≡ a.families → o.paths ≡ a.paths → Announces cs o
 announces cs a o t four families paths = record { four_is = four ∙ t.four_is; families_are = families ∙ t.families_are; paths_are = paths ∙ t.paths_are }
-
-are_parameters : (extended : Bool) (stated : ℕ) (rest : List ℕ) (a : Announced) (o : OpenValue)
-    → MatchBool extended (Tells [] a) ((length rest ≡ stated) × TellsParameters rest a) → o.extended ≡ extended → o.four ≡ a.four → o.families ≡ a.families → o.paths ≡ a.paths
-    → MatchBool extended ((o.extended ≡ true) × Announces [] o) ((o.extended ≡ false) × (length rest ≡ stated) × HasParameters rest o)
-are_parameters true stated rest a o t e four families paths = (e, announces [] a o t four families paths)
-are_parameters false stated rest a o t e four families paths =
-    (e, t.0, record { lists = t.1.lists; are = t.1.are; announces = announces (flat_map (λ cs. cs) t.1.lists) a o t.1.tells four families paths })
-
-pub parameters_read : (stated : ℕ) (rest : List ℕ) (a : Announced) (o : OpenValue) → TellsRest stated rest a → o.extended ≡ has_extended_length stated rest → o.four ≡ a.four → o.families ≡ a.families → o.paths ≡ a.paths
-    → AreParameters stated rest o
-parameters_read stated rest a o t e four families paths = are_parameters (has_extended_length stated rest) stated rest a o t e four families paths
 
 -- what was added to nothing is what the rest of the body announces
 pub rest_told : (stated : ℕ) (rest : List ℕ) (first now : Announced) → has_extended_length stated rest ≡ false → length rest ≡ stated → Tells [] first → AddsParameters rest first now → TellsRest stated rest now

@@ -10,7 +10,7 @@ use Rattle.bmp_specs.specs.Prefix.{IsPrefix, StandsAtFront}
 use Rattle.bmp_specs.specs.Sequence.{HasFront}
 use Rattle.bmp_specs.specs.Values.{NlriValue, PrefixValue}
 use Rattle.bmp_specs.proofs.NlriCode.{nlri_code}
-use Rattle.bmp_specs.proofs.PartsRead.{HasRead, HasRead-nil, HasRead-front}
+use Rattle.bmp_specs.proofs.PartsRead.{HasRead, HasRead-front}
 
 front_stands : (family : Family) (input front rest : List ℕ) (p : PrefixValue) → input ≡ front ++ rest → IsPrefix family front p → StandsAtFront family input p (length front)
 front_stands family input front rest p split is = record {
@@ -61,9 +61,6 @@ pub record ReadsItems (family : Family) (identified : Bool) (bytes rest : List �
   pub out : List NlriValue
   pub read : HasRead (IsNlri family identified) bytes out rest
   pub is : now ≡ first ++ out
-
-pub items_first : (family : Family) (identified : Bool) (bytes : List ℕ) (first : List NlriValue) → ReadsItems family identified bytes bytes first first
-items_first family identified bytes first = record { out = []; read = HasRead-nil (IsNlri family identified) bytes; is = sym (append-nil first) }
 
 pub items_more : (family : Family) (identified : Bool) (bytes rest after : List ℕ) (first now next : List NlriValue) (n : NlriValue) (size : ℕ) → ReadsItems family identified bytes rest first now
     → HasFront (IsNlri family identified) rest n (drop size rest) → after ≡ drop size rest → next ≡ now ++ n ∷ [] → ReadsItems family identified bytes after first next

@@ -1,19 +1,13 @@
 -- What a run of a cutter's calls gives, call by call.
-use Rattle.std.proofs.Common.{◌≡◌, ℕ, ◌≤◌, List, [], ◌∷◌, ◌++◌, length, take, drop, slice_index, refl, sym, ap, ◌∙◌, arith, inl, inr, append_assoc, append-nil, length-append, length-take, take-append-drop}
+use Rattle.std.proofs.Common.{◌≡◌, ℕ, ◌≤◌, List, [], ◌∷◌, ◌++◌, length, take, drop, slice_index, refl, sym, ap, ◌∙◌, arith, inl, inr, append_assoc, length-append, length-take, take-append-drop}
 use Rattle.std.proofs.lemmas.List.{drop_at, get_or_append_left}
 use Rattle.bmp_specs.specs.declared.causes.Why.TheVariants.{Version, Length, Body}
 use Rattle.bmp_specs.specs.Frame.{HasHeader, IsInRange, BreaksVersion, BreaksLength, stated}
-use Rattle.bmp_specs.specs.Parts.{AreParts}
 use Rattle.bmp_specs.proofs.FrameCode.{stated-append}
+use Rattle.bmp_specs.proofs.PartsJoined.{parts_snoc}
 use Rattle.bmp_frames.specs.Cutter.{CutterValue, MessageValue, IsMessage, IsAtFront, Gives, HasCut, GoesOn, StaysBad, Moves, last_body}
 use Rattle.bmp_frames.specs.declared.cutter.Next.{Next}
 use Rattle.bmp_frames.specs.declared.cutter.Next.TheVariants.{Frame, More, Bad}
-
--- one more part at the end
-parts_snoc : {V : Type 0} (Is : List ℕ → V → Type 0) (front part : List ℕ) (vs : List V) (v : V) → AreParts Is front vs → Is part v → AreParts Is (front ++ part) (vs ++ v ∷ [])
-parts_snoc Is front part [] v p q = (part, [], record { joined = rw (p, append-nil part) refl }, q, refl)
-parts_snoc Is front part (w ∷ ws) v (first, rest, split, is, p) q =
-    (first, rest ++ part, record { joined = rw split.joined (append_assoc first rest part) }, is, parts_snoc Is rest part ws v p q)
 
 last_body-snoc : (body : List ℕ) (given : List MessageValue) (m : MessageValue) → last_body body (given ++ m ∷ []) ≡ m.body
 last_body-snoc body [] m = refl

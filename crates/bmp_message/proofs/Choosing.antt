@@ -1,8 +1,6 @@
 -- Which form of an UPDATE message is taken.
-use Rattle.std.proofs.Common.{◌≡◌, ℕ, Bool, true, false, cond, not, ◌&&◌, inl, inr, List, refl, sym, ap, subst, ◌∙◌}
+use Rattle.std.proofs.Common.{◌≡◌, ℕ, Bool, true, false, not, ◌&&◌, inl, inr, List, refl, sym, ap, subst, ◌∙◌}
 use Rattle.bmp_specs.specs.declared.wire.Width.{Width}
-use Rattle.bmp_specs.specs.declared.wire.Width.TheVariants.{Two}
-use Rattle.bmp_specs.specs.MessageBody.{width_of}
 use Rattle.bmp_specs.specs.PeerHeader.{HeaderValue}
 use Rattle.bmp_specs.specs.UpdateForms.{FitsWidth, Takes, departs, may_have_two_octets, width_in}
 use Rattle.bmp_specs.specs.Values.{OpensValue}
@@ -37,12 +35,6 @@ no_form Fits true agreed e none other false fits = other (subst Fits e fits)
 no_form Fits false agreed e none other true fits = other fits
 no_form Fits false agreed e none other false fits = none fits
 
-pub no_width : (Fits : Bool → Type 0) (last : Bool) → ¬ (Fits last) → ¬ (Fits (not last)) → (b : Bool) → Fits b → ⊥
-no_width Fits true none other true fits = none fits
-no_width Fits true none other false fits = other fits
-no_width Fits false none other true fits = other fits
-no_width Fits false none other false fits = none fits
-
 module _ (opens : OpensValue) (h : HeaderValue) (field : List ℕ) where
   pub fits_in : (width : Width) (nonzero two_octets : Bool) → width ≡ width_in opens h two_octets → nonzero ≡ departs opens h two_octets → HasValueIn width field nonzero → FitsWidth opens h field two_octets
   fits_in width nonzero two_octets w n p =
@@ -58,11 +50,3 @@ module _ (opens : OpensValue) (h : HeaderValue) (field : List ℕ) where
   never : (two_octets : Bool) → may_have_two_octets opens h ≡ false → departs opens h two_octets ≡ false
   never true e = e
   never false e = refl
-
-  as_departing : (d two_octets : Bool) → departs opens h two_octets ≡ d → FitsWidth opens h field two_octets → HasValueIn (cond d Two (width_of h)) field d
-  as_departing d two_octets e p =
-      let there : HasValueIn (width_in opens h two_octets) field (departs opens h two_octets) = record { read = p.read; are = p.are; no_zero = p.no_zero } in
-      subst (λ (x : Bool). HasValueIn (cond x Two (width_of h)) field x) e there
-
-  pub one_width : may_have_two_octets opens h ≡ false → (last : Bool) → ¬ (FitsWidth opens h field last) → (b : Bool) → FitsWidth opens h field b → ⊥
-  one_width e last none b fits = none (fits_in (width_of h) false last (sym (ap (λ (x : Bool). cond x Two (width_of h)) (never last e))) (sym (never last e)) (as_departing false b (never b e) fits))

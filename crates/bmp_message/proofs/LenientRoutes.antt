@@ -11,12 +11,12 @@ use Rattle.bmp_specs.specs.Orders.{key_cmp}
 use Rattle.bmp_specs.specs.PeerHeader.{HeaderValue, loc_rib, view_of}
 use Rattle.bmp_specs.specs.Statistics.{IsStatistics}
 use Rattle.bmp_specs.specs.UpdateForms.{FormsValue, as_agreed}
-use Rattle.bmp_specs.specs.Values.{EffectValue, KeyValue, OpensValue, PeerInfoValue, StatisticsValue, UpdateValue, orphan, routes, statistics}
+use Rattle.bmp_specs.specs.Values.{KeyValue, OpensValue, PeerInfoValue, StatisticsValue, UpdateValue, orphan, routes}
 use Rattle.bmp_message.specs.Effects.{ReadsNothing}
 use Rattle.bmp_message.specs.Lenient.{KnownPeers, UpPeerValue, forms_at, known_at, lenient_state, nothing_shown, opens_known, shown_known, told_known, up_if, with_forms}
 use Rattle.bmp_message.specs.State.{opens_of}
 use Rattle.bmp_message.proofs.KnownStates.{Kept, begins}
-use Rattle.bmp_message.proofs.LenientTells.{no_report, no_report_of, no_routes_of, orphan_of, orphan_report, tells_first, tells_known, tells_report, unreadable_first, unreadable_known}
+use Rattle.bmp_message.proofs.LenientTells.{no_report, no_report_of, no_routes_of, tells_first, unreadable_first, unreadable_known}
 
 module _ (peers : KnownPeers) (h : HeaderValue) (key : KeyValue) (rest : List ℕ) where
   -- no form in which an UPDATE message is read
@@ -34,9 +34,6 @@ module _ (peers : KnownPeers) (h : HeaderValue) (key : KeyValue) (rest : List �
 
     untold_as : (b : Bool) → eqb key.kind loc_rib ≡ b → is_untold (lenient_state peers) key ≡ b
     untold_as b e = ap (λ (k : Kept). not (told_known k) && eqb key.kind loc_rib) nothing ∙ e
-
-    pub first_orphan : eqb key.kind loc_rib ≡ false → OfPeerLeniently route_monitoring (lenient_state peers) h key rest (orphan ∷ []) (lenient_state peers)
-    first_orphan other = orphan_of (lenient_state peers) h key rest down (untold_as false other)
 
     module _ (is_loc : eqb key.kind loc_rib ≡ true) (info : PeerInfoValue) (is_info : info ≡ implied_info h) (last : FormsValue) (agreed : last ≡ as_agreed) where
       moved : (taken : FormsValue) (u : UpdateValue) → IsLenientUpdate (opens_of info) h rest last taken u → IsLenientUpdate (implied_opens h) h rest ((lenient_state peers).shown key (view_of h)) taken u
@@ -60,12 +57,6 @@ module _ (peers : KnownPeers) (h : HeaderValue) (key : KeyValue) (rest : List �
           subst (λ (i : PeerInfoValue). OfPeerLeniently route_monitoring (lenient_state peers) h key rest (up_if true key i ++ effects_of (routes key (view_of h) u)) (lenient_state new)) (sym is_info)
           (tells_first (lenient_state peers) h key rest (lenient_state new) down (untold_as true is_loc) taken u (moved taken u is) there)
 
-  -- the peer is a Loc-RIB that is down
-
-  module _ (gone : known_at peers key ≡ Some None) where
-    pub down_orphan : OfPeerLeniently route_monitoring (lenient_state peers) h key rest (orphan ∷ []) (lenient_state peers)
-    down_orphan = orphan_of (lenient_state peers) h key rest (ap opens_known gone) (ap (λ (k : Kept). not (told_known k) && eqb key.kind loc_rib) gone)
-
   -- the peer is up
 
   module _ (peer : UpPeerValue) (there : known_at peers key ≡ Some (Some peer)) where
@@ -82,14 +73,6 @@ module _ (peers : KnownPeers) (h : HeaderValue) (key : KeyValue) (rest : List �
       last_is : last ≡ (lenient_state peers).shown key (view_of h)
       last_is = is_last ∙ shown_is view ∙ ap (λ (v : View). (lenient_state peers).shown key v) is_view
 
-      pub known_tells : (new : KnownPeers) (info : PeerInfoValue) (taken : FormsValue) → ((o : OpensValue) → (lenient_state peers).opens key ≡ Some o → lenient_state new ≡ with_shown (lenient_state peers) key view o taken)
-          → (u : UpdateValue) → IsLenientUpdate opens h rest last taken u
-          → OfPeerLeniently route_monitoring (lenient_state peers) h key rest (up_if false key info ++ effects_of (routes key (view_of h) u)) (lenient_state new)
-      known_tells new info taken shows u is =
-          tells_known (lenient_state peers) h key rest peer.opens (lenient_state new) is_up taken u
-          (subst (λ (f : FormsValue). IsLenientUpdate peer.opens h rest f taken u) last_is (subst (λ (o : OpensValue). IsLenientUpdate o h rest last taken u) same is))
-          (shows peer.opens is_up ∙ ap (λ (v : View). with_shown (lenient_state peers) key v peer.opens taken) is_view)
-
       none_so : HasNoForm opens last → HasNoForm peer.opens ((lenient_state peers).shown key (view_of h))
       none_so none taken u is = none taken u (subst (λ (o : OpensValue). IsLenientUpdate o h rest last taken u) (sym same) (subst (λ (f : FormsValue). IsLenientUpdate peer.opens h rest f taken u) (sym last_is) is))
 
@@ -101,16 +84,9 @@ module _ (peers : KnownPeers) (h : HeaderValue) (key : KeyValue) (rest : List �
 
     -- and its Statistics Reports
 
-    pub known_report : (effects : List EffectValue) → (r : StatisticsValue) × IsStatistics rest r × (effects ≡ effects_of (statistics key r))
-        → OfPeerLeniently statistics_report (lenient_state peers) h key rest effects (lenient_state peers)
-    known_report effects p = tells_report (lenient_state peers) h key rest peer.opens is_up effects p
-
     pub known_no_report : (not peer.told && eqb key.kind loc_rib) ≡ true → ((r : StatisticsValue) → IsStatistics rest r → ⊥)
         → OfPeerLeniently statistics_report (lenient_state peers) h key rest (orphan ∷ []) (lenient_state peers)
     known_no_report untold none = no_report (lenient_state peers) h key rest peer.opens is_up (untold_is ∙ untold) none
 
     pub known_broken_report : (not peer.told && eqb key.kind loc_rib) ≡ false → ((r : StatisticsValue) → IsStatistics rest r → ⊥) → ReadsNothing (OfPeerLeniently statistics_report (lenient_state peers) h key rest)
     known_broken_report told none = no_report_of (lenient_state peers) h key rest peer.opens is_up (untold_is ∙ told) none
-
-  pub orphan_report_of : opens_known (known_at peers key) ≡ None → OfPeerLeniently statistics_report (lenient_state peers) h key rest (orphan ∷ []) (lenient_state peers)
-  orphan_report_of none = orphan_report (lenient_state peers) h key rest none

@@ -10,7 +10,7 @@ use Rattle.bmp_specs.specs.MessageEffects.{effects_of}
 use Rattle.bmp_specs.specs.PeerHeader.{HeaderValue, view_of}
 use Rattle.bmp_specs.specs.Statistics.{IsStatistics}
 use Rattle.bmp_specs.specs.UpdateForms.{FormsValue}
-use Rattle.bmp_specs.specs.Values.{EffectValue, KeyValue, OpensValue, StatisticsValue, UpdateValue, orphan, routes, statistics, up}
+use Rattle.bmp_specs.specs.Values.{EffectValue, KeyValue, OpensValue, StatisticsValue, UpdateValue, orphan, routes, up}
 use Rattle.bmp_message.specs.Effects.{ReadsNothing}
 use Rattle.bmp_message.specs.Types.{message_type_of}
 use Rattle.bmp_message.specs.declared.types.PeerMessage.{PeerMessage}
@@ -32,23 +32,6 @@ module _ (s : LenientState) where
 
     untold_opens : s.opens key ≡ None → is_untold s key ≡ true → opens_for s h key ≡ Some (implied_opens h)
     untold_opens none untold = ap (λ (o : Option OpensValue). option_or o (cond (is_untold s key) (Some (implied_opens h)) None)) none ∙ ap (λ (b : Bool). cond b (Some (implied_opens h)) None) untold
-
-    no_opens : s.opens key ≡ None → is_untold s key ≡ false → opens_for s h key ≡ None
-    no_opens none told = ap (λ (o : Option OpensValue). option_or o (cond (is_untold s key) (Some (implied_opens h)) None)) none ∙ ap (λ (b : Bool). cond b (Some (implied_opens h)) None) told
-
-    -- of a peer that is up
-    pub tells_known : (opens : OpensValue) (next : LenientState) → s.opens key ≡ Some opens → (taken : FormsValue) (u : UpdateValue) → IsLenientUpdate opens h rest (s.shown key (view_of h)) taken u
-        → next ≡ with_shown s key (view_of h) opens taken → OfPeerLeniently route_monitoring s h key rest (effects_of (routes key (view_of h) u)) next
-    tells_known opens next is_up taken u is after =
-        let effects = effects_of (routes key (view_of h) u) in
-        let tells : TellsRoutes s opens h key rest effects next = record {
-          taken = taken;
-          update = u;
-          is = is;
-          effects_are = ap (λ (o : Option OpensValue). implied_up o key h ++ effects) (sym is_up);
-          next_is = after;
-        } in
-        subst (λ (found : Option OpensValue). RoutesUnder effects next found) (sym (up_opens opens is_up)) (inl tells)
 
     -- of a Loc-RIB of which nothing was known
     pub tells_first : (next : LenientState) → s.opens key ≡ None → is_untold s key ≡ true → (taken : FormsValue) (u : UpdateValue) → IsLenientUpdate (implied_opens h) h rest (s.shown key (view_of h)) taken u
@@ -76,10 +59,6 @@ module _ (s : LenientState) where
         → OfPeerLeniently route_monitoring s h key rest (orphan ∷ []) s
     unreadable_first is_down untold none = unreadable (implied_opens h) (untold_opens is_down untold) untold none
 
-    -- of a peer that isn't known, or that is down
-    pub orphan_of : s.opens key ≡ None → is_untold s key ≡ false → OfPeerLeniently route_monitoring s h key rest (orphan ∷ []) s
-    orphan_of none told = subst (λ (o : Option OpensValue). RoutesUnder (orphan ∷ []) s o) (sym (no_opens none told)) orphaned
-
     told_not : is_untold s key ≡ false → is_untold s key ≡ true → ⊥
     told_not told untold = true≢false (sym untold ∙ told)
 
@@ -94,13 +73,6 @@ module _ (s : LenientState) where
 
     abbrev StatisticsUnder : List EffectValue → LenientState → Option OpensValue → Type 0
     StatisticsUnder effects next found = MatchOption found (IsOrphan s effects next) (λ opens. TellsStatistics s key rest effects next ⊎ IsNoReport s key rest effects next)
-
-    pub orphan_report : s.opens key ≡ None → OfPeerLeniently statistics_report s h key rest (orphan ∷ []) s
-    orphan_report none = subst (λ (o : Option OpensValue). StatisticsUnder (orphan ∷ []) s o) (sym none) orphaned
-
-    pub tells_report : (opens : OpensValue) → s.opens key ≡ Some opens → (effects : List EffectValue) → (r : StatisticsValue) × IsStatistics rest r × (effects ≡ effects_of (statistics key r))
-        → OfPeerLeniently statistics_report s h key rest effects s
-    tells_report opens is_up effects (r, is, e) = subst (λ (o : Option OpensValue). StatisticsUnder effects s o) (sym is_up) (inl (record { report = r; is = is; effects_are = e; next_is = refl }))
 
     pub no_report : (opens : OpensValue) → s.opens key ≡ Some opens → is_untold s key ≡ true → ((r : StatisticsValue) → IsStatistics rest r → ⊥) → OfPeerLeniently statistics_report s h key rest (orphan ∷ []) s
     no_report opens is_up untold none = subst (λ (o : Option OpensValue). StatisticsUnder (orphan ∷ []) s o) (sym is_up) (inr (record { untold = untold; none = none; orphaned = orphaned }))

@@ -1,6 +1,6 @@
 -- From the list of the effects to what is made of it.
 use Rattle.std.proofs.Common.{◌≡◌, List, Result, Ok, Err, sym, subst, ◌∙◌}
-use Rattle.std.specs.Prelude.{IfOk, IsErrOf, IsOkAnd, MatchResult, OnErr}
+use Rattle.std.specs.Prelude.{IfOk, IsErrOf, IsOkAnd, MatchResult}
 use Rattle.bmp_specs.specs.Values.{EffectValue}
 use Rattle.rib_model.specs.Effects.{effect_values}
 use Rattle.rib_model.specs.declared.effect.Effect.{Effect}
@@ -24,10 +24,3 @@ pub made_broken : {T X : Type 0} (IsOf : T → List EffectValue → Type 0) (giv
 made_broken IsOf (Ok list) (Ok made) is none broken = absurd (cc broken)
 made_broken IsOf (Ok list) (Err fault) is none broken = absurd is
 made_broken IsOf (Err fault) result e none broken = none (broken_below fault (sym e ∙ broken))
-
-pub made_unchanged : {T : Type 0} (X : Type 0) (IsOf : T → List EffectValue → Type 0) (given : Result (List Effect) BodyFault) (result : Result T BodyFault)
-    → MadeOf IsOf given result → OnErr given X → OnErr result X
-made_unchanged X IsOf (Ok list) (Ok made) is unchanged = tt
-made_unchanged X IsOf (Ok list) (Err fault) is unchanged = absurd is
-made_unchanged X IsOf (Err fault) (Ok made) e unchanged = tt
-made_unchanged X IsOf (Err fault) (Err other) e unchanged = unchanged

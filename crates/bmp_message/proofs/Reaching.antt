@@ -1,9 +1,6 @@
 -- How far a walk by pieces has come, call by call.
 use Rattle.std.proofs.Math.Dec.{eqb-suc-zero}
-use Rattle.std.proofs.Common.{if◌then◌else◌, ◌≡◌, ℕ, zero, suc, ◌+◌, ◌≤◌, true, false, Bool, List, [], ◌∷◌, ◌++◌, length, take, refl, sym, ap, ◌∙◌, subst, append_assoc, arith, eqb, length-append, length-take, Result, Ok, Err}
-use Rattle.std.specs.Prelude.{IfOk}
-use Rattle.wire_io.specs.declared.bytes.NoMemory.{NoMemory}
-use Rattle.bmp_message.specs.declared.walk.Progress.{Progress}
+use Rattle.std.proofs.Common.{if◌then◌else◌, ◌≡◌, ℕ, zero, suc, ◌+◌, true, false, Bool, List, [], ◌∷◌, ◌++◌, length, refl, sym, ap, ◌∙◌, subst, append_assoc, arith, eqb, length-append}
 use Rattle.bmp_message.specs.declared.walk.Progress.TheVariants as progress
 use Rattle.std.proofs.lemmas.List.{get_or_append_left, nil_from_length}
 use Rattle.bmp_specs.specs.declared.causes.Why.{Why}
@@ -15,9 +12,9 @@ use Rattle.bmp_specs.specs.Values.{EntryValue}
 use Rattle.bmp_specs.specs.Walk.{Verdict, terminated, broken, Stops, termination}
 use Rattle.bmp_specs.proofs.FrameCode.{stated-append}
 use Rattle.bmp_specs.proofs.WalkRead.{HasWalked-more, HasWalked-stops, HasWalked-terminates}
-use Rattle.bmp_frames.specs.Cutter.{CutterValue, IsAtFront, Gives}
+use Rattle.bmp_frames.specs.Cutter.{IsAtFront}
 use Rattle.bmp_frames.specs.declared.cutter.Next.TheVariants.{Bad}
-use Rattle.bmp_message.specs.StreamWalk.{WalkValue, HasRead, HasCutNext, Stands, HasReached, verdict_with, rest_of, next_stage, Advances}
+use Rattle.bmp_message.specs.StreamWalk.{WalkValue, HasRead, HasCutNext, Stands, HasReached, verdict_with, rest_of, next_stage}
 use Rattle.bmp_message.specs.declared.walk.Stage.{Stage}
 use Rattle.bmp_message.specs.declared.walk.Stage.TheVariants.{Between, Within, Terminated, Broken}
 
@@ -122,16 +119,3 @@ module _ (R : Type 0) (meaning : Meaning) (state : R → meaning.State) (old : W
   -- nothing moved, and the walk ends here
   pub reached_end : (why : Why) (reading : R) → EndsAt meaning fed given old.offset (broken why) → HasReached meaning state fed given (record old { reading = reading; stage = Broken why })
   reached_end why reading ends = record { count = r.count; stands = ends }
-
--- the bytes fed stay where a message is cut
-fed_cut : (old new : CutterValue) (size : ℕ) → size ≤ length old.pending → Gives old new size → new.offset + length new.pending ≡ old.offset + length old.pending
-fed_cut old new size here gives = omega (arith, here, gives.offset, ap length gives.split, length-append (take size old.pending) new.pending, length-take size old.pending)
-
--- a message was cut, and then the walk moved
-pub advances_cut : {R T : Type 0} (old new : WalkValue R) (cutter : CutterValue) (kind size : ℕ) (r : Result (Progress T) NoMemory) → size ≤ length old.cutter.pending → Gives old.cutter cutter size
-    → IfOk r (Advances (record old { cutter = cutter; stage = Within kind }) new) → IfOk r (Advances old new)
-advances_cut old new cutter kind size (Ok (progress.Message e)) here gives (fed, rest) = let same = fed_cut old.cutter cutter size here gives in (fed ∙ same, omega (arith, rest, same))
-advances_cut old new cutter kind size (Ok progress.More) here gives (same, at) = absurd (cc)
-advances_cut old new cutter kind size (Ok progress.Terminated) here gives (same, at) = absurd (cc)
-advances_cut old new cutter kind size (Ok (progress.Broken why)) here gives (fed, place, at) = (fed ∙ fed_cut old.cutter cutter size here gives, place, at)
-advances_cut old new cutter kind size (Err e) here gives moved = tt

@@ -5,7 +5,7 @@ use Rattle.std.specs.List.{AllByRecursion}
 use Rattle.std.proofs.lemmas.List.Sums.{sum_by-append}
 use Rattle.bmp_specs.specs.Counts.{CountsValue, is_orphan, is_mirrored, is_passed, parts_in}
 use Rattle.bmp_specs.specs.Reply.{told_count}
-use Rattle.bmp_specs.specs.Sums.{no_counts, sum_of, effect_counts, message_counts}
+use Rattle.bmp_specs.specs.Sums.{sum_of, effect_counts, message_counts}
 use Rattle.bmp_specs.specs.Values.{EffectValue}
 use Rattle.bmp_specs.proofs.LatestLaws.{same_by_all}
 use Rattle.bmp_specs.proofs.ReplyCounts.{told_sum}
@@ -34,13 +34,6 @@ pub record IsUncounted (e : EffectValue) : Type 0 where
   pub mirrored : is_mirrored e ≡ false
   pub passed : is_passed e ≡ false
 
-pub uncounted_adds_nothing : (e : EffectValue) → IsUncounted e → effect_counts e ≡ no_counts
-uncounted_adds_nothing e u =
-    let orphan = ap (λ (b : Bool). cond b 1 0) u.orphan in
-    let mirrored = ap (λ (b : Bool). cond b 1 0) u.mirrored in
-    let passed = ap (λ (b : Bool). cond b 1 0) u.passed in
-    λ i. record { messages = 0; bytes = 0; orphans = orphan i; unread = u.unread i; mirrored = mirrored i; passed = passed i }
-
 uncounted_sum : (f : EffectValue → ℕ) → ((e : EffectValue) → IsUncounted e → f e ≡ 0) → (es : List EffectValue) (e : EffectValue) → IsUncounted e → sum_by f (es ++ e ∷ []) ≡ sum_by f es
 uncounted_sum f none es e u = let zero_here : f e ≡ 0 = none e u in omega (arith, sum_pushed f es e)
 
@@ -55,19 +48,6 @@ uncounted_kept len es e u =
 
 pub uncounted_kept_by_all : (len : ℕ) (es more : List EffectValue) → AllByRecursion IsUncounted more → message_counts len (es ++ more) ≡ message_counts len es
 uncounted_kept_by_all len es more all = same_by_all IsUncounted (message_counts len) (uncounted_kept len) es more all
-
--- ---- each of the counts of effects
-pub orphans_step : (es : List EffectValue) (e : EffectValue) → count_by is_orphan (es ++ e ∷ []) ≡ count_by is_orphan es + cond (is_orphan e) 1 0
-orphans_step = sum_pushed (λ d. cond (is_orphan d) 1 0)
-
-pub unread_step : (es : List EffectValue) (e : EffectValue) → sum_by parts_in (es ++ e ∷ []) ≡ sum_by parts_in es + parts_in e
-unread_step = sum_pushed parts_in
-
-pub mirrored_step : (es : List EffectValue) (e : EffectValue) → count_by is_mirrored (es ++ e ∷ []) ≡ count_by is_mirrored es + cond (is_mirrored e) 1 0
-mirrored_step = sum_pushed (λ d. cond (is_mirrored d) 1 0)
-
-pub passed_step : (es : List EffectValue) (e : EffectValue) → count_by is_passed (es ++ e ∷ []) ≡ count_by is_passed es + cond (is_passed e) 1 0
-passed_step = sum_pushed (λ d. cond (is_passed d) 1 0)
 
 -- and of a list of them
 pub orphans_append : (es more : List EffectValue) → count_by is_orphan (es ++ more) ≡ count_by is_orphan es + count_by is_orphan more

@@ -6,7 +6,7 @@ use Rattle.std.specs.Ordering.{is_lt, is_le}
 use Rattle.std.specs.List.{filter, slice_get}
 use Rattle.std.specs.Option.{option_map}
 use Rattle.std.specs.Map.Iter.{TakesFirst}
-use Rattle.std.specs.BTreeMap.Range.{range_contains, entries_between}
+use Rattle.std.specs.BTreeMap.Range.{entries_between}
 
 -- the first item that `next` gives is the first of the list
 pub first_shown : {A X : Type 0} (shows : A → X) (s t : List X) (r : Option A) → TakesFirst shows s r t → option_map shows r ≡ slice_get s 0
@@ -16,13 +16,6 @@ first_shown shows s t (Some x) h = rw h
 and_true : (b : Bool) → (b && true) ≡ b
 and_true true = refl
 and_true false = refl
-
--- the keys of a range with no end
-pub range_after : {K : Type 0} (cmp : K → K → Ordering) (k : K) (ks : List K) → filter (range_contains cmp (Excluded k) Unbounded) ks ≡ filter (λ q. is_lt (cmp k q)) ks
-range_after cmp k ks = λ i. filter (λ q. and_true (is_lt (cmp k q)) i) ks
-
-pub range_from : {K : Type 0} (cmp : K → K → Ordering) (k : K) (ks : List K) → filter (range_contains cmp (Included k) Unbounded) ks ≡ filter (λ q. is_le (cmp k q)) ks
-range_from cmp k ks = λ i. filter (λ q. and_true (is_le (cmp k q)) i) ks
 
 -- and the pairs of one
 pub between-after : {K X : Type 0} (cmp : K → K → Ordering) (k : K) (es : List (K × X)) → entries_between cmp (Excluded k) Unbounded es ≡ filter (λ e. is_lt (cmp k e.0)) es

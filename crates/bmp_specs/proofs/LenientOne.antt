@@ -7,7 +7,7 @@ use Rattle.bmp_specs.specs.AddressFamily.{uses_ids}
 use Rattle.bmp_specs.specs.Attribute.{IsAttribute}
 use Rattle.bmp_specs.specs.Attributes.{mp_reach_nlri, mp_unreach_nlri, value_of}
 use Rattle.bmp_specs.specs.FramedUpdate.{FitsFamily, FramedValue, IsFramed, PlaceValue, places}
-use Rattle.bmp_specs.specs.LenientBody.{HasPeerLeniently, IsAsStrict, IsLenientUpdate, IsMalformed, IsNoReport, IsOrphan, IsReadInForms, IsUnreadable, OfPeerLeniently, OfTypeLeniently, TellsRoutes, TellsStatistics, implied_up, lenient, meaning_of}
+use Rattle.bmp_specs.specs.LenientBody.{HasPeerLeniently, IsAsStrict, IsLenientUpdate, IsMalformed, IsNoReport, IsOrphan, IsReadInForms, IsUnreadable, OfPeerLeniently, OfTypeLeniently, TellsRoutes, TellsStatistics, implied_up, lenient}
 use Rattle.bmp_specs.specs.LenientState.{LenientState, opens_for, with_shown, with_told}
 use Rattle.bmp_specs.specs.Meaning.{IsExact}
 use Rattle.bmp_specs.specs.MessageBody.{MessageType, id_use, message_type, initiation_message, peer_down_notification, peer_up_notification, route_mirroring, route_monitoring, statistics_report, termination_message, unassigned}
@@ -22,7 +22,7 @@ use Rattle.bmp_specs.specs.Values.{BgpMessageValue, DownInfoValue, EffectValue, 
 use Rattle.bmp_specs.proofs.AttributesOne.{attribute_code, reach_one, unreach_one}
 use Rattle.bmp_specs.proofs.BgpMessageCode.{IsBgpMessage-one}
 use Rattle.bmp_specs.proofs.BodiesOne.{IsMirroring-one, IsPeerDown-one, IsPeerUp-one, IsStatistics-one}
-use Rattle.bmp_specs.proofs.MessageOne.{header_one, of_type_one, strict_exact}
+use Rattle.bmp_specs.proofs.MessageOne.{header_one, of_type_one}
 use Rattle.bmp_specs.proofs.NlriCode.{AreNlri-one}
 use Rattle.bmp_specs.proofs.PartsRead.{AreParts-one}
 use Rattle.bmp_specs.proofs.ThenOne.{IsOne, Optional-one}
@@ -187,8 +187,3 @@ pub lenient_exact : IsExact lenient
 lenient_exact s t u kind body e f p q =
     let same = types_one s p.effects q.effects t u (message_type kind) body p.means q.means in
     (p.entry_is ∙ ap (λ (l : List EffectValue). message kind (6 + length body) l) same.effects ∙ sym q.entry_is, same.next)
-
--- and so is that of each reading
-pub meaning_exact : (leniently : Bool) → IsExact (meaning_of leniently)
-meaning_exact true = lenient_exact
-meaning_exact false = strict_exact

@@ -1,6 +1,6 @@
 -- Where a strict walk doesn't break at a body, a lenient one of the same bytes leaves the same of every peer that is no
 -- Loc-RIB, and counts the same messages.
-use Rattle.std.proofs.Common.{◌≡◌, ◌↔◌, ◌⊎◌, ℕ, inl, inr, List, [], ◌∷◌, ◌++◌, length, map, flat_map, refl, sym, ap, ◌∙◌, subst, append-nil, append_assoc, arith}
+use Rattle.std.proofs.Common.{◌≡◌, ◌↔◌, ◌⊎◌, ℕ, inl, inr, List, [], ◌∷◌, ◌++◌, length, flat_map, refl, sym, ap, ◌∙◌, subst, append-nil, append_assoc, arith}
 use Rattle.std.specs.List.{AllByRecursion}
 use mathlib.Core.Logic.Iff.{trans as then_iff}
 use Rattle.bmp_specs.specs.declared.causes.Why.TheVariants.{Body}
@@ -14,7 +14,7 @@ use Rattle.bmp_specs.specs.PeerHeader.{loc_rib}
 use Rattle.bmp_specs.specs.PeerUp.{IsUp, Names}
 use Rattle.bmp_specs.specs.Rows.{ReplacesRow, ReplacesStatistic}
 use Rattle.bmp_specs.specs.Session.{effects_in}
-use Rattle.bmp_specs.specs.Values.{EffectValue, EntryValue, KeyValue, StatValue, announce, down, mark, message, orphan, statistic, unread, up, withdraw}
+use Rattle.bmp_specs.specs.Values.{EffectValue, EntryValue, KeyValue, StatValue, announce, down, mark, orphan, statistic, unread, up, withdraw}
 use Rattle.bmp_specs.specs.Walk.{Verdict, broken}
 use Rattle.bmp_specs.proofs.LenientWalks.{lenient_conservative}
 use Rattle.bmp_specs.proofs.PeerLaws.{complete_kept, complete_step, down_kept, down_with_step, up_kept, up_with_step}
@@ -177,19 +177,3 @@ pub lenient_leaves_same : (bytes : List ℕ) (es fs : List EntryValue) (o p : �
 lenient_leaves_same bytes es fs o p v w x y whole key other =
     let both = lenient_conservative bytes es fs o p v w x y in
     same_entries key other [] [] [] es fs both.alike (both.ends whole).as_many (same_itself key [])
-
--- ---- what doesn't look at effects
-module _ {X : Type 0} (g : EntryValue → X) (blind : (kind size : ℕ) (a b : List EffectValue) → g (message kind size a) ≡ g (message kind size b)) where
-  same_seen : (before : List EffectValue) (e f : EntryValue) → IsReadAlike before e f → g e ≡ g f
-  same_seen before e f (inl alike) = ap g alike
-  same_seen before e f (inr p) = ap g p.strictly_is ∙ blind p.kind p.size (orphan ∷ []) p.effects ∙ ap g (sym p.leniently_is)
-
-  -- types and lengths of messages are the same
-  pub same_blind : (before : List EffectValue) (es fs : List EntryValue) → AreReadAlike before es fs → length fs ≡ length es → map g es ≡ map g fs
-  same_blind before [] [] alike many = refl
-  same_blind before [] (f ∷ fs) alike many = absurd (omega (arith, many))
-  same_blind before (e ∷ es) [] alike many = absurd alike
-  same_blind before (e ∷ es) (f ∷ fs) alike many =
-      let first : g e ≡ g f = same_seen before e f alike.0 in
-      let rest : map g es ≡ map g fs = same_blind (before ++ effects_in e) es fs alike.1 (omega (arith, many)) in
-      λ i. first i ∷ rest i

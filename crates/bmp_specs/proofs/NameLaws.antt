@@ -51,9 +51,6 @@ name_now es name = last_step name_in [] es (named name)
 pub name_step : (es : List EffectValue) (e : EffectValue) → name_of (es ++ e ∷ []) ≡ unwrap_or (name_in e) (name_of es)
 name_step es e = last_step name_in [] es e
 
-pub name_append : (es more : List EffectValue) → name_of (es ++ more) ≡ unwrap_or (last_or None (filter_map name_in more)) (name_of es)
-name_append es more = last_of_both name_in [] es more
-
 pub name_kept : (es : List EffectValue) (e : EffectValue) → name_in e ≡ None → name_of (es ++ e ∷ []) ≡ name_of es
 name_kept es e none = name_step es e ∙ ap (λ (o : Option (List ℕ)). unwrap_or o (name_of es)) none
 
@@ -66,9 +63,6 @@ description_now es text = last_step description_in [] es (described text)
 
 pub description_step : (es : List EffectValue) (e : EffectValue) → description_of (es ++ e ∷ []) ≡ unwrap_or (description_in e) (description_of es)
 description_step es e = last_step description_in [] es e
-
-pub description_append : (es more : List EffectValue) → description_of (es ++ more) ≡ unwrap_or (last_or None (filter_map description_in more)) (description_of es)
-description_append es more = last_of_both description_in [] es more
 
 pub description_kept : (es : List EffectValue) (e : EffectValue) → description_in e ≡ None → description_of (es ++ e ∷ []) ≡ description_of es
 description_kept es e none = description_step es e ∙ ap (λ (o : Option (List ℕ)). unwrap_or o (description_of es)) none

@@ -10,7 +10,7 @@ use Rattle.bmp_specs.specs.PeerUp.{Names, IsNamed, IsUpWith, IsDownWith, IsUp}
 use Rattle.bmp_specs.specs.Values.{KeyValue, PeerInfoValue, DownInfoValue, EffectValue, up, down, mark}
 use Rattle.bmp_specs.proofs.CompleteLaws.{complete_now, complete_still, complete_from}
 use Rattle.bmp_specs.proofs.LatestLaws.{no_middle, latest_now, latest_step, latest_kept, latest_one, kept_by_all}
-use Rattle.bmp_specs.proofs.RowLaws.{up_now, up_still, up_from, up_or_down, peer_cases}
+use Rattle.bmp_specs.proofs.RowLaws.{up_now, up_or_down, peer_cases}
 
 -- ---- no effects
 pub none_up : (key : KeyValue) (info : PeerInfoValue) → ¬ (IsUpWith [] key info)
@@ -80,12 +80,6 @@ module _ (es : List EffectValue) (key : KeyValue) where
     pub down_with_step : (info : DownInfoValue) → IsDownWith (es ++ e ∷ []) key info ↔ ((e ≡ down key info) ⊎ (IsDownWith es key info × ¬ (Names key e)))
     down_with_step info = latest_step (Names key) es e (down key info)
 
-    pub is_up_step : IsUp (es ++ e ∷ []) key ↔ (((info : PeerInfoValue) × (e ≡ up key info)) ⊎ (IsUp es key × ¬ (Names key e)))
-    is_up_step = (
-      up_from es e key,
-      λ c. elim c [ inl u ↦ subst (λ (d : EffectValue). IsUp (es ++ d ∷ []) key) (sym u.1) (up_now es key u.0) | inr h ↦ up_still es e key h.1 h.0 ],
-    )
-
     pub complete_step : (view : View) (family : Family) → IsComplete (es ++ e ∷ []) key view family ↔ (((e ≡ mark key view family) × IsUp es key) ⊎ (IsComplete es key view family × ¬ (Names key e)))
     complete_step view family = (
       complete_from es e key view family,
@@ -95,13 +89,6 @@ module _ (es : List EffectValue) (key : KeyValue) where
     -- an Up or a Down of the peer ends its complete tables
     pub named_ends_complete : (view : View) (family : Family) → Names key e → ¬ (IsComplete (es ++ e ∷ []) key view family)
     named_ends_complete view family names c = elim (complete_from es e key view family c) [ inl m ↦ subst (Names key) m.0 names | inr h ↦ h.1 names ]
-
-    -- a peer that isn't up has no complete table, and a mark makes none
-    pub complete_kept_down : (view : View) (family : Family) → ¬ (IsUp es key) → IsComplete es key view family ↔ IsComplete (es ++ e ∷ []) key view family
-    complete_kept_down view family not_up = (
-      λ c. absurd (not_up (c.info, c.up)),
-      λ c. elim (complete_from es e key view family c) [ inl m ↦ absurd (not_up m.1) | inr h ↦ h.0 ],
-    )
 
 -- ---- an effect that doesn't name the peer
 module _ (es : List EffectValue) (e : EffectValue) (key : KeyValue) (other : ¬ (Names key e)) where
@@ -129,21 +116,5 @@ module _ (es : List EffectValue) (e : EffectValue) (key : KeyValue) (other : ¬ 
 
 -- ---- effects none of which names the peer
 module _ (es more : List EffectValue) (key : KeyValue) (others : AllByRecursion (λ e. ¬ (Names key e)) more) where
-  pub up_kept_by_all : (info : PeerInfoValue) → IsUpWith es key info ↔ IsUpWith (es ++ more) key info
-  up_kept_by_all info = kept_by_all (λ e. ¬ (Names key e)) (λ xs. IsUpWith xs key info) (λ xs x other. up_kept xs x key other info) es more others
-
-  pub down_kept_by_all : (info : DownInfoValue) → IsDownWith es key info ↔ IsDownWith (es ++ more) key info
-  down_kept_by_all info = kept_by_all (λ e. ¬ (Names key e)) (λ xs. IsDownWith xs key info) (λ xs x other. down_kept xs x key other info) es more others
-
-  pub is_up_kept_by_all : IsUp es key ↔ IsUp (es ++ more) key
-  is_up_kept_by_all = kept_by_all (λ e. ¬ (Names key e)) (λ xs. IsUp xs key) (λ xs x other. is_up_kept xs x key other) es more others
-
   pub named_kept_by_all : IsNamed es key ↔ IsNamed (es ++ more) key
   named_kept_by_all = kept_by_all (λ e. ¬ (Names key e)) (λ xs. IsNamed xs key) (λ xs x other. named_kept xs x key other) es more others
-
--- nor marks the table
-pub complete_kept_by_all : (es more : List EffectValue) (key : KeyValue) (view : View) (family : Family) → AllByRecursion (λ e. ¬ (Names key e) × ¬ (e ≡ mark key view family)) more
-    → IsComplete es key view family ↔ IsComplete (es ++ more) key view family
-complete_kept_by_all es more key view family others =
-    kept_by_all (λ e. ¬ (Names key e) × ¬ (e ≡ mark key view family)) (λ xs. IsComplete xs key view family)
-    (λ xs x other. complete_kept xs x key other.0 view family (λ m. other.1 m.0)) es more others

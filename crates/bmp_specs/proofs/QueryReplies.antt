@@ -1,5 +1,5 @@
 -- Replies: each query has one on a history; and the reply of `table` on one lane.
-use Rattle.std.proofs.Common.{◌≡◌, ℕ, zero, suc, ◌<◌, Bool, true, false, List, [], ◌∷◌, ◌++◌, length, map, refl, sym, ◌∙◌, ap, arith, append-nil}
+use Rattle.std.proofs.Common.{◌≡◌, ℕ, zero, suc, ◌<◌, Bool, true, false, List, [], ◌∷◌, ◌++◌, length, map, refl, sym, ◌∙◌, ap, arith}
 use Rattle.std.specs.Prelude.{MatchBool, flat_map, sum_by, slice_index_or, nat_lt, ◌==◌, max}
 use Rattle.std.specs.Ordering.{nat_cmp}
 use Rattle.std.specs.Cmp.{IsTotalOrder}
@@ -17,7 +17,7 @@ use Rattle.bmp_specs.specs.QueryRows.{AsksRow}
 use Rattle.bmp_specs.specs.Reply.{reply, told_count}
 use Rattle.bmp_specs.specs.RouteLine.{route_line}
 use Rattle.bmp_specs.specs.Rows.{RowValue, HasStatistic}
-use Rattle.bmp_specs.specs.Selection.{SelectValue, IsRowSelected, IsPeerSelected, IsSelected}
+use Rattle.bmp_specs.specs.Selection.{SelectValue, IsPeerSelected, IsSelected}
 use Rattle.bmp_specs.specs.Session.{LaneStateValue, idle, live, shut, state_of, session_effects, lane_name, lane_description}
 use Rattle.bmp_specs.specs.StatKind.{kind_of, kind_cmp}
 use Rattle.bmp_specs.specs.Steps.{steps_of}
@@ -34,18 +34,6 @@ module _ (query : QueryValue) (entries : List EntryValue) (lines : List (List �
       each : (k : ℕ) (a : List EntryValue) (b : List (List ℕ)) → k < 1 → AreLaneLines query k (slice_index_or (entries ∷ []) k a) (slice_index_or (lines ∷ []) k b)
       each zero a b small = h
       each (suc k) a b small = absurd (omega arith)
-
-  pub lines_of_one_lane : AreLaneLines query 0 entries lines → AreLines query (entries ∷ []) lines
-  lines_of_one_lane h = record { parts = lines ∷ []; each = one_part h; all = sym (append-nil lines) }
-
--- the reply of `table` on a history of one lane
-pub reply_of_one_lane : (select : SelectValue) (entries : List EntryValue) (rows : List RowValue) → AreRows (IsRowSelected select 0) (session_effects entries) rows
-    → IsReply (table select) (entries ∷ []) (reply (length entries) (map (route_line 0) rows))
-reply_of_one_lane select entries rows are = record {
-  lines = map (route_line 0) rows;
-  are_lines = lines_of_one_lane (table select) entries (map (route_line 0) rows) (record { rows = rows; are_rows = are; told = refl });
-  told = let e : length entries ≡ sum_by length (entries ∷ []) = omega arith in ap (λ (n : ℕ). reply n (map (route_line 0) rows)) e;
-}
 
 -- parts that each item determines are one list
 parallel_one : {A B : Type 0} (Fits : ℕ → A → B → Type 0) → ((k : ℕ) (a : A) (b c : B) → Fits k a b → Fits k a c → b ≡ c) → (items : List A) (ps qs : List B) → AreParallel Fits items ps → AreParallel Fits items qs → ps ≡ qs

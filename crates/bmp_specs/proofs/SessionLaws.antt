@@ -6,7 +6,7 @@ use Rattle.std.specs.List.{last_or, AllByRecursion}
 use Rattle.std.proofs.lemmas.Grind.{flat_map-append}
 use Rattle.bmp_specs.specs.declared.causes.Cause.{Cause}
 use Rattle.bmp_specs.specs.Values.{EffectValue, EntryValue, opened, message, closed}
-use Rattle.bmp_specs.specs.Session.{since_opening, cause_in, last_cause, unless_closed, present_session, LaneStateValue, idle, live, shut, state_by, state_since, state_of, effects_in, session_messages, session_effects}
+use Rattle.bmp_specs.specs.Session.{since_opening, cause_in, last_cause, unless_closed, present_session, idle, live, shut, state_by, state_since, state_of, effects_in, session_messages, session_effects}
 
 -- the entry is a message
 abbrev pub IsMessage : EntryValue → Type 0
@@ -42,46 +42,6 @@ since_at (closed cause ∷ before) session all = since_at before session all
 -- what stands at the end of some entries after the last opening is a session
 pub session_here : (entries session : List EntryValue) → IsSession entries session → present_session entries ≡ Some session
 session_here entries session s = rw (s.split, since_at s.before session s.messages, cause_none session s.messages) refl
-
-since_stands : (entries session : List EntryValue) → since_opening entries ≡ Some session → (before : List EntryValue) × (entries ≡ before ++ opened ∷ session) × (since_opening session ≡ None)
-since_stands [] session e = absurd cc
-since_stands (opened ∷ entries) session e = go (λ t. since_stands entries t) (since_opening entries) refl e
-  where
-    go : ((t : List EntryValue) → since_opening entries ≡ Some t → (before : List EntryValue) × (entries ≡ before ++ opened ∷ t) × (since_opening t ≡ None))
-        → (o : Option (List EntryValue)) → since_opening entries ≡ o → option_or o (Some entries) ≡ Some session → (before : List EntryValue) × (opened ∷ entries ≡ before ++ opened ∷ session) × (since_opening session ≡ None)
-    go again None is e' = let same : entries ≡ session = cc in ([], ap (λ (l : List EntryValue). opened ∷ l) same, ap since_opening (sym same) ∙ is)
-    go again (Some t) is e' = let h = again session (is ∙ e') in (opened ∷ h.0, ap (λ (l : List EntryValue). opened ∷ l) h.1, h.2)
-since_stands (message kind len effects ∷ entries) session e = let h = since_stands entries session e in (message kind len effects ∷ h.0, ap (λ (l : List EntryValue). message kind len effects ∷ l) h.1, h.2)
-since_stands (closed cause ∷ entries) session e = let h = since_stands entries session e in (closed cause ∷ h.0, ap (λ (l : List EntryValue). closed cause ∷ l) h.1, h.2)
-
-some_last : (c : Cause) (causes : List Cause) → last_or (Some c) causes ≡ None → ⊥
-some_last c [] e = cc
-some_last c (d ∷ causes) e = some_last d causes e
-
-messages_alone : (session : List EntryValue) → since_opening session ≡ None → last_cause session ≡ None → AllByRecursion IsMessage session
-messages_alone [] s c = tt
-messages_alone (opened ∷ session) s c = absurd (go (since_opening session) s)
-  where
-    go : (o : Option (List EntryValue)) → option_or o (Some session) ≡ None → ⊥
-    go None e = cc
-    go (Some t) e = cc
-messages_alone (message kind len effects ∷ session) s c = (tt, messages_alone session s c)
-messages_alone (closed cause ∷ session) s c = absurd (some_last cause (filter_map cause_in session) c)
-
--- and the present session is one
-pub session_stands : (entries session : List EntryValue) → present_session entries ≡ Some session → IsSession entries session
-session_stands entries session e = go (since_opening entries) refl e
-  where
-    go : (o : Option (List EntryValue)) → since_opening entries ≡ o → option_and_then (λ s. unless_closed s (last_cause s)) o ≡ Some session → IsSession entries session
-    go None is e' = absurd cc
-    go (Some t) is e' = at (last_cause t) refl e'
-      where
-        at : (c : Option Cause) → last_cause t ≡ c → unless_closed t c ≡ Some session → IsSession entries session
-        at (Some cause) none f = absurd cc
-        at None none f =
-            let same : t ≡ session = cc in
-            let h = since_stands entries session (is ∙ ap Some same) in
-            record { before = h.0; split = h.1; messages = messages_alone session h.2 (ap last_cause (sym same) ∙ none) }
 
 -- one more entry
 since_pushed : (entries : List EntryValue) (e : EntryValue) → IsMessage e ⊎ ((cause : Cause) × (e ≡ closed cause)) → since_opening (entries ++ e ∷ []) ≡ option_map (λ s. s ++ e ∷ []) (since_opening entries)
@@ -205,24 +165,9 @@ messages_without_session entries isnt_live = go (since_opening entries) isnt_liv
     go None isnt = refl
     go (Some s) isnt = at s (last_cause s) isnt
 
-pub effects_without_session : (entries : List EntryValue) → (state_of entries ≡ live → ⊥) → session_effects entries ≡ []
-effects_without_session entries isnt_live = ap (flat_map effects_in) (messages_without_session entries isnt_live)
-
 -- and one more goes nowhere
 pub messages_stay : (entries : List EntryValue) (kind len : ℕ) (effects : List EffectValue) → (state_of entries ≡ live → ⊥) → session_messages (entries ++ message kind len effects ∷ []) ≡ session_messages entries
 messages_stay entries kind len effects isnt_live = messages_stay_none entries kind len effects isnt_live ∙ sym (messages_without_session entries isnt_live)
 
 pub effects_stay : (entries : List EntryValue) (kind len : ℕ) (effects : List EffectValue) → (state_of entries ≡ live → ⊥) → session_effects (entries ++ message kind len effects ∷ []) ≡ session_effects entries
 effects_stay entries kind len effects isnt_live = ap (flat_map effects_in) (messages_stay entries kind len effects isnt_live)
-
--- after a closing there is no session
-pub not_live_after_closing : (entries : List EntryValue) (cause : Cause) → state_of (entries ++ closed cause ∷ []) ≡ live → ⊥
-not_live_after_closing entries cause h = go (state_of entries) refl
-  where
-    after : (state_of entries ≡ idle → ⊥) → ⊥
-    after ever = let e : shut cause ≡ live = sym (state_after_closing entries cause ever) ∙ h in cc
-
-    go : (s : LaneStateValue) → state_of entries ≡ s → ⊥
-    go idle is = let e : idle ≡ live = sym (state_stays_idle entries cause is) ∙ h in cc
-    go live is = after (λ was. let e : live ≡ idle = sym is ∙ was in cc)
-    go (shut c) is = after (λ was. let e : shut c ≡ idle = sym is ∙ was in cc)

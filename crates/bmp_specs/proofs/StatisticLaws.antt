@@ -1,12 +1,11 @@
 -- What one more effect does to a statistic, and that a peer has one value of a code and a family.
 use Rattle.std.proofs.Common.{◌≡◌, ◌↔◌, ◌⊎◌, inl, inr, List, [], ◌∷◌, ◌++◌, refl, sym, subst}
-use Rattle.std.specs.List.{AllByRecursion}
 use Rattle.bmp_specs.specs.Latest.{Latest}
 use Rattle.bmp_specs.specs.Values.{KeyValue, StatValue, EffectValue, statistic}
 use Rattle.bmp_specs.specs.PeerUp.{Names, IsUp}
 use Rattle.bmp_specs.specs.Rows.{ReplacesStatistic, HasStatistic}
 use Rattle.bmp_specs.proofs.EffectCases.{IsSameKind, replaces_statistic_or_other, named_replaces_statistic}
-use Rattle.bmp_specs.proofs.LatestLaws.{no_middle, latest_still, latest_from, latest_one, kept_by_all}
+use Rattle.bmp_specs.proofs.LatestLaws.{no_middle, latest_still, latest_from, latest_one}
 use Rattle.bmp_specs.proofs.RowLaws.{up_while}
 
 pub statistic_now : (es : List EffectValue) (key : KeyValue) (stat : StatValue) → IsUp es key → HasStatistic (es ++ statistic key stat ∷ []) key stat
@@ -70,6 +69,3 @@ module _ (es : List EffectValue) (e : EffectValue) (key : KeyValue) (stat : Stat
 -- a statistic that is reported while its peer isn't up changes none
 pub statistic_unheard : (es : List EffectValue) (e : EffectValue) (key : KeyValue) (stat : StatValue) → (ReplacesStatistic key stat e → ¬ (IsUp es key)) → HasStatistic es key stat ↔ HasStatistic (es ++ e ∷ []) key stat
 statistic_unheard es e key stat unheard = elim (replaces_statistic_or_other key stat e) [ inl r ↦ statistic_kept_down es e key stat (unheard r) | inr other ↦ statistic_kept es e key stat other ]
-
-pub statistic_kept_by_all : (es more : List EffectValue) (key : KeyValue) (stat : StatValue) → AllByRecursion (λ e. ¬ (ReplacesStatistic key stat e)) more → HasStatistic es key stat ↔ HasStatistic (es ++ more) key stat
-statistic_kept_by_all es more key stat others = kept_by_all (λ e. ¬ (ReplacesStatistic key stat e)) (λ xs. HasStatistic xs key stat) (λ xs e other. statistic_kept xs e key stat other) es more others

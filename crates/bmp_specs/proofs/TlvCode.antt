@@ -1,5 +1,5 @@
 -- No TLV begins another, and where one stands.
-use Rattle.std.proofs.Common.{◌≡◌, ℕ, ◌+◌, ◌≤◌, List, ◌++◌, length, drop, refl, sym, ap, ◌∙◌, arith, length-append}
+use Rattle.std.proofs.Common.{◌≡◌, ℕ, ◌+◌, ◌≤◌, List, ◌++◌, length, drop, refl, sym, ap, ◌∙◌, arith}
 use Rattle.byteorder.specs.Endian.{big_number}
 use Rattle.byteorder.specs.Numbers.{big_from-append}
 use Rattle.bmp_specs.specs.Parts.{IsCode}
@@ -34,10 +34,3 @@ tlv_here bytes front rest split long size =
     let kind : big_number 2 front ≡ big_number 2 bytes = sym (big_from-append 2 front rest (omega (arith, long))) ∙ ap (λ (l : List ℕ). big_number 2 l) (sym split) in
     let stated : big_number 2 (drop 2 front) ≡ big_number 2 (drop 2 bytes) = sym (big_number-drop-append 2 2 front rest long) ∙ ap (λ (l : List ℕ). big_number 2 (drop 2 l)) (sym split) in
     (front, record { joined = split }, record { header = long; kind_is = kind; length_is = ap (λ (n : ℕ). n + 4) stated ∙ sym size; value_is = refl })
-
--- where one stands at the front, the bytes have its length
-pub tlv_needs : (bytes rest : List ℕ) (t : TlvValue) → HasFront IsTlv bytes t rest → (4 ≤ length bytes) × (big_number 2 (drop 2 bytes) + 4 ≤ length bytes)
-tlv_needs bytes rest t (front, split, is) =
-    let stated : big_number 2 (drop 2 bytes) ≡ big_number 2 (drop 2 front) = ap (λ (l : List ℕ). big_number 2 (drop 2 l)) split.joined ∙ big_number-drop-append 2 2 front rest is.header in
-    let all : length bytes ≡ length front + length rest = ap length split.joined ∙ length-append front rest in
-    (omega (arith, all, is.header), omega (arith, all, stated, is.length_is))

@@ -12,9 +12,6 @@ use Rattle.bmp_specs.proofs.FrameCode.{stated-append, frame_one}
 abbrev pub verdict_at : ℕ → ℕ → ℕ → Verdict
 verdict_at len first says = cond (eqb len 0) whole (cond (ltb len 6) more (cond (eqb first 3) (cond (leb 6 says) (cond (leb says 1048576) (cond (ltb len says) more (broken Body)) (broken Length)) (broken Length)) (broken Version)))
 
-at_whole : (first says : ℕ) → verdict_at 0 first says ≡ whole
-at_whole first says = refl
-
 at_short : (len first says : ℕ) → 0 < len → len < 6 → verdict_at len first says ≡ more
 at_short len first says a b = grind (arith, nat_tests)
 

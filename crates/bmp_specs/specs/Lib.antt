@@ -2,6 +2,7 @@ pub mod Values
 pub mod Parts
 pub mod Sequence
 pub mod Number
+pub mod Octets
 pub mod AddressFamily
 pub mod Prefix
 pub mod Nlri

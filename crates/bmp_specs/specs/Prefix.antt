@@ -3,7 +3,6 @@
 use Rattle.std.specs.Prelude.{◌≡◌, ℕ, ◌+◌, ◌-◌, ◌/◌, ◌%◌, ◌^◌, ◌≤◌, List, [], ◌∷◌, ◌++◌, length, replicate, take}
 use Rattle.bmp_specs.specs.declared.wire.Family.{Family}
 use Rattle.bmp_specs.specs.declared.wire.Family.TheVariants.{V4, V6}
-use Rattle.bmp_specs.specs.Parts.{AreParts}
 use Rattle.bmp_specs.specs.Values.{PrefixValue}
 
 -- how many bits an address of the family has
@@ -42,10 +41,6 @@ pub record Sends (family : Family) (bits : ℕ) (sent : List ℕ) (p : PrefixVal
 abbrev pub IsPrefix : Family → List ℕ → PrefixValue → Type 0
 IsPrefix family [] p = ⊥
 IsPrefix family (bits ∷ sent) p = Sends family bits sent p
-
--- the bytes are these prefixes of the family
-abbrev pub ArePrefixes : Family → List ℕ → List PrefixValue → Type 0
-ArePrefixes family bytes ps = AreParts (IsPrefix family) bytes ps
 
 -- the prefix stands at the front, in so many bytes
 pub record StandsAtFront (family : Family) (bytes : List ℕ) (p : PrefixValue) (size : ℕ) : Type 0 where

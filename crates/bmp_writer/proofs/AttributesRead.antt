@@ -69,14 +69,6 @@ attribute_here flags code value short = go (nat_lt 255 (length value))
     go true = long_here (bit_or (cleared flags) 16) code value (set_here (cleared flags)) short
     go false = short_here (cleared flags) code value (cleared_clear flags)
 
--- how many bytes it takes
-pub head_length : (flags code size : ℕ) → length (head_bytes flags code size) ≡ cond (nat_lt 255 size) 4 3
-head_length flags code size = go (nat_lt 255 size)
-  where
-    go : (b : Bool) → length (cond b (bit_or (cleared flags) 16 ∷ code ∷ big_bytes 2 size) (cleared flags ∷ code ∷ size ∷ [])) ≡ cond b 4 3
-    go true = refl
-    go false = refl
-
 pub written_length : (flags code : ℕ) (value bytes : List ℕ) → IsAttribute bytes (written flags code value) → length bytes ≡ attribute_size (length value)
 written_length flags code value bytes is = go (nat_lt 255 (length value)) is
   where
@@ -110,10 +102,6 @@ attribute_put flags code size value old mid new short s e f = (
 pub part_put : (flags code : ℕ) (Is : Option (List ℕ) → Type 0) (value : List ℕ) (old new : List ℕ) → Is (Some value) → Appends (λ bytes. IsAttribute bytes (written flags code value)) old new
     → Appends (IsPart flags code Is) old new
 part_put flags code Is value old new is (bytes, joined, p) = (bytes, joined, record { value = Some value; are = (bytes, [], record { joined = sym (append-nil bytes) }, p, refl); is = is })
-
--- one that isn't
-pub no_part_put : (flags code : ℕ) (Is : Option (List ℕ) → Type 0) (old : List ℕ) → Is None → Appends (IsPart flags code Is) old old
-no_part_put flags code Is old is = ([], sym (append-nil old), record { value = None; are = refl; is = is })
 
 -- an attribute whose value was put in pieces of some form
 pub part_put_by : (flags code size : ℕ) (Is : Option (List ℕ) → Type 0) (Form : List ℕ → Type 0) (old mid new : List ℕ) → ((value : List ℕ) → Form value → (length value ≡ size) × Is (Some value)) → size ≤ 65535

@@ -13,9 +13,10 @@ use Rattle.bmp_specs.specs.Coded.{IsCoded}
 use Rattle.bmp_specs.specs.Open.{add_path, entries, family_in, four_octet_as, is_four_octet, multiprotocol, paths_in}
 use Rattle.bmp_specs.specs.Parts.{AreParts}
 use Rattle.bmp_specs.specs.Values.{CapValue, CodedValue, OpenValue}
+use Rattle.bmp_specs.proofs.PartsJoined.{parts_join}
 use Rattle.bmp_writer.specs.Written.{Appends}
 use Rattle.bmp_writer.specs.Capabilities.{AreCapabilities, HasEntries, IsAsCapability, IsFamilyCapability, IsPathCapability, IsPathEntry, as_bytes, as_family, as_size, entry_bytes, family_bytes, paths_size}
-use Rattle.bmp_writer.proofs.Still.{parts_join, three_pieces}
+use Rattle.bmp_writer.proofs.Still.{three_pieces}
 
 abbrev pub number_in : CodedValue → ℕ
 number_in c = big_number 4 c.value
@@ -166,10 +167,6 @@ paths_put (cap ∷ caps) n old mid new some size first (piece, joined, are) = (
   joined ∙ ap (λ (l : List ℕ). l ++ piece) first ∙ append_assoc old (add_path ∷ n ∷ []) piece,
   record { value = piece; is = record { header = omega arith; code_is = refl; length_is = omega (arith, size, (entries_of (cap ∷ caps) piece are).1); value_is = refl }; are = are },
 )
-
-pub no_paths_put : (caps : List CapValue) (old : List ℕ) → length caps ≡ 0 → Appends (IsPathCapability caps) old old
-no_paths_put [] old none = ([], sym (append-nil old), refl)
-no_paths_put (cap ∷ caps) old none = absurd (omega (arith, none))
 
 pub capabilities_put : (o p : OpenValue) → o ≡ p → (families paths : List CapValue) → families ≡ o.families → paths ≡ o.paths → (old m1 m2 new : List ℕ)
     → Appends (λ bytes. AreParts IsFamilyCapability bytes families) old m1 → Appends (IsAsCapability o.four) m1 m2 → Appends (IsPathCapability paths) m2 new → Appends (AreCapabilities p) old new

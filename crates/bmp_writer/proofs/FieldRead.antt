@@ -8,10 +8,10 @@ use Rattle.bmp_specs.specs.Attributes.{is_read, kept, read_types, value_of}
 use Rattle.bmp_specs.specs.Parts.{AreParts, Split}
 use Rattle.bmp_specs.specs.PeerHeader.{is_set}
 use Rattle.bmp_specs.specs.Values.{OtherValue}
+use Rattle.bmp_specs.proofs.PartsJoined.{parts_join}
 use Rattle.bmp_writer.specs.WrittenAttributes.{cleared, flags_for, part_of, written, written_other}
 use Rattle.bmp_writer.specs.WrittenRoutes.{AreKept}
 use Rattle.bmp_writer.proofs.AttributesRead.{set_here}
-use Rattle.bmp_writer.proofs.Still.{parts_join}
 
 -- an attribute that may stand there
 pub record Slot : Type 0 where

@@ -1,5 +1,5 @@
 -- Which attributes some field has.
-use Rattle.std.proofs.Common.{◌≡◌, ℕ, ◌*◌, ◌==◌, ◌≤◌, ◌↔◌, not, cond, filter, Bool, true, false, List, [], ◌∷◌, ◌++◌, length, map, Option, Some, None, refl, sym, ap, subst, ◌∙◌, append_assoc, append-nil, arith, length-drop}
+use Rattle.std.proofs.Common.{◌≡◌, ℕ, ◌*◌, ◌==◌, ◌≤◌, not, cond, filter, Bool, true, false, List, [], ◌∷◌, ◌++◌, length, map, Option, Some, None, refl, sym, ap, subst, ◌∙◌, append_assoc, append-nil, arith, length-drop}
 use Rattle.std.specs.List.{AllByRecursion}
 use Rattle.bmp_specs.specs.declared.wire.Family.TheVariants.{V4}
 use Rattle.bmp_specs.specs.declared.wire.Width.TheVariants.{Four}
@@ -258,6 +258,3 @@ can_given attrs can =
       same = refl;
       hop = can.hop;
     }
-
-pub given_iff : (attrs : AttrsValue) → IsGiven attrs ↔ CanBeGiven attrs
-given_iff attrs = (given_can attrs, can_given attrs)

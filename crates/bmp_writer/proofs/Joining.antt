@@ -16,7 +16,8 @@ use Rattle.bmp_specs.specs.Values.{AttrsValue, MpValue, NlriValue, OtherValue}
 use Rattle.bmp_writer.specs.Written.{Appends, Keeps}
 use Rattle.bmp_writer.specs.WrittenAttributes.{AreOthers, AreSomeCommunities, IsFirst, IsFront, IsPart, IsPlainReach, IsReach, IsReachValue, IsSecond, IsUnreach, IsUnreachValue, Joined, head_bytes, optional, optional_transitive, transitive, with_hop}
 use Rattle.bmp_writer.specs.WrittenNlri.{AreOwnNlri, nlris_size}
-use Rattle.bmp_writer.specs.WrittenUpdate.{hop_bytes, is_plain, no_attrs, of_v6, others_of, places, told_of, where_so}
+use Rattle.bmp_specs.specs.TreatAsWithdraw.{no_attributes}
+use Rattle.bmp_writer.specs.WrittenUpdate.{hop_bytes, is_plain, of_v6, others_of, places, told_of, where_so}
 use Rattle.bmp_writer.specs.WrittenUpdate.{IsField as IsFieldOf}
 use Rattle.bmp_writer.proofs.AttributesRead.{attribute_put, part_put}
 use Rattle.bmp_writer.proofs.NlriRead.{nlris_length}
@@ -127,11 +128,11 @@ unreach_put family ns size old mid new some s short e (value, f, form) =
     (bytes, joined, record { multi = Some m; are = record { prefixes = form.prefixes; is = refl; are = form.are; some = some }; is = part })
 
 -- nothing is told where no prefix is announced
-none_told : IsFront no_attrs []
+none_told : IsFront no_attributes []
 none_told =
     let none : (flags code : ℕ) (Is : Option (List ℕ) → Type 0) → Is None → IsPart flags code Is [] = λ flags code Is is. record { value = None; are = refl; is = is } in
-    let first : IsFirst no_attrs [] = ([], [], record { joined = refl }, none transitive origin _ tt, ([], [], record { joined = refl }, none transitive as_path _ tt, ([], [], record { joined = refl }, none transitive next_hop _ tt, none optional multi_exit_disc _ tt))) in
-    let second : IsSecond no_attrs [] = ([], [], record { joined = refl }, none transitive local_pref _ tt, ([], [], record { joined = refl }, none transitive atomic_aggregate _ refl, ([], [], record { joined = refl }, none optional_transitive aggregator _ tt, none optional_transitive communities _ refl))) in
+    let first : IsFirst no_attributes [] = ([], [], record { joined = refl }, none transitive origin _ tt, ([], [], record { joined = refl }, none transitive as_path _ tt, ([], [], record { joined = refl }, none transitive next_hop _ tt, none optional multi_exit_disc _ tt))) in
+    let second : IsSecond no_attributes [] = ([], [], record { joined = refl }, none transitive local_pref _ tt, ([], [], record { joined = refl }, none transitive atomic_aggregate _ refl, ([], [], record { joined = refl }, none optional_transitive aggregator _ tt, none optional_transitive communities _ refl))) in
     ([], [], record { joined = refl }, first, second)
 
 pub told_none : (plain : Bool) (announced : List NlriValue) (attrs : AttrsValue) (old : List ℕ) (b : Bool) → b ≡ (length announced == 0) → b ≡ true → Appends (IsFront (told_of plain announced attrs)) old old

@@ -1,16 +1,15 @@
 -- Prefixes that are written are read as they were.
 use Rattle.std.proofs.Common.{◌≡◌, ℕ, zero, suc, ◌+◌, ◌-◌, ◌<◌, ◌≤◌, List, [], ◌∷◌, ◌++◌, length, take, drop, replicate, get_or, Option, Some, None, refl, sym, ap, subst, ◌∙◌, append_assoc, arith, length-append, length-drop, length-take}
 use Rattle.std.specs.Prelude.{sum_by}
-use Rattle.std.proofs.lemmas.List.{drop_at, take_more}
+use Rattle.std.proofs.lemmas.List.{take_more}
 use Rattle.std.proofs.lemmas.List.Sums.{sum_by-cons, sum_by_push}
 use Rattle.bmp_specs.specs.Address.{IsAddressPrefix}
 use Rattle.bmp_specs.specs.declared.wire.Family.{Family}
 use Rattle.bmp_specs.specs.Prefix.{IsPrefix, bytes_for, first_bits, high_bits, padded}
 use Rattle.bmp_specs.specs.Values.{NlriValue, PrefixValue}
 use Rattle.bmp_specs.proofs.FirstBits.{AreBytes, no_first}
-use Rattle.bmp_specs.proofs.StatedLength.{big_number-drop-append}
 use Rattle.bmp_specs.proofs.Widths.{width_within}
-use Rattle.bmp_writer.specs.WrittenNlri.{AreOwnNlri, IsId, IsOwnNlri, IsOwnPrefix, id_size, nlri_size, nlris_size}
+use Rattle.bmp_writer.specs.WrittenNlri.{AreOwnNlri, IsOwnNlri, IsOwnPrefix, id_size, nlri_size, nlris_size}
 
 zeros : (r k : ℕ) → get_or (replicate r 0) k 0 < 256
 zeros zero k = omega arith
@@ -51,24 +50,6 @@ prefix_put p bits octets old mid new valid b o e f =
     let joined : new ≡ old ++ bits ∷ octets = f ∙ ap (λ (l : List ℕ). l ++ octets) e ∙ append_assoc old (bits ∷ []) octets in
     let same : bits ∷ octets ≡ p.bits ∷ take (bytes_for p.bits) p.address.octets = ap (λ (n : ℕ). n ∷ octets) b ∙ ap (λ (l : List ℕ). p.bits ∷ l) o in
     (bits ∷ octets, joined, subst (λ (l : List ℕ). IsOwnPrefix p l) (sym same) (prefix_here p valid))
-
-with_id : (p : PrefixValue) (id : Option ℕ) (a b : List ℕ) → IsId id a → IsOwnPrefix p b → IsOwnNlri (a ++ b) (record { prefix = p; id = id })
-with_id p None a b none is = record {
-  is = record { prefix_is = subst (λ (l : List ℕ). IsPrefix p.address.family (l ++ b) p) (sym none) is.is; id_is = refl };
-  exact = ap (λ (l : List ℕ). l ++ b) none ∙ is.exact;
-}
-with_id p (Some id) a b number is = record {
-  is = record {
-    header = omega (arith, length-append a b, number.len);
-    id_is = ap (λ (n : ℕ). Some n) (sym (big_number-drop-append 4 0 a b (omega (arith, number.len)) ∙ number.value_is));
-    prefix_is = subst (λ (l : List ℕ). IsPrefix p.address.family l p) (sym (drop_at a b 4 number.len)) is.is;
-  };
-  exact = drop_at a b 4 number.len ∙ is.exact;
-}
-
-pub nlri_put : (n : NlriValue) (old mid new : List ℕ) → (a : List ℕ) × (mid ≡ old ++ a) × IsId n.id a → (b : List ℕ) × (new ≡ mid ++ b) × IsOwnPrefix n.prefix b
-    → (bytes : List ℕ) × (new ≡ old ++ bytes) × IsOwnNlri bytes n
-nlri_put n old mid new (a, e, id) (b, f, is) = (a ++ b, f ∙ ap (λ (l : List ℕ). l ++ b) e ∙ append_assoc old a b, with_id n.prefix n.id a b id is)
 
 prefix_length : (family : Family) (bytes : List ℕ) (p : PrefixValue) → IsPrefix family bytes p → length bytes ≡ 1 + bytes_for p.bits
 prefix_length family [] p is = absurd is

@@ -267,9 +267,6 @@ table_put table name slice a b old m1 m2 new is same short kind len e1 e2 e3 =
       record { are = (bytes, [], record { joined = sym (append-nil bytes) }, tlv, refl); size = omega arith },
     )
 
-pub no_table_put : (table : Option (List ℕ)) (old : List ℕ) → table ≡ None → Appends (IsTable table) old old
-no_table_put table old none = subst (λ (t : Option (List ℕ)). Appends (IsTable t) old old) (sym none) ([], sym (append-nil old), record { are = refl; size = refl })
-
 -- all parts, one behind another
 pub message_put : (i info : PeerInfoValue) → i ≡ info → (key : KeyValue) (n : ℕ) (common old m1 m2 m3 m4 m5 new : List ℕ) → CanCarry key info → n ≡ 68 + (open_size i.sent + open_size i.received) + name_tlvs_size i.table → common ≡ header_bytes 3 n
     → m1 ≡ old ++ common → Appends (IsUpHeader key info) m1 m2 → Appends (IsLocal info) m2 m3 → Appends (IsOpenOf i.sent) m3 m4 → Appends (IsOpenOf i.received) m4 m5 → Appends (IsTable i.table) m5 new

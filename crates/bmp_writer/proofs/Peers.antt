@@ -1,5 +1,5 @@
 -- What a message with a Per-Peer Header of a peer means.
-use Rattle.std.proofs.Common.{length, ◌≡◌, ℕ, ◌==◌, false, List, [], ◌∷◌, ◌++◌, take, drop, Option, Some, None, MatchOption, refl, sym, ap, subst, arith, ◌∙◌, length-append, ◌+◌}
+use Rattle.std.proofs.Common.{length, ◌≡◌, ℕ, ◌==◌, List, [], ◌∷◌, ◌++◌, take, drop, Option, Some, None, MatchOption, refl, sym, ap, subst, arith, ◌∙◌, length-append, ◌+◌}
 use Rattle.std.specs.List.{IsDistinct}
 use Rattle.std.proofs.lemmas.List.{take_at, drop_at}
 use Rattle.bmp_specs.specs.declared.peers.Detail.TheVariants.{Unread}
@@ -11,13 +11,14 @@ use Rattle.bmp_specs.specs.declared.wire.Width.{Width}
 use Rattle.bmp_specs.specs.declared.wire.Width.TheVariants.{Two, Four}
 use Rattle.bmp_specs.specs.Attributes.{AreAttributes}
 use Rattle.bmp_specs.specs.FourOctetAs.{AsAttributes, Chooses}
-use Rattle.bmp_specs.specs.BgpMessage.{IsBgpMessage, marker}
+use Rattle.bmp_specs.specs.BgpMessage.{IsBgpMessage}
 use Rattle.bmp_specs.specs.MessageBody.{HasPeer, IsRouteMonitoring, MessageType, OfPeer, ReadingState, id_use, width_of}
 use Rattle.bmp_specs.specs.MessageBody.{route_monitoring, peer_down_notification}
 use Rattle.bmp_specs.specs.PeerDownNotification.{IsPeerDown}
 use Rattle.bmp_specs.specs.PeerHeader.{HeaderValue, IsHeader, header_size, view_of}
+use Rattle.bmp_specs.specs.TreatAsWithdraw.{no_attributes}
 use Rattle.bmp_specs.specs.Update.{IsUpdate}
-use Rattle.bmp_specs.specs.Values.{AttrsReadValue, AttrsValue, DownInfoValue, KeyValue, MessageValue, MpValue, OpensValue, OtherValue, UpdateValue, down, mark, message, of_unknown_peer, of_unknown_type, peer_down, routes}
+use Rattle.bmp_specs.specs.Values.{AttrsReadValue, DownInfoValue, KeyValue, MessageValue, MpValue, OpensValue, OtherValue, UpdateValue, down, mark, message, of_unknown_peer, of_unknown_type, peer_down, routes}
 use Rattle.bmp_writer.specs.PeerMessage.{HasPlainHeader, IsHeaderOf, IsPeerMessage, mark_update}
 use Rattle.bmp_writer.specs.Written.{Always, Appends, HasUp, IsWritten, mark_size, peer_down_type, route_monitoring_type, unchanged, without}
 use Rattle.bmp_writer.proofs.Frames.{frame_length}
@@ -53,10 +54,6 @@ peer_down_written key view reason bytes p =
       };
     }
 
--- no attributes
-abbrev pub no_attrs : AttrsValue
-no_attrs = record { origin = None; path = None; hop = None; med = None; pref = None; atomic = false; aggregator = None; communities = []; others = [] }
-
 abbrev pub no_as : AsAttributes
 no_as = record { aggregator = None; as4_aggregator = None; as_path = None; as4_path = None }
 
@@ -66,7 +63,7 @@ chosen Four = (refl, refl)
 
 -- an UPDATE with nothing but the mark
 abbrev pub marks : Family → UpdateValue
-marks family = record { withdrawn = []; plain = []; plain_attrs = no_attrs; multi = []; multi_attrs = no_attrs; mark = Some family; unread = 0 }
+marks family = record { withdrawn = []; plain = []; plain_attrs = no_attributes; multi = []; multi_attrs = no_attributes; mark = Some family; unread = 0 }
 
 abbrev pub body_v4 : List ℕ
 body_v4 = 0 ∷ 0 ∷ 0 ∷ 0 ∷ []
@@ -79,7 +76,7 @@ mark_body V4 = body_v4
 mark_body V6 = body_v6
 
 abbrev pub read_v4 : AttrsReadValue
-read_v4 = record { attrs = no_attrs; reach = None; unreach = None; count = 0 }
+read_v4 = record { attrs = no_attributes; reach = None; unreach = None; count = 0 }
 
 distinct_none : IsDistinct (λ (j k : ℕ). j == k) []
 unfolding IsDistinct
@@ -116,7 +113,7 @@ abbrev pub empty_unreach : MpValue
 empty_unreach = record { afi = 2; safi = 1; hop = []; prefixes = [] }
 
 abbrev pub read_v6 : AttrsReadValue
-read_v6 = record { attrs = no_attrs; reach = None; unreach = Some empty_unreach; count = 1 }
+read_v6 = record { attrs = no_attributes; reach = None; unreach = Some empty_unreach; count = 1 }
 
 abbrev pub unreach_part : OtherValue
 unreach_part = record { flags = 128; code = 15; value = 0 ∷ 2 ∷ 1 ∷ [] }

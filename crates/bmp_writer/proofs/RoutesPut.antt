@@ -1,27 +1,17 @@
 -- Headers and an UPDATE message are a Route Monitoring message.
 use Rattle.std.proofs.Common.{◌≡◌, ℕ, ◌+◌, ◌==◌, ◌≤◌, eqb-true, if◌then◌else◌, Bool, true, false, List, [], ◌∷◌, ◌++◌, length, Option, Some, None, refl, sym, ap, subst, ◌∙◌, append_assoc, arith, length-append}
-use Rattle.byteorder.specs.Endian.{big_bytes}
 use Rattle.bmp_specs.specs.declared.peers.View.{View}
 use Rattle.bmp_specs.specs.declared.wire.Family.{Family}
 use Rattle.bmp_specs.specs.declared.wire.Family.TheVariants.{V4, V6}
 use Rattle.bmp_specs.specs.Values.{AttrsValue, KeyValue, NlriValue}
-use Rattle.bmp_writer.specs.PeerMessage.{HasPlainHeader, IsHeaderOf}
+use Rattle.bmp_writer.specs.PeerMessage.{HasPlainHeader}
 use Rattle.bmp_writer.specs.Written.{Appends}
 use Rattle.bmp_writer.specs.WrittenAttributes.{HasHop}
 use Rattle.bmp_writer.specs.WrittenRoutes.{CanCarryRoutes, IsHeadersOf, IsRoutesMessage, family_of, routes_size}
-use Rattle.bmp_writer.specs.WrittenUpdate.{AreShort, CanPlace, IsField, IsUpdateOf, PlacesValue, is_plain, places, told_of, update_size}
+use Rattle.bmp_writer.specs.WrittenUpdate.{IsField, IsUpdateOf, PlacesValue, is_plain, places, told_of, update_size}
 use Rattle.bmp_writer.proofs.Frames.{frame_here, frame_length, header_bytes}
 use Rattle.bmp_writer.proofs.Peers.{plain_appended}
 use Rattle.bmp_writer.proofs.Still.{two_pieces}
-
-pub headers_put : (key : KeyValue) (view : View) (size n : ℕ) (common frame old new : List ℕ) → n ≡ 48 + size → common ≡ 3 ∷ (big_bytes 4 n ++ 0 ∷ []) → (head : List ℕ) × (frame ≡ common ++ head) × IsHeaderOf key view head
-    → new ≡ old ++ frame → Appends (IsHeadersOf key view size) old new
-headers_put key view size n common frame old new s c (head, f, is) e =
-    (frame, e, record { head = head; is = f ∙ ap (λ (l : List ℕ). l ++ head) (c ∙ ap (λ (k : ℕ). 3 ∷ (big_bytes 4 k ++ 0 ∷ [])) s); head_is = is })
-
-short_told : (plain : Bool) (announced : List NlriValue) (attrs : AttrsValue) → AreShort attrs.path → AreShort (told_of plain announced attrs).path
-short_told plain [] attrs s = tt
-short_told plain (n ∷ ns) attrs s = s
 
 hop_told : (family : Family) (announced : List NlriValue) (attrs : AttrsValue) → HasHop (told_of (is_plain family attrs.hop) announced attrs).hop
 hop_told family [] attrs = tt
@@ -39,12 +29,6 @@ hop_told family (n ∷ ns) attrs = go family attrs.hop
     go V4 None = tt
     go V4 (Some hop) = four (length hop == 4) hop refl
     go V6 hop = tt
-
--- all has its place
-pub can_place : (key : KeyValue) (view : View) (withdrawn announced : List NlriValue) (attrs : AttrsValue) → CanCarryRoutes key view withdrawn announced attrs → CanPlace (places (family_of (withdrawn ++ announced)) withdrawn announced attrs)
-can_place key view withdrawn announced attrs can =
-    let family = family_of (withdrawn ++ announced) in
-    record { segments = short_told (is_plain family attrs.hop) announced attrs can.segments; next_hop = hop_told family announced attrs; hop = can.hop; fits = can.fits }
 
 -- what was put into an empty room is the field
 pub whole_field : (family : Family) (p : PlacesValue) (empty mid field : List ℕ) → empty ≡ [] → field ≡ mid → Appends (IsField family p) empty mid → IsField family p field

@@ -26,6 +26,7 @@ use Rattle.bmp_specs.specs.PeerHeader.{HeaderValue, is_set, l_flag, loc_rib, o_f
 use Rattle.bmp_specs.specs.Sequence.{IsField}
 use Rattle.bmp_specs.specs.Update.{AreMpNlri, IsUpdate, empty_family, passed_over, with_hop_of}
 use Rattle.bmp_specs.specs.Values.{AttrsReadValue, AttrsValue, MpValue, NlriValue, OpensValue, OtherValue, UpdateValue}
+use Rattle.bmp_specs.proofs.PartsJoined.{parts_join}
 use Rattle.bmp_writer.specs.WrittenAttributes.{IsPlainReach, AreMulti, AreOthers, AreSomeCommunities, optional, optional_transitive, part_of, transitive, written_other}
 use Rattle.bmp_writer.specs.WrittenNlri.{AreOwnNlri, nlri_size}
 use Rattle.bmp_writer.specs.WrittenRoutes.{AreKept, IsAlike, side_of_view}
@@ -33,7 +34,6 @@ use Rattle.bmp_writer.specs.WrittenUpdate.{PlacesValue, counted, is_plain, of_v4
 use Rattle.bmp_writer.specs.WrittenUpdate.{IsField as IsFieldOf}
 use Rattle.bmp_writer.proofs.FieldRead.{Holds, Rising, Slot, distinct_all, holds_cons, holds_join, holds_one, lookup, others_back, slot, slot_parts, value_is}
 use Rattle.bmp_writer.proofs.NlriRead.{nlris_length}
-use Rattle.bmp_writer.proofs.Still.{parts_join}
 
 -- the ten attributes that may stand there, in order of type
 abbrev pub ten : Option (List ℕ) → Option (List ℕ) → Option (List ℕ) → Option (List ℕ) → Option (List ℕ) → Option (List ℕ) → Option (List ℕ) → Option (List ℕ) → Option (List ℕ) → Option (List ℕ) → List Slot

@@ -3,6 +3,7 @@ use Rattle.std.proofs.Common.{◌≡◌, ℕ, List, [], ◌∷◌, ◌++◌, len
 use Rattle.std.proofs.lemmas.List.{take_at, take-append-drop, take_more}
 use Rattle.std.specs.Prelude.{Result, Ok, Err, OnErr}
 use Rattle.bmp_specs.specs.Parts.{AreParts}
+use Rattle.bmp_specs.proofs.PartsJoined.{parts_snoc}
 use Rattle.bmp_writer.specs.Written.{Appends, Keeps}
 
 pub keeps_piece : (old piece new : List ℕ) → new ≡ old ++ piece → Keeps old new
@@ -21,16 +22,6 @@ keeps_then old mid new k l =
 
 pub keeps_appends : {Is : List ℕ → Type 0} (old new : List ℕ) → Appends Is old new → Keeps old new
 keeps_appends old new (piece, joined, is) = keeps_piece old piece new joined
-
--- parts, and further parts behind them
-pub parts_join : {V : Type 0} (Is : List ℕ → V → Type 0) (front back : List ℕ) (vs ws : List V) → AreParts Is front vs → AreParts Is back ws → AreParts Is (front ++ back) (vs ++ ws)
-parts_join Is front back [] ws p q = subst (λ (l : List ℕ). AreParts Is (l ++ back) ws) (sym p) q
-parts_join Is front back (v ∷ vs) ws (first, rest, split, is, p) q =
-    (first, rest ++ back, record { joined = ap (λ (l : List ℕ). l ++ back) split.joined ∙ append_assoc first rest back }, is, parts_join Is rest back vs ws p q)
-
--- one more part at the end
-pub parts_snoc : {V : Type 0} (Is : List ℕ → V → Type 0) (front part : List ℕ) (vs : List V) (v : V) → AreParts Is front vs → Is part v → AreParts Is (front ++ part) (vs ++ v ∷ [])
-parts_snoc Is front part vs v p q = parts_join Is front part vs (v ∷ []) p (part, [], record { joined = sym (append-nil part) }, q, refl)
 
 -- what holds, holds where a call failed
 pub on_err : {T E : Type 0} (result : Result T E) (P : Type 0) → P → OnErr result P

@@ -14,16 +14,13 @@ use Rattle.bmp_specs.specs.Parts.{Split}
 use Rattle.bmp_specs.specs.Sequence.{IsField}
 use Rattle.bmp_specs.specs.Values.{AggregatorValue, AttrsValue, MpValue, NlriValue, OtherValue, SegmentValue}
 use Rattle.bmp_writer.specs.Written.{Appends}
-use Rattle.bmp_writer.specs.WrittenAttributes.{AreMulti, AreOthers, AreSomeCommunities, IsFront, IsPlainReach, Joined, atomic_size, attribute_size, communities_size, front_size, optional, optional_size, optional_transitive, others_size, part_size, segments_size, there_size, transitive}
+use Rattle.bmp_writer.specs.WrittenAttributes.{AreMulti, AreOthers, AreSomeCommunities, IsFront, IsPlainReach, atomic_size, attribute_size, communities_size, front_size, optional, optional_size, optional_transitive, others_size, part_size, segments_size, there_size, transitive}
 use Rattle.bmp_writer.specs.WrittenNlri.{AreOwnNlri, nlris_size}
 use Rattle.bmp_writer.specs.WrittenUpdate.{IsCountedOf, IsUpdateOf, PlacesValue, counted, field_size, reach_size, unreach_size, update_size}
 use Rattle.bmp_writer.specs.WrittenUpdate.{IsField as IsFieldOf}
 use Rattle.bmp_writer.proofs.AttributesRead.{numbers_length, part_length, segments_length, written_length}
 use Rattle.bmp_writer.proofs.NlriRead.{nlris_length}
 use Rattle.bmp_writer.proofs.Still.{two_pieces}
-
-joined_length : (Is Js : List ℕ → Type 0) (a b : ℕ) → ((bytes : List ℕ) → Is bytes → length bytes ≡ a) → ((bytes : List ℕ) → Js bytes → length bytes ≡ b) → (bytes : List ℕ) → Joined Is Js bytes → length bytes ≡ a + b
-joined_length Is Js a b l m bytes (front, rest, split, p, q) = omega (arith, ap (λ (x : List ℕ). length x) split.joined, length-append front rest, l front p, m rest q)
 
 number_size : (n : ℕ) (value : Option (List ℕ)) (o : Option ℕ) → attribute_size n ≡ 3 + n → Optional (IsNumber n) value o → part_size value ≡ there_size n o
 number_size n None None e is = refl

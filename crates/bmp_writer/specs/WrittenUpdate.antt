@@ -5,13 +5,10 @@ use Rattle.byteorder.specs.Endian.{big_bytes}
 use Rattle.bmp_specs.specs.declared.wire.Family.{Family}
 use Rattle.bmp_specs.specs.declared.wire.Family.TheVariants.{V4, V6}
 use Rattle.bmp_specs.specs.BgpMessage.{IsBgpMessage, update_type}
+use Rattle.bmp_specs.specs.TreatAsWithdraw.{no_attributes}
 use Rattle.bmp_specs.specs.Values.{AttrsValue, NlriValue, OtherValue, SegmentValue}
 use Rattle.bmp_writer.specs.WrittenAttributes.{AreOthers, HasHop, IsFront, IsReach, IsShortSegment, IsUnreach, Joined, front_size, listed_size, others_size, with_hop}
 use Rattle.bmp_writer.specs.WrittenNlri.{AreOwnNlri, nlris_size}
-
--- no attributes
-abbrev pub no_attrs : AttrsValue
-no_attrs = record { origin = None; path = None; hop = None; med = None; pref = None; atomic = false; aggregator = None; communities = []; others = [] }
 
 -- Where the prefixes stand: in "Withdrawn Routes", in MP_UNREACH_NLRI, in "Network Layer Reachability Information" and in
 -- MP_REACH_NLRI; the attributes of types 1 to 8; the next hop of MP_REACH_NLRI; and the attributes that are kept as they
@@ -47,7 +44,7 @@ where_so false vs = []
 
 -- attributes are told where a prefix is announced; NEXT_HOP, where one is in "Network Layer Reachability Information"
 abbrev pub told_of : Bool → List NlriValue → AttrsValue → AttrsValue
-told_of plain [] attrs = no_attrs
+told_of plain [] attrs = no_attributes
 told_of plain (n ∷ ns) attrs = with_hop plain attrs
 
 abbrev pub others_of : List NlriValue → AttrsValue → List OtherValue

@@ -6,10 +6,10 @@ use mathlib.Core.List.{IsPrefix}
 use Rattle.cut_publisher.specs.declared.history.Step.{Step}
 use Rattle.cut_publisher.specs.declared.history.Step.TheVariants.{Batch, End}
 use Rattle.cut_publisher.specs.declared.cell.Shown.{Shown}
-use Rattle.cut_publisher.proofs.Prefixes.{begins_trans, told-append, told_shorter}
+use Rattle.cut_publisher.proofs.Prefixes.{told-append, told_shorter}
 use Rattle.cut_publisher.proofs.Adding.{open_then}
 use Rattle.cut_publisher.proofs.Lanes.{part-append, part-batch_same, begins_part, begins_whole, stands_more}
-use Rattle.cut_publisher.specs.History.{Begins, Fed, Site, batch, fed, part, told}
+use Rattle.cut_publisher.specs.History.{Site, batch, fed, part, told}
 use Rattle.cut_publisher.specs.Cuts.{Stands}
 use Rattle.cut_publisher.specs.Logs.{IsLog, IsOpen}
 use Rattle.cut_publisher.specs.Rule.{Good}
@@ -58,6 +58,3 @@ module _ {E : Type 0} where
   pub part_more : (log : List (Step E)) (lane : ℕ) (entries es : List E) → part lane (told log) ≡ entries → part lane (told (log ++ Batch lane es ∷ [])) ≡ entries ++ es
   part_more log lane entries es same =
       ap (part lane) (told_more log lane es) ∙ part-append lane (told log) (batch lane es) ∙ (λ i. same i ++ part-batch_same lane es i)
-
-  pub begins_more : (f : Fed E) (log : List (Step E)) (lane : ℕ) (es : List E) → Begins f.seen (told log) → Begins f.seen (told (log ++ Batch lane es ∷ []))
-  begins_more f log lane es p = begins_trans f.seen (told log) (told (log ++ Batch lane es ∷ [])) p (record { rest = batch lane es; is = sym (told_more log lane es) })

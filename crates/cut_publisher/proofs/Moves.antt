@@ -12,7 +12,7 @@ use Rattle.logbook.specs.declared.tokens.Seen.{Seen}
 use Rattle.std.proofs.lemmas.List.Sums.{fold_push}
 use Rattle.std.specs.List.{fold}
 use Rattle.cut_publisher.specs.declared.history.Step.{Step}
-use Rattle.cut_publisher.specs.History.{Site, told}
+use Rattle.cut_publisher.specs.History.{told}
 use Rattle.cut_publisher.specs.Cuts.{Stands}
 use Rattle.cut_publisher.specs.Logs.{IsLog, IsOpen}
 use Rattle.cut_publisher.specs.Rule.{Ends, Entered, Good, IsAlike, IsLive, IsReady, Keeps, named, nobody, site_at, site_of}
@@ -25,10 +25,6 @@ state_of x = (arc_value x.cut, x.seen, x.steps)
 
 abbrev pub applied : {S E : Type 0} → State S E → Shown S E → State S E
 applied s x = state_of x
-
--- a station's name tells the station
-pub named_site : (a b : Site) → named a ≡ named b → a ≡ b
-named_site a b e = λ i. record { book = record { number = (e i).number; log_name = (e i).log_name; cells_name = (e i).cells_name }; lanes = (e i).lanes }
 
 module _ {S E : Type 0} where
   pub alike_of : (x y : Shown S E) → state_of x ≡ state_of y → IsAlike x y

@@ -14,9 +14,6 @@ begins_self xs = record { rest = []; is = append-nil xs }
 pub begins_trans : {A : Type 0} (xs ys zs : List A) → Begins xs ys → Begins ys zs → Begins xs zs
 begins_trans xs ys zs p q = record { rest = p.rest ++ q.rest; is = sym (append_assoc xs p.rest q.rest) ∙ (ap (λ w. w ++ q.rest) p.is ∙ q.is) }
 
-pub begins_of : {A : Type 0} (xs ys : List A) → IsPrefix xs ys → Begins xs ys
-begins_of xs ys p = record { rest = p.0; is = p.1 }
-
 -- a beginning is what the whole has at its front
 front_is : {A : Type 0} (xs zs : List A) → IsPrefix xs zs → take (length xs) zs ≡ xs
 front_is xs zs p = ap (λ w. take (length xs) w) (sym p.1) ∙ take-append_seam xs p.0

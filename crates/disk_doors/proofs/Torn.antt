@@ -3,14 +3,11 @@ use Rattle.std.proofs.Common.{◌≡◌, ◌⊎◌, inl, inr, ⊎_elim, ℕ, ◌
 use Rattle.std.proofs.lemmas.List.{get_or_append_left, get_or-append_right, get_or-take, get_or-drop, length-take-le, length-replicate}
 use Rattle.std.proofs.lemmas.Bool.{cases_lt}
 use Rattle.wire_io.specs.declared.sink.Failed.{Failed}
-use Rattle.disk_doors.specs.Images.{Range, Moment, MayLeave, IsImage, IsTorn, settled, padded, overwritten, with_range, wrote, unread, AfterWrite}
+use Rattle.disk_doors.specs.Images.{Range, Moment, MayLeave, IsImage, IsTorn, settled, padded, overwritten, with_range, unread, AfterWrite}
 use Rattle.disk_doors.specs.Disk.{DiskValue, goes_to, IsPlanned, WritesAt}
 
 pub settled_image : (file c : List ℕ) → IsImage (settled file) c → c ≡ file
 settled_image file c i = ⊎_elim (λ e. e) (λ (l : MayLeave file [] c). l.synced refl) i
-
-pub settled_is_image : (file : List ℕ) → IsImage (settled file) file
-settled_is_image file = inl refl
 
 pub torn_same : (file : List ℕ) (place size : ℕ) → IsTorn file place size file
 torn_same file place size = record { same = λ i l out. refl; no_shorter = omega arith }
@@ -87,10 +84,6 @@ pub file_left : (old new : Moment) (place : ℕ) (piece : List ℕ) (r : Result 
 file_left old new place piece (Ok u) w l =
     cut_image old new place piece new.file (Ok u) w l (subst (IsTorn old.file place (length piece)) (sym (ap (λ (m : Moment). m.file) w)) (overwritten_torn old.file place piece))
 file_left old new place piece (Err e) w l = cut_image old new place piece new.file (Err e) w l w.file
-
--- what a write of a disk in memory is
-pub wrote_at : (old new : DiskValue) (place : ℕ) (piece : List ℕ) (u : Unit {0}) → new ≡ goes_to (wrote old.now place piece) old → (IsPlanned old ⊎ (old.room < place + length piece) → ⊥) → WritesAt old new place piece (Ok u)
-wrote_at old new place piece u next fine = record { made = wrote old.now place piece; next = next; moment = refl; planned = fine }
 
 pub tore_at : (old new : DiskValue) (place : ℕ) (piece : List ℕ) (e : Failed) → new ≡ goes_to (unread old.now place piece) old → IsPlanned old ⊎ (old.room < place + length piece) → WritesAt old new place piece (Err e)
 tore_at old new place piece e next cause = record { made = unread old.now place piece; next = next; moment = record { file = torn_same old.now.file place (length piece); kept = refl; ranges = refl }; planned = cause }

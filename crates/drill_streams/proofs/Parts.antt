@@ -2,8 +2,8 @@
 use Rattle.std.proofs.Common.{◌≡◌, ℕ, zero, suc, ◌+◌, List, [], ◌∷◌, ◌++◌, sym, ap, subst, ◌∙◌, append_assoc, arith}
 use Rattle.std.specs.List.{range_with_len}
 use Rattle.bmp_specs.specs.Parts.{AreParts}
+use Rattle.bmp_specs.proofs.PartsJoined.{parts_snoc}
 use Rattle.bmp_writer.specs.Written.{Appends}
-use Rattle.bmp_writer.proofs.Still.{parts_snoc}
 
 pub range_more : (a n : ℕ) → range_with_len a (n + 1) ≡ range_with_len a n ++ (a + n) ∷ []
 range_more a zero = ap (λ (k : ℕ). k ∷ []) (omega arith)

@@ -7,7 +7,7 @@ use Rattle.bmp_writer.specs.PeerMessage.{IsPeerMessage, first_view, mark_update}
 use Rattle.bmp_writer.specs.PeerUpMessage.{IsUpMessage}
 use Rattle.bmp_writer.specs.Written.{Appends, peer_down_type, route_monitoring_type}
 use Rattle.bmp_writer.specs.WrittenRoutes.{IsRoutesMessage}
-use Rattle.bmp_writer.specs.WrittenUpdate.{no_attrs}
+use Rattle.bmp_specs.specs.TreatAsWithdraw.{no_attributes}
 use Rattle.drill_streams.specs.Drawn.{attrs_of, choice_of, peer_of, prefix_of}
 use Rattle.drill_streams.specs.Messages.{IsMessageOf, IsUp, closed_remotely}
 use Rattle.drill_streams.specs.Peers.{peer_info, peer_key}
@@ -70,7 +70,7 @@ mark_of w is_up key same old new c (bytes, joined, is) = (
   },
 )
 
-pub withdrawal_of : (w : ℕ) (is_up : Bool) (old new : List ℕ) → 2 ≤ choice_of w → choice_of w ≤ 5 → Appends (IsRoutesMessage (peer_key (peer_of w)) InPre (prefix_of w ∷ []) [] no_attrs) old new
+pub withdrawal_of : (w : ℕ) (is_up : Bool) (old new : List ℕ) → 2 ≤ choice_of w → choice_of w ≤ 5 → Appends (IsRoutesMessage (peer_key (peer_of w)) InPre (prefix_of w ∷ []) [] no_attributes) old new
     → Appends (IsMessageOf is_up w) old new
 withdrawal_of w is_up old new low high (bytes, joined, is) = (
   bytes,

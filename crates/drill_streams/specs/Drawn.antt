@@ -3,7 +3,7 @@ use Rattle.std.specs.Prelude.{ℕ, ◌+◌, ◌/◌, ◌%◌, List, [], ◌∷�
 use Rattle.bmp_specs.specs.declared.wire.SegmentKind.TheVariants.{Sequence}
 use Rattle.bmp_specs.specs.Address.{prefix_at}
 use Rattle.bmp_specs.specs.Values.{AttrsValue, NlriValue, SegmentValue}
-use Rattle.bmp_writer.specs.WrittenUpdate.{no_attrs}
+use Rattle.bmp_specs.specs.TreatAsWithdraw.{no_attributes}
 use Rattle.rand_pcg.specs.Lcg.{Lcg, advance, increment_of, started}
 use Rattle.rand_pcg.specs.Pcg.{multiplier_64, pcg32}
 use Rattle.drill_streams.specs.Peers.{peer_as, peer_octets, v4}
@@ -34,7 +34,7 @@ path_of w = record { kind = Sequence; numbers = peer_as (peer_of w) ∷ (65000 +
 
 -- ORIGIN is IGP, AS_PATH such a path, and NEXT_HOP the peer
 abbrev pub attrs_of : ℕ → AttrsValue
-attrs_of w = record no_attrs {
+attrs_of w = record no_attributes {
   origin = Some 0;
   path = Some (path_of w);
   hop = Some (peer_octets (peer_of w));

@@ -7,7 +7,7 @@ use Rattle.bmp_writer.specs.PeerMessage.{IsPeerMessage, mark_update}
 use Rattle.bmp_writer.specs.PeerUpMessage.{IsUpMessage}
 use Rattle.bmp_writer.specs.Written.{IsToldMessage, peer_down_type, route_monitoring_type}
 use Rattle.bmp_writer.specs.WrittenRoutes.{IsRoutesMessage}
-use Rattle.bmp_writer.specs.WrittenUpdate.{no_attrs}
+use Rattle.bmp_specs.specs.TreatAsWithdraw.{no_attributes}
 use Rattle.drill_streams.specs.Drawn.{attrs_of, choice_of, peer_of, prefix_of}
 use Rattle.drill_streams.specs.Peers.{peer_info, peer_key}
 
@@ -34,5 +34,5 @@ pub record IsMessageOf (is_up : Bool) (w : ℕ) (bytes : List ℕ) : Type 0 wher
   pub down : choice_of w ≡ 0 → is_up ≡ true → IsPeerMessage peer_down_type (peer_key (peer_of w)) InPre (closed_remotely ∷ []) bytes
   pub up : choice_of w ≡ 0 → is_up ≡ false → IsUp bytes (peer_of w)
   pub mark : choice_of w ≡ 1 → IsPeerMessage route_monitoring_type (peer_key (peer_of w)) InPre (mark_update V4) bytes
-  pub withdrawal : 2 ≤ choice_of w → choice_of w ≤ 5 → IsRoutesMessage (peer_key (peer_of w)) InPre (prefix_of w ∷ []) [] no_attrs bytes
+  pub withdrawal : 2 ≤ choice_of w → choice_of w ≤ 5 → IsRoutesMessage (peer_key (peer_of w)) InPre (prefix_of w ∷ []) [] no_attributes bytes
   pub announcement : 6 ≤ choice_of w → IsRoutesMessage (peer_key (peer_of w)) InPre [] (prefix_of w ∷ []) (attrs_of w) bytes

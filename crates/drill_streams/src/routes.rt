@@ -3,7 +3,7 @@ ghost use Rattle.std.specs.Prelude.{◌≡◌, [], ◌∷◌, IfOk, OnOk};
 ghost use Rattle.bmp_specs.specs.declared.peers.View.{View};
 ghost use Rattle.bmp_writer.specs.Written.{Appends};
 ghost use Rattle.bmp_writer.specs.WrittenRoutes.{IsRoutesMessage};
-ghost use Rattle.bmp_writer.specs.WrittenUpdate.{no_attrs as nothing};
+ghost use Rattle.bmp_specs.specs.TreatAsWithdraw.{no_attributes as nothing};
 ghost use Rattle.drill_streams.specs.Drawn.{attrs_of as attrs_at, peer_of as peer_at, prefix_of as prefix_at};
 ghost use Rattle.drill_streams.specs.Peers.{peer_key};
 

@@ -6,22 +6,19 @@ use Rattle.std.proofs.lemmas.Bool.{cases_eq}
 use Rattle.std.proofs.lemmas.List.{take_at, drop_at, take-append-drop}
 use Rattle.std.proofs.lemmas.Option.{slice_get-get_or}
 use Rattle.byteorder.specs.Endian.{big_bytes}
-use Rattle.byteorder.specs.Numbers.{length-bytes_high_first}
 use Rattle.bmp_specs.specs.Parts.{AreParts}
+use Rattle.bmp_specs.proofs.PartsJoined.{parts_snoc}
 use Rattle.disk_doors.specs.Images.{IsTorn, padded, overwritten}
 use Rattle.feed_archive.specs.Archive.{IsRecord, IsArchive, joined, most_record, most_archive}
 use Rattle.feed_archive.specs.Recovering.{Holds}
 use Rattle.feed_archive.specs.Appending.{IsBeforeOrAfter}
 use Rattle.feed_archive.proofs.OneContent.{seen_holds}
-use Rattle.feed_archive.proofs.Records.{record_of, is_record, length-record, parts_snoc, joined-snoc}
+use Rattle.feed_archive.proofs.Records.{record_of, is_record, length-record, joined-snoc}
 use Rattle.feed_archive.proofs.Windows.{at_place, torn_front, torn_back, overwritten_is, padded_long}
 
 -- what is written behind the gate
 abbrev pub tail_of : List ℕ → List ℕ
 tail_of piece = big_bytes 4 (length piece) ++ piece ++ 0 ∷ []
-
-pub length-tail : (piece : List ℕ) → length (tail_of piece) ≡ length piece + 5
-length-tail piece = omega (arith, length-append (big_bytes 4 (length piece) ++ piece) (0 ∷ []), length-append (big_bytes 4 (length piece)) piece, length-bytes_high_first 4 (length piece))
 
 -- the record, and the byte 0 behind it
 open_split : (front more piece : List ℕ) → front ++ 1 ∷ (tail_of piece ++ more) ≡ (front ++ record_of piece) ++ 0 ∷ more

@@ -4,17 +4,18 @@ use Rattle.std.proofs.lemmas.Bool.{cases_lt}
 use Rattle.std.proofs.lemmas.List.{get_or-take, get_or-drop, drop-take, drop-drop, take-take, take_at, take_all, drop_all, nil_from_length}
 use Rattle.std.proofs.Math.Seq.{take-add}
 use Rattle.bmp_specs.specs.Parts.{AreParts}
+use Rattle.bmp_specs.proofs.PartsJoined.{parts_snoc}
 use Rattle.feed_archive.specs.Archive.{IsRecord, IsArchive, BreaksRecord, IsDamagedAt, joined, most_archive}
 use Rattle.feed_archive.specs.Recovering.{FaultFits, FaultCause, FaultPlanned, seen}
 use Rattle.disk_doors.specs.Images.{Moment}
-use Rattle.disk_doors.specs.Disk.{DiskValue, ReadsAt, Rests, Lasts}
+use Rattle.disk_doors.specs.Disk.{DiskValue, Rests, Lasts}
 use Rattle.disk_doors.proofs.Passing.{sound_later}
 use Rattle.feed_archive.specs.declared.scanning.Found.{Found}
 use Rattle.feed_archive.specs.Scanning.{WindowValue, IsPart, Covers, rest_of, Finds, FitsEnd, Takes, IsPlain, IsDamage, HasScanned}
 use Rattle.feed_archive.specs.declared.fault.RecoverFault.{RecoverFault}
 use Rattle.feed_archive.specs.declared.fault.RecoverFault.TheVariants.{Failed, Damaged, TooLong, NoMemory}
 use Rattle.feed_archive.specs.declared.scanning.Found.TheVariants.{Record, Closed, Broken}
-use Rattle.feed_archive.proofs.Records.{record_here, stated_front, breaks_nil, breaks_longer, parts_snoc, joined-snoc}
+use Rattle.feed_archive.proofs.Records.{record_here, stated_front, breaks_nil, breaks_longer, joined-snoc}
 use Rattle.feed_archive.proofs.Windows.{at_place}
 use Rattle.feed_archive.proofs.OneContent.{damaged_none}
 
@@ -30,14 +31,6 @@ rest_front file end place k l = ap (λ (x : List ℕ). take k x) (rest_is file e
 -- no bytes are the file's
 pub part_none : (file : List ℕ) (w : WindowValue) → length w.bytes ≡ 0 → IsPart file w
 part_none file w none = nil_from_length w.bytes none ∙ ap (λ (n : ℕ). take n (drop w.place file)) (sym none)
-
--- bytes that were read are
-pub part_read : (old new : DiskValue) (place n : ℕ) (buf : List ℕ) → ReadsAt old new place (Ok n) buf → n ≤ length buf → IsPart new.now.file (record { place = place; bytes = take n buf })
-part_read old new place n buf r l =
-    let size : length (take n buf) ≡ n = omega (arith, length-take n buf, l) in
-    r.bytes
-    ∙ ap (λ (d : DiskValue). take n (drop place d.now.file)) (sym r.next)
-    ∙ ap (λ (k : ℕ). take k (drop place new.now.file)) (sym size)
 
 pub part_before : (a b : DiskValue) (w : WindowValue) → Rests a b → IsPart b.now.file w → IsPart a.now.file w
 part_before a b w r part = subst (λ (m : Moment). IsPart m.file w) r.now part

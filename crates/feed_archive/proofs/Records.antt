@@ -3,7 +3,7 @@ use Rattle.std.proofs.Common.{◌≡◌, inl, inr, ⊎_elim, ℕ, ◌+◌, ◌<�
 use Rattle.std.proofs.lemmas.List.{get_or_append_left, get_or-take, drop_at, drop-take, take-take, take_at}
 use Rattle.byteorder.specs.Endian.{big_bytes}
 use Rattle.byteorder.specs.Numbers.{big_number-reads_back, length-bytes_high_first}
-use Rattle.bmp_specs.specs.Parts.{AreParts, IsCode}
+use Rattle.bmp_specs.specs.Parts.{IsCode}
 use Rattle.bmp_specs.specs.Sequence.{HasFront}
 use Rattle.bmp_specs.specs.Frame.{stated}
 use Rattle.bmp_specs.proofs.FrameCode.{stated-append}
@@ -41,12 +41,6 @@ is_record piece size =
 
 pub length-record : (piece : List ℕ) → length piece ≤ most_record → length (record_of piece) ≡ 5 + length piece
 length-record piece size = sym (is_record piece size).whole
-
--- one more at the end
-pub parts_snoc : {V : Type 0} (Is : List ℕ → V → Type 0) (front part : List ℕ) (vs : List V) (v : V) → AreParts Is front vs → Is part v → AreParts Is (front ++ part) (vs ++ v ∷ [])
-parts_snoc Is front part [] v p q = (part, [], record { joined = rw (p, append-nil part) refl }, q, refl)
-parts_snoc Is front part (w ∷ ws) v (first, rest, split, is, p) q =
-    (first, rest ++ part, record { joined = rw split.joined (append_assoc first rest part) }, is, parts_snoc Is rest part ws v p q)
 
 pub joined-snoc : (pieces : List (List ℕ)) (piece : List ℕ) → joined (pieces ++ piece ∷ []) ≡ joined pieces ++ piece
 joined-snoc [] piece = append-nil piece

@@ -9,7 +9,7 @@ use Rattle.cut_publisher.specs.History.{Fed}
 use Rattle.rib_model.specs.declared.entry.Entry.{Entry}
 use Rattle.station_doors.specs.Doors.{Closes, GivesNext, Opens, opened_one}
 use Rattle.wire_io.specs.Aside.{Aside, fresh}
-use Rattle.feed_worker.specs.Connection.{EndsFresh, IsNew, TakesConnection, BreaksConnection}
+use Rattle.feed_worker.specs.Connection.{EndsFresh, IsNew, TakesConnection}
 use Rattle.feed_worker.specs.Feed.{Concludes, IsBegunOf, IsLifeOf}
 use Rattle.feed_worker.specs.Publishing.{Grows}
 use Rattle.feed_worker.proofs.Growing.{grows_then, grows_count}
@@ -61,6 +61,3 @@ module _ (meaning : Meaning) (a b : Aside) (pass0 pass : Fed Entry) (cause : Cau
     });
     grows = subst (λ (p : Fed Entry). Grows pass0 p (opened ∷ t.messages)) (sym same) t.grows;
   }
-
-pub concludes_broken : (meaning : Meaning) (a b c : Aside) (pass0 pass : Fed Entry) → BreaksConnection meaning a b pass0 pass → Closes b c → Concludes meaning (IsBegunOf meaning) a c pass0 pass
-concludes_broken meaning a b c pass0 pass t shut = record { taken = b; input = t.input; entries = t.entries; takes = t.took; closes = shut; is_of = t.begun; grows = t.grows }

@@ -1,21 +1,15 @@
 -- What a pass publishes, one publication after another.
-use Rattle.std.proofs.Common.{◌≡◌, ◌+◌, List, [], ◌++◌, length, refl, sym, ap, ◌∙◌, subst, append-nil, append_assoc, arith, length-append}
+use Rattle.std.proofs.Common.{◌≡◌, ◌+◌, List, [], ◌++◌, length, refl, sym, ap, ◌∙◌, append-nil, append_assoc, arith, length-append}
 use Rattle.std.proofs.lemmas.List.{map-append, length-map}
 use Rattle.bmp_specs.specs.Values.{EntryValue}
-use Rattle.cut_publisher.specs.History.{Fed, Saw}
-use Rattle.cut_publisher.specs.Publication.{Published}
+use Rattle.cut_publisher.specs.History.{Fed}
 use Rattle.cut_publisher.proofs.Prefixes.{begins_self, begins_trans}
 use Rattle.rib_model.specs.declared.entry.Entry.{Entry}
 use Rattle.rib_model.specs.Entries.{entry_value, entry_values}
-use Rattle.router_tables.specs.Tables.{StandsFor, TablesValue}
 use Rattle.feed_worker.specs.Publishing.{Grows}
 
 pub grows_none : (a : Fed Entry) → Grows a a []
 grows_none a = record { station = refl; lane = refl; made = []; values_are = refl; entries = sym (append-nil a.entries); seen = begins_self a.seen; unmarked = λ u. u }
-
--- nothing is published where there are no entries
-pub grows_empty : (a : Fed Entry) (entries : List Entry) → entries ≡ [] → Grows a a (entry_values entries)
-grows_empty a entries none = subst (λ (es : List Entry). Grows a a (entry_values es)) (sym none) (grows_none a)
 
 pub grows_then : (a b c : Fed Entry) (xs ys : List EntryValue) → Grows a b xs → Grows b c ys → Grows a c (xs ++ ys)
 grows_then a b c xs ys p q = record {
@@ -27,22 +21,6 @@ grows_then a b c xs ys p q = record {
   seen = begins_trans a.seen b.seen c.seen p.seen q.seen;
   unmarked = λ u. q.unmarked (p.unmarked u);
 }
-
--- a publication
-pub grows_published : (old new : Fed Entry) (entries : List Entry) (note : Saw Entry) → Published old entries new note → Grows old new (entry_values entries)
-grows_published old new entries note p = record {
-  station = p.station;
-  lane = p.lane;
-  made = entries;
-  values_are = refl;
-  entries = p.entries;
-  seen = begins_trans old.seen p.before new.seen p.earlier (record { rest = _; is = sym p.last });
-  unmarked = λ _. p.unmarked;
-}
-
--- the tables that entries leave
-pub stands_with : (tables : TablesValue) (before entries : List Entry) → StandsFor tables (entry_values before ++ entry_values entries) → StandsFor tables (entry_values (before ++ entries))
-stands_with tables before entries s = subst (λ (l : List EntryValue). StandsFor tables l) (sym (map-append entry_value before entries)) s
 
 -- the values of what a pass published
 pub grows_values : (old new : Fed Entry) (values : List EntryValue) → Grows old new values → entry_values new.entries ≡ entry_values old.entries ++ values

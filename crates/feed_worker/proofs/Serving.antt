@@ -8,7 +8,7 @@ use Rattle.cut_publisher.specs.History.{Fed}
 use Rattle.rib_model.specs.declared.entry.Entry.{Entry}
 use Rattle.station_doors.specs.Doors.{Opens, opened_one}
 use Rattle.wire_io.specs.Aside.{Aside}
-use Rattle.feed_worker.specs.Feed.{Connection, Concludes, IsBegunOf, IsLifeOf, FewRoundsFit, HaveRoom, Refuses, Serves, ServesAll, ServesSome, Stops, Visits, most_entries, lives_of}
+use Rattle.feed_worker.specs.Feed.{Connection, Concludes, IsBegunOf, IsLifeOf, FewRoundsFit, HaveRoom, Refuses, Serves, ServesSome, Stops, Visits, most_entries, lives_of}
 use Rattle.feed_worker.specs.Publishing.{Grows}
 use Rattle.feed_worker.proofs.Growing.{grows_none, grows_then, grows_count}
 use Rattle.feed_worker.proofs.Lengths.{few_messages}
@@ -46,17 +46,6 @@ few_lives meaning [] a b s = omega arith
 few_lives meaning (c ∷ cs) a b (visit, life, rest) = omega (arith, few_entries meaning c life, few_lives meaning cs c.closed b rest, length-append c.life (lives_of cs))
 
 module _ (meaning : Meaning) (a b : Aside) (pass0 pass : Fed Entry) (n : ℕ) (s : ServesSoMany meaning a b pass0 pass n) where
-  -- no further one was opened
-  pub serves_fewer : (c : Aside) (rounds : ℕ) → n < rounds → Stops b c pass → ServesAll meaning rounds a c pass0 pass
-  serves_fewer c rounds few stops =
-      let test : nat_lt (length s.connections) rounds ≡ true = grind (arith, nat_tests, s.count_is) in
-      record { connections = s.connections; after = b; serves = s.serves; room = s.room; grows = s.grows; stop = rw test stops }
-
-  pub serves_as_many : (rounds : ℕ) → n ≡ rounds → ServesAll meaning rounds a b pass0 pass
-  serves_as_many rounds all =
-      let test : nat_lt (length s.connections) rounds ≡ false = grind (arith, nat_tests, s.count_is) in
-      record { connections = s.connections; after = b; serves = s.serves; room = s.room; grows = s.grows; stop = rw test (sym s.count_is ∙ all, refl) }
-
   -- the pass has no more than may begin a round
   room_more : (one : Connection) → length pass.entries ≤ most_entries → HaveRoom (length pass0.entries) (s.connections ++ one ∷ [])
   room_more one fits = room_push (length pass0.entries) s.connections one s.room (omega (arith, fits, grows_count pass0 pass (lives_of s.connections) s.grows))

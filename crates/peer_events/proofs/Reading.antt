@@ -52,9 +52,6 @@ pub record HasLast (kind : ℕ) (bytes rest : List ℕ) (found : Option (List �
   pub read : HasRead IsTlv bytes ts rest
   pub is : found ≡ last_value kind ts
 
-pub last_first : (kind : ℕ) (bytes : List ℕ) → HasLast kind bytes bytes None
-last_first kind bytes = record { ts = []; read = HasRead-nil IsTlv bytes; is = refl }
-
 pub last_more : (kind : ℕ) (bytes rest after : List ℕ) (found next : Option (List ℕ)) (t : TlvValue) → HasLast kind bytes rest found → HasFront IsTlv rest t after
     → next ≡ (if t.kind == kind then Some t.value else found) → HasLast kind bytes after next
 last_more kind bytes rest after found next t p here e = record {
@@ -105,9 +102,6 @@ pub record HasStats (bytes rest : List ℕ) (first now : List StatValue) (unread
   pub unread_is : unread ≡ count_by (λ t. is_none (statistic_of t)) ts
   pub within : unread + length rest ≤ length bytes
 
-pub stats_first : (bytes : List ℕ) (first : List StatValue) → HasStats bytes bytes first first 0
-stats_first bytes first = record { ts = []; read = HasRead-nil IsTlv bytes; stats_are = sym (append-nil first); unread_is = refl; within = omega arith }
-
 abbrev pub one_if : Bool → ℕ
 one_if b = cond b 1 0
 
@@ -157,9 +151,6 @@ pub record HasLength (bytes rest : List ℕ) (count : ℕ) : Type 0 where
   pub read : HasRead IsTlv bytes ts rest
   pub is : count ≡ length ts
   pub within : count + length rest ≤ length bytes
-
-pub length_first : (bytes : List ℕ) → HasLength bytes bytes 0
-length_first bytes = record { ts = []; read = HasRead-nil IsTlv bytes; is = refl; within = omega arith }
 
 pub length_more : (bytes rest after : List ℕ) (count : ℕ) (t : TlvValue) → HasLength bytes rest count → HasFront IsTlv rest t after → length after < length rest → HasLength bytes after (count + 1)
 length_more bytes rest after count t p here shorter = record {

@@ -40,11 +40,6 @@ module _ {A B : Type 0} (f : A → B) where
   map_insert [] (suc i) x = refl
   map_insert (y ∷ xs) (suc i) x = ap (λ (l : List B). f y ∷ l) (map_insert xs i x)
 
-  pub contains_map : (xs : List A) (i : ℕ) (d : A) → i < length xs → Contains (map f xs) (f (get_or xs i d))
-  contains_map [] i d within = absurd (omega arith)
-  contains_map (x ∷ xs) zero d within = contains_first (f x) (map f xs)
-  contains_map (x ∷ xs) (suc i) d within = contains_later (f x) (map f xs) (f (get_or xs i d)) (contains_map xs i d (omega arith))
-
 module _ {X : Type 0} where
   pub get_past : (xs : List X) (i : ℕ) → length xs ≤ i → slice_get xs i ≡ None
   get_past [] i past = refl

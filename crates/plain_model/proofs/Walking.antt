@@ -1,6 +1,6 @@
 -- A walk that has come so far, and one message more of it. The bytes of a message are the first ones of the rest, and its
 -- body is what stands there after the common header.
-use Rattle.std.proofs.Common.{◌≡◌, ℕ, ◌+◌, ◌-◌, ◌≤◌, true, false, List, [], ◌∷◌, ◌++◌, length, take, drop, refl, sym, ◌∙◌, ap, subst, append_assoc, arith, eqb, length-append, length-take}
+use Rattle.std.proofs.Common.{◌≡◌, ℕ, ◌+◌, ◌-◌, ◌≤◌, true, false, List, [], ◌∷◌, ◌++◌, length, take, drop, sym, ◌∙◌, ap, subst, append_assoc, arith, eqb, length-append, length-take}
 use Rattle.std.proofs.lemmas.List.{take-append-drop, drop-take, take_rest}
 use Rattle.bmp_specs.specs.declared.causes.Why.{Why}
 use Rattle.bmp_specs.specs.declared.causes.Why.TheVariants.{Version, Length, Body}
@@ -8,7 +8,7 @@ use Rattle.bmp_specs.specs.Frame.{IsFrame}
 use Rattle.bmp_specs.specs.Walk.{Verdict, terminated, broken, Stops, Walks, HasWalked, termination}
 use Rattle.plain_model.specs.declared.stream.AtFront.TheVariants.{Bad}
 use Rattle.plain_model.specs.Front.{IsAtFront}
-use Rattle.bmp_specs.proofs.WalkRead.{HasWalked-nil, HasWalked-more, HasWalked-stops, HasWalked-terminates}
+use Rattle.bmp_specs.proofs.WalkRead.{HasWalked-more, HasWalked-stops, HasWalked-terminates}
 
 -- the bytes before the rest are messages that mean these, and end at this offset
 pub record Walking {S M : Type 0} (Is : S → ℕ → List ℕ → M → S → Type 0) (start state : S) (bytes rest : List ℕ) (messages : List M) (offset : ℕ) : Type 0 where
@@ -31,9 +31,6 @@ body_is rest size kind first =
     ap (λ (n : ℕ). drop 6 (take n rest)) whole ∙ drop-take 6 (size - 6) rest
 
 module _ {S M : Type 0} (Is : S → ℕ → List ℕ → M → S → Type 0) where
-  pub walking_start : (s : S) (bytes : List ℕ) → Walking Is s s bytes bytes [] 0
-  walking_start s bytes = record { given = []; split = refl; walked = HasWalked-nil Is s; place = refl }
-
   means_there : (state next : S) (rest : List ℕ) (size kind : ℕ) (m : M) → IsFirst rest size kind → Is state kind (body_in rest size) m next → Is state kind (drop 6 (take size rest)) m next
   means_there state next rest size kind m first means = subst (λ (b : List ℕ). Is state kind b m next) (sym (body_is rest size kind first)) means
 

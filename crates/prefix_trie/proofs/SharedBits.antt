@@ -1,5 +1,5 @@
 -- How many first bits two lists of bytes share, byte by byte.
-use Rattle.std.proofs.Common.{◌≡◌, ◌≢◌, ℕ, suc, ◌+◌, ◌-◌, ◌*◌, ◌/◌, ◌^◌, ◌<◌, ◌≤◌, length, get_or, drop, List, [], ◌∷◌, refl, ap, sym, ◌∙◌, subst, inl, inr, arith, length-drop}
+use Rattle.std.proofs.Common.{◌≡◌, ◌≢◌, ℕ, suc, ◌+◌, ◌-◌, ◌*◌, ◌/◌, ◌^◌, ◌<◌, ◌≤◌, length, get_or, drop, List, ◌∷◌, ap, sym, ◌∙◌, subst, inl, inr, arith, length-drop}
 use Rattle.std.specs.Int.Bits.{bit_xor, xor_add_and, xor_self}
 use Rattle.std.specs.Int.Count.{count_leading_zeros, leading_of_zero}
 use Rattle.std.proofs.lemmas.Bool.{cases_lt}
@@ -9,9 +9,6 @@ use Rattle.std.proofs.lemmas.List.{drop_more, get_or-drop}
 use Rattle.bmp_specs.specs.Prefix.{high_bits, first_bits}
 use Rattle.prefix_trie.specs.Agreement.{AgreesFor}
 use Rattle.bmp_specs.proofs.FirstBits.{AreBytes, whole_part, no_first}
-
-pub agrees_end : AgreesFor [] [] 0
-agrees_end = record { within = omega arith; agree = refl; most = λ m h e. h }
 
 heads : (x y : ℕ) (xs ys : List ℕ) → x ∷ xs ≡ y ∷ ys → x ≡ y
 heads x y xs ys e = ap (λ (l : List ℕ). get_or l 0 0) e

@@ -11,7 +11,6 @@ pub mod StatsTold
 pub mod RoutersTold
 pub mod RowCursor
 pub mod RowDeciding
-pub mod RowWalk
 pub mod RowLines
 pub mod RowLists
 pub mod RowMembers

@@ -4,12 +4,12 @@ use Rattle.std.specs.Prelude.{IfSome, IfNone}
 use Rattle.bmp_specs.specs.NumberText.{IsNumberText, IsStepText}
 use Rattle.bmp_specs.specs.PeerText.{IsKeyText}
 use Rattle.bmp_specs.specs.PrefixText.{IsPrefixText}
-use Rattle.bmp_specs.specs.Query.{QueryValue, routers, cut, peers, marks, table, count, exact, longest, within, origin, stats, changes, quit, AreQueryWords, IsSought, IsSelection, IsPeersQuery, IsStatsQuery, IsChangesQuery, ArePeerSelectors, AreSelectors}
+use Rattle.bmp_specs.specs.Query.{QueryValue, routers, cut, peers, marks, table, count, stats, changes, quit, AreQueryWords, IsSought, IsSelection, IsPeersQuery, IsStatsQuery, IsChangesQuery, ArePeerSelectors, AreSelectors}
 use Rattle.bmp_specs.specs.Selection.{SelectValue}
-use Rattle.bmp_specs.specs.Values.{AddressValue, KeyValue, PrefixValue}
+use Rattle.bmp_specs.specs.Values.{KeyValue, PrefixValue}
 use Rattle.query_lang.specs.Verbs.{verb_of, verb_text}
 use Rattle.query_lang.specs.declared.verb.Verb.{Verb}
-use Rattle.query_lang.specs.declared.verb.Verb.TheVariants.{Routers, Cut, Peers, Marks, Table, Count, Prefix, Match, Within, Origin, Stats, Changes, Quit}
+use Rattle.query_lang.specs.declared.verb.Verb.TheVariants.{Routers, Cut, Peers, Marks, Table, Count, Quit}
 use Rattle.query_lang.proofs.VerbLaws.{same_verb}
 
 -- a text and selectors behind a word
@@ -120,30 +120,6 @@ as_table q e = absurd cc
 pub as_count : (q : QueryValue) → Count ≡ verb_of q → (a : SelectValue) × (q ≡ count a)
 as_count (count a) e = (a, refl)
 as_count q e = absurd cc
-
-pub as_exact : (q : QueryValue) → Prefix ≡ verb_of q → (a : PrefixValue × SelectValue) × (q ≡ exact a.0 a.1)
-as_exact (exact a b) e = ((a, b), refl)
-as_exact q e = absurd cc
-
-pub as_longest : (q : QueryValue) → Match ≡ verb_of q → (a : AddressValue × SelectValue) × (q ≡ longest a.0 a.1)
-as_longest (longest a b) e = ((a, b), refl)
-as_longest q e = absurd cc
-
-pub as_within : (q : QueryValue) → Within ≡ verb_of q → (a : PrefixValue × SelectValue) × (q ≡ within a.0 a.1)
-as_within (within a b) e = ((a, b), refl)
-as_within q e = absurd cc
-
-pub as_origin : (q : QueryValue) → Origin ≡ verb_of q → (a : ℕ × SelectValue) × (q ≡ origin a.0 a.1)
-as_origin (origin a b) e = ((a, b), refl)
-as_origin q e = absurd cc
-
-pub as_stats : (q : QueryValue) → Stats ≡ verb_of q → (a : KeyValue) × (q ≡ stats a)
-as_stats (stats a) e = (a, refl)
-as_stats q e = absurd cc
-
-pub as_changes : (q : QueryValue) → Changes ≡ verb_of q → (a : ℕ × ℕ × PrefixValue) × (q ≡ changes a.0 a.1 a.2)
-as_changes (changes a b d) e = ((a, b, d), refl)
-as_changes q e = absurd cc
 
 pub as_quit : (q : QueryValue) → Quit ≡ verb_of q → (a : Unit {0}) × (q ≡ quit)
 as_quit quit e = (tt, refl)

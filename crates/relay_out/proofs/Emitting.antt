@@ -1,18 +1,16 @@
 -- What was written relays the session.
-use Rattle.std.proofs.Common.{◌≡◌, ℕ, List, [], ◌∷◌, ◌++◌, Option, Result, Ok, Err, OnOk, IfErr, IsErrAnd, inl, inr, refl, sym, ap, ◌∙◌, subst, append_assoc, append-nil}
+use Rattle.std.proofs.Common.{◌≡◌, ℕ, List, [], ◌∷◌, ◌++◌, Option, Result, Ok, Err, IsErrAnd, inl, inr, refl, sym, ap, ◌∙◌, subst, append_assoc}
 use Rattle.std.specs.List.{AllByRecursion}
-use Rattle.bmp_specs.specs.Parts.{AreParts}
 use Rattle.bmp_specs.specs.Values.{EffectValue}
 use Rattle.wire_io.specs.Aside.{Aside}
 use Rattle.wire_io.proofs.Joins.{appends_none}
 use Rattle.relay_out.specs.declared.fault.EmitFault.{EmitFault}
 use Rattle.relay_out.specs.declared.fault.EmitFault.TheVariants.{Failed, Unwritable, NoMemory}
-use Rattle.relay_out.specs.Handed.{Hands}
 use Rattle.relay_out.specs.Judging.{Refuses}
-use Rattle.relay_out.specs.Messages.{IsItem, IsRelayStream, ItemValue, stream_items}
+use Rattle.relay_out.specs.Messages.{IsRelayStream, ItemValue, stream_items}
 use Rattle.relay_out.specs.Told.{IsTold, StreamValue}
 use Rattle.relay_out.specs.Writable.{IsWritable}
-use Rattle.relay_out.specs.Writing.{Emits, IsCounted, HasBegun, HasWritten, IsFront, IsStopped, Relays, WriterValue, WritesAll}
+use Rattle.relay_out.specs.Writing.{Emits, IsCounted, HasBegun, HasWritten, IsFront, Relays}
 use Rattle.relay_out.proofs.Members.{all_parts}
 use Rattle.relay_out.proofs.RelayLaw.{all_writable, are_writable, reads_back}
 
@@ -36,36 +34,8 @@ module _ {O : Type 0} (faults : O → ℕ) (told : O → Option (List ℕ)) (asi
   nothing_begun : (a : O) (items : List ItemValue) → HasBegun faults told aside a a items
   nothing_begun a items = record { written = []; front = record { first = []; rest = items; split = refl; back = []; are = refl }; grown = appends_none (told a); kept = refl }
 
-  -- the messages were handed to a writer, and what it held back was written
-  pub hands_written : (items : List ItemValue) (old mid new : WriterValue O) (r : Result (Unit {0}) EmitFault) (u : Unit {0})
-      → Hands (λ (x : WriterValue O). x.first) (HasWritten faults told aside) (λ x xs fault. IsStopped faults told aside x.first x.below xs fault) items old (Ok u) mid
-      → OnOk r ((xs : List ItemValue) → HasWritten faults told aside mid xs → HasWritten faults told aside new xs) → OnOk r (new.held ≡ [])
-      → IfErr r (λ fault. (xs : List ItemValue) → HasWritten faults told aside mid xs → IsStopped faults told aside new.first new.below xs fault) → WritesAll faults told aside items old r new
-  hands_written items old mid new (Ok v) u h ok empty err = λ has. (ok items (h.ok [] has), empty)
-  hands_written items old mid new (Err e) u h ok empty err = λ has. (items, [], sym (append-nil items), err items (h.ok [] has))
-
-  pub hands_stopped : (items : List ItemValue) (old new : WriterValue O) (d : EmitFault) (r : Result (Unit {0}) EmitFault)
-      → Hands (λ (x : WriterValue O). x.first) (HasWritten faults told aside) (λ x xs fault. IsStopped faults told aside x.first x.below xs fault) items old (Err d) new → IsErrAnd r (λ f. f ≡ d) → WritesAll faults told aside items old r new
-  hands_stopped items old new d (Ok v) h is = absurd is
-  hands_stopped items old new d (Err e) h is = λ has. let s = h.err [] has in (s.first, s.rest, s.split, subst (λ (f : EmitFault). IsStopped faults told aside new.first new.below s.first f) (sym is) s.is)
-
   fresh : (out : O) → HasWritten faults told aside (record { first = out; below = out; held = [] }) []
   fresh out = record { written = []; are = refl; grown = appends_none (told out); kept = refl; calm = refl }
-
-  -- the writer is let go
-  pub emits : (items : List ItemValue) (out : O) (begun done : WriterValue O) (r : Result (Unit {0}) EmitFault) → begun ≡ record { first = out; below = out; held = [] } → done.first ≡ begun.first → WritesAll faults told aside items begun r done
-      → Emits faults told aside items out r done.below
-  emits items out begun done r new kept writes =
-      let first : done.first ≡ out = kept ∙ ap (λ (w : WriterValue O). w.first) new in
-      let has : HasWritten faults told aside begun [] = subst (λ (w : WriterValue O). HasWritten faults told aside w []) (sym new) (fresh out) in
-      subst (λ (o : O). Emits faults told aside items o r done.below) first (go r writes has)
-    where
-      go : (r : Result (Unit {0}) EmitFault) → WritesAll faults told aside items begun r done → HasWritten faults told aside begun [] → Emits faults told aside items done.first r done.below
-      go (Ok v) w has =
-          let (h, none) = w has in
-          let all : h.written ++ done.held ≡ h.written = ap (λ (l : List ℕ). h.written ++ l) none ∙ append-nil h.written in
-          (h.written, subst (λ (l : List ℕ). AreParts IsItem l items) all h.are, h.grown, h.kept, h.calm)
-      go (Err e) w has = w has
 
   -- whoever judges may be handed anything
   pub any_may : (xs : List ItemValue) → AllByRecursion (λ item. Unit {0}) xs

@@ -18,7 +18,7 @@ use Rattle.bmp_writer.specs.PeerMessage.{IsHeaderOf, IsPeerMessage, address_byte
 use Rattle.bmp_writer.specs.PeerUpMessage.{IsUpHeader, up_flags}
 use Rattle.bmp_writer.specs.WrittenAttributes.{Joined}
 use Rattle.bmp_writer.proofs.Frames.{frame_length}
-use Rattle.relay_out.specs.Octets.{AreOctets}
+use Rattle.bmp_specs.specs.Octets.{AreOctets}
 use Rattle.relay_out.proofs.Members.{all_parts}
 
 -- two lists of octets that are so are one

@@ -33,7 +33,7 @@ use Rattle.bmp_writer.specs.WrittenAttributes.{AreMulti, AreOthers, AreSomeCommu
 use Rattle.bmp_writer.specs.WrittenNlri.{AreOwnNlri, IsOwnNlri, id_size, prefix_bytes}
 use Rattle.bmp_writer.specs.WrittenRoutes.{IsRoutesMessage, family_of}
 use Rattle.bmp_writer.specs.WrittenUpdate.{IsField as IsAttributeField, IsUpdateOf, PlacesValue, counted, places}
-use Rattle.relay_out.specs.Octets.{AreOctets}
+use Rattle.bmp_specs.specs.Octets.{AreOctets}
 use Rattle.relay_out.proofs.OneForm.{IsOne, behind, body_octets, field_one, frame_one, joined_one, message_one, number_at, number_one, octets_at, octets_of, parts_one, peer_message_one, tlvs_one, up_header_one}
 
 -- ---- path attributes

@@ -15,7 +15,7 @@ use Rattle.bmp_specs.proofs.OrderLaws.{family_total, key_total, view_total}
 use Rattle.bmp_writer.specs.PeerMessage.{mark_update}
 use Rattle.bmp_writer.specs.Written.{route_monitoring_type}
 use Rattle.relay_out.specs.Messages.{IsItem, IsRelayStream, ItemValue, announces, brings_up, completes, stream_items, tells}
-use Rattle.relay_out.specs.Octets.{AreOctets}
+use Rattle.bmp_specs.specs.Octets.{AreOctets}
 use Rattle.relay_out.specs.Told.{IsPeerTold, IsTold, PeerToldValue, PlaceValue, StreamValue, place_cmp, up_told}
 use Rattle.relay_out.proofs.OneForm.{IsOne, parts_one, peer_message_one}
 use Rattle.relay_out.proofs.OneMessage.{routes_one, told_one, up_one}

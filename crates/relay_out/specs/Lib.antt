@@ -7,4 +7,3 @@ pub mod Items
 pub mod Handed
 pub mod Judging
 pub mod Writing
-pub mod Octets

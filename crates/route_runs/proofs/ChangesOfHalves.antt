@@ -1,11 +1,11 @@
 -- Changes of both families: each half with those of its own family, and both halves together.
-use Rattle.std.proofs.Common.{◌≡◌, ◌++◌, ◌⊎◌, inl, inr, ℕ, ◌+◌, ◌<◌, Bool, true, false, cond, List, [], ◌∷◌, length, get_or, map, take, Option, refl, ap, sym, ◌∙◌, subst, arith}
+use Rattle.std.proofs.Common.{◌≡◌, ◌++◌, ◌⊎◌, inl, inr, ℕ, ◌+◌, ◌<◌, Bool, true, false, cond, List, [], ◌∷◌, length, get_or, take, Option, refl, ap, sym, ◌∙◌, subst, arith}
 use Rattle.std.specs.declared.cmp.Ordering.{Ordering}
 use Rattle.std.specs.List.{All, Contains, filter}
 use Rattle.std.specs.List.Sorted.{IsStrictlySortedBy}
 use Rattle.std.specs.Map.{keys_of}
 use Rattle.std.proofs.lemmas.Bool.{false≢true, cond_both}
-use Rattle.std.proofs.lemmas.List.{append-nil, append_assoc, map-append}
+use Rattle.std.proofs.lemmas.List.{append-nil}
 use Rattle.std.proofs.lemmas.List.Elements.{filter_more}
 use Rattle.bmp_specs.specs.declared.wire.Family.{Family}
 use Rattle.bmp_specs.specs.declared.wire.Family.TheVariants.{V4, V6}
@@ -105,17 +105,6 @@ module _ (f : Family) (ns : List NlriValue) (n : ℕ) (x : NlriValue) (within : 
 
   pub none_more : is_family f x ≡ false → of_family f (take n ns) ≡ [] → of_family f (take (n + 1) ns) ≡ []
   none_more e so_far = family_more false e ∙ append-nil (of_family f (take n ns)) ∙ so_far
-
-  module _ (h : ℕ) (first rows : List (NlriValue × ℕ)) (so_far : rows ≡ first ++ map (λ (k : NlriValue). (k, h)) (of_family f (take n ns))) where
-    pub rows_with : x.prefix.address.family ≡ f → (next : List (NlriValue × ℕ)) → next ≡ rows ++ (x, h) ∷ [] → next ≡ first ++ map (λ (k : NlriValue). (k, h)) (of_family f (take (n + 1) ns))
-    rows_with e next more =
-        let pair : NlriValue → NlriValue × ℕ = λ k. (k, h) in
-        let front = of_family f (take n ns) in
-        more ∙ ap (λ l. l ++ (x, h) ∷ []) so_far ∙ append_assoc first (map pair front) ((x, h) ∷ [])
-        ∙ ap (λ l. first ++ l) (sym (ap (map pair) (family_more true (same_true x.prefix.address.family f e)) ∙ map-append pair front (x ∷ [])))
-
-    pub rows_without : is_family f x ≡ false → rows ≡ first ++ map (λ (k : NlriValue). (k, h)) (of_family f (take (n + 1) ns))
-    rows_without e = so_far ∙ ap (λ l. first ++ map (λ (k : NlriValue). (k, h)) l) (sym (family_more false e ∙ append-nil (of_family f (take n ns))))
 
 -- ---- one half
 pub none_changed : {K A : Type 0} (cmp : K → K → Ordering) (keys : List K) (to : Option A) (old : List (K × Option A)) → keys ≡ [] → IsStrictlySortedBy cmp (keys_of old) → AreChangedTo cmp keys to old old

@@ -1,5 +1,5 @@
 -- Changes and tables have NLRI alone.
-use Rattle.std.proofs.Common.{◌≡◌, ℕ, ◌+◌, ◌<◌, true, ◌⊎◌, inl, inr, List, [], length, get_or, Option, None, Some, refl, ap, sym, ◌∙◌, subst, arith}
+use Rattle.std.proofs.Common.{◌≡◌, ℕ, ◌+◌, ◌<◌, true, ◌⊎◌, inl, inr, List, length, get_or, Option, None, Some, refl, ap, sym, ◌∙◌, subst, arith}
 use Rattle.std.specs.List.{Contains}
 use Rattle.std.specs.Option.{is_some}
 use Rattle.std.proofs.lemmas.Bool.{cases_lt}
@@ -8,7 +8,7 @@ use Rattle.bmp_specs.specs.Orders.{nlri_cmp}
 use Rattle.bmp_specs.specs.Values.{NlriValue}
 use Rattle.route_runs.specs.Layers.{IsLayered}
 use Rattle.route_runs.specs.Message.{IsAllSet}
-use Rattle.route_runs.specs.Nlri.{AreNlri, AreKeys}
+use Rattle.route_runs.specs.Nlri.{AreKeys}
 use Rattle.route_runs.specs.Override.{value_at, or_else}
 use Rattle.route_runs.specs.Runs.{changed, IsChanged}
 
@@ -18,9 +18,6 @@ one_more P list n x within is here so_far k d lt = elim (cases_lt k n) [
   | inl less ↦ so_far k d less
   | inr more ↦ let same : k ≡ n = omega (arith, lt, more) in subst P (is ∙ get_or_default list n x d within ∙ ap (λ k. get_or list k d) (sym same)) here
 ]
-
-pub nlri_none : {X : Type 0} (es : List (NlriValue × X)) → es ≡ [] → AreNlri es
-nlri_none es e q has = let clash = ap (λ l. is_some (value_at nlri_cmp q l)) (sym e) ∙ has in absurd cc
 
 one_of_both : {X : Type 0} (a b : Option X) → is_some (or_else a b) ≡ true → (is_some a ≡ true) ⊎ (is_some b ≡ true)
 one_of_both None b e = inr e

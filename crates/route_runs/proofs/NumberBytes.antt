@@ -9,7 +9,6 @@ use Rattle.bmp_specs.specs.Address.{FitsFamily, IsAddressPrefix, prefix_at}
 use Rattle.bmp_specs.specs.Prefix.{first_bits, padded, width_of}
 use Rattle.bmp_specs.specs.Values.{AddressValue, PrefixValue, NlriValue}
 use Rattle.bmp_specs.proofs.FirstBits.{AreBytes}
-use Rattle.route_runs.specs.Nlri.{IsNlri}
 use Rattle.route_runs.specs.NumberKeys.{octets4, octets6, mark_of, id_of, id_at, bits_of, nlri_of, IsKey}
 
 bytes_take : (n : ℕ) (xs : List ℕ) → AreBytes xs → AreBytes (take n xs)
@@ -95,14 +94,6 @@ nlri_back a family octets bits id p own is same clear whole mark =
     let rest = ap (first_bits (bits / 2)) same ∙ clear in
     let prefix : p ≡ record { address = record { family = family; octets = octets }; bits = bits / 2 } = whole ∙ (λ i. record { address = record { family = is i; octets = rest i }; bits = bits / 2 }) in
     λ i. record { prefix = prefix i; id = mark i }
-
--- the numbers stand for an NLRI
-pub nlri_kept : (family : Family) (octets : List ℕ) (bits id : ℕ) → IsAddressPrefix (nlri_of family octets bits id).prefix → id < 4294967296 → IsNlri (nlri_of family octets bits id)
-nlri_kept family octets bits id prefix fits = record { prefix = prefix; id = few (bits % 2) }
-  where
-    few : (r i : ℕ) → id_at r id ≡ Some i → i < 4294967296
-    few zero i e = absurd cc
-    few (suc r) i e = let same : id ≡ i = cc in omega arith
 
 few_bits : (family : Family) (bits : ℕ) → bits ≤ width_of family → bits < 256
 few_bits V4 bits l = omega (arith, l)

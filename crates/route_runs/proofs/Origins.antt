@@ -15,11 +15,6 @@ use Rattle.route_runs.specs.Runs.{seen, changed, IsChanged}
 use Rattle.route_runs.proofs.Searching.{bools, not_both, itself, less_is, tie, turned_is, fewer, after_trans}
 use Rattle.std.proofs.lemmas.Cmp.{nat_cmp_total}
 
-still_less : (o a b : Ordering) → (o ≡ Equal → ⊥) → is_lt (ordering_then o a) ≡ true → is_lt (ordering_then o b) ≡ true
-still_less Less a b h e = refl
-still_less Equal a b h e = absurd (h refl)
-still_less Greater a b h e = absurd cc
-
 some_of : {A : Type 0} (origin : A → Option ℕ) (asn : ℕ) (o : Option A) → is_some (of_origin origin asn o) ≡ true → is_some o ≡ true
 some_of origin asn None h = h
 some_of origin asn (Some x) h = refl

@@ -1,9 +1,9 @@
 -- New handles for the same sets.
-use Rattle.std.proofs.Common.{◌≡◌, ℕ, zero, suc, ◌+◌, ◌*◌, ◌/◌, ◌%◌, ◌<◌, inl, inr, false, nat_eq, if◌then◌else◌, List, [], ◌∷◌, ◌++◌, length, get_or, map, Option, None, Some, refl, ap, sym, ◌∙◌, subst, length-append, arith}
+use Rattle.std.proofs.Common.{◌≡◌, ℕ, zero, suc, ◌+◌, ◌*◌, ◌/◌, ◌%◌, ◌<◌, inl, inr, false, nat_eq, if◌then◌else◌, List, [], ◌∷◌, ◌++◌, length, get_or, map, None, Some, refl, ap, sym, ◌∙◌, subst, length-append, arith}
 use Rattle.std.specs.List.{AllByRecursion, slice_get}
 use Rattle.std.proofs.lemmas.Bool.{cases_lt}
 use Rattle.std.proofs.lemmas.Bool.Decides.{nat_tests}
-use Rattle.std.proofs.lemmas.List.{get_or_append_left, get_or_at, map-append, length-map}
+use Rattle.std.proofs.lemmas.List.{get_or_append_left, get_or_at, map-append}
 use Rattle.std.proofs.lemmas.Nat.{div-mul-add, mod-mul-add}
 use Rattle.route_runs.specs.Rows.{gone, set_at, rows, NamesSet, IsHandle}
 use Rattle.route_runs.specs.Gathering.{Keeps, Adds, IsRenamed}
@@ -67,12 +67,6 @@ module _ {A : Type 0} (packs : List (List A)) (now : List A) (x : A) where
         names = ap (λ b. if b then None else slice_get (get_or (packs ++ (now ++ x ∷ []) ∷ []) (h / 4096) []) (h % 4096)) there ∙ ap (λ p. slice_get p (h % 4096)) at ∙ ap (slice_get (now ++ x ∷ [])) m ∙ get_last now x;
       }
 
-pub adds_after : {A : Type 0} (a b c : List (List A)) (s : Option A) (h : ℕ) → Keeps a b → Adds b c s h → Adds a c s h
-adds_after a b c s h k d = record { keeps = keeps_then a b c k d.keeps; handle = d.handle; names = d.names }
-
-pub adds_gone : {A : Type 0} (a : List (List A)) (s : Option A) → s ≡ None → Adds a a s gone
-adds_gone a s e = record { keeps = keeps_same a; handle = inl refl; names = set_gone a gone refl ∙ sym e }
-
 -- ---- lists of handles
 all_kept : {A : Type 0} (a b : List (List A)) (vs : List ℕ) → Keeps a b → AllByRecursion (IsHandle a) vs → AllByRecursion (IsHandle b) vs
 all_kept a b [] k h = tt
@@ -86,17 +80,11 @@ all_snoc : (P : ℕ → Type 0) (vs : List ℕ) (v : ℕ) → AllByRecursion P v
 all_snoc P [] v a p = (p, tt)
 all_snoc P (w ∷ vs) v a p = (a.0, all_snoc P vs v a.1 p)
 
-pub renamed_none : {A : Type 0} (old new : List (List A)) → IsRenamed old [] new []
-renamed_none old new = record { handles = tt; same = refl }
-
 pub renamed_more : {A : Type 0} (old new new' : List (List A)) (vs ws : List ℕ) (v w : ℕ) → IsRenamed old vs new ws → Keeps new new' → IsHandle new' w → set_at new' w ≡ set_at old v → IsRenamed old (vs ++ v ∷ []) new' (ws ++ w ∷ [])
 renamed_more old new new' vs ws v w r k h e = record {
   handles = all_snoc (IsHandle new') ws w (all_kept new new' ws k r.handles) h;
   same = map-append (set_at new') ws (w ∷ []) ∙ ap (λ l. l ++ set_at new' w ∷ []) (sets_kept new new' ws k r.handles ∙ r.same) ∙ ap (λ s. map (set_at old) vs ++ s ∷ []) e ∙ sym (map-append (set_at old) vs (v ∷ []));
 }
-
-pub renamed_kept : {A : Type 0} (old new new' : List (List A)) (vs ws : List ℕ) → IsRenamed old vs new ws → Keeps new new' → IsRenamed old vs new' ws
-renamed_kept old new new' vs ws r k = record { handles = all_kept new new' ws k r.handles; same = sets_kept new new' ws k r.handles ∙ r.same }
 
 head_same : {X : Type 0} (x y : X) (xs ys : List X) → x ∷ xs ≡ y ∷ ys → x ≡ y
 head_same x y xs ys e = cc
@@ -111,6 +99,3 @@ rows_renamed old new (k ∷ ks) [] (w ∷ ws) e = absurd (let n : suc (length (m
 rows_renamed old new (k ∷ ks) (v ∷ vs) [] e = absurd (let n : 0 ≡ suc (length (map (set_at old) vs)) = ap length e in omega (arith, n))
 rows_renamed old new (k ∷ ks) (v ∷ vs) (w ∷ ws) e =
     ap (λ s. (k, s) ∷ rows new ks ws) (head_same _ _ _ _ e) ∙ ap (λ l. (k, set_at old v) ∷ l) (rows_renamed old new ks vs ws (tail_same _ _ _ _ e))
-
-pub length_renamed : {A : Type 0} (old new : List (List A)) (vs ws : List ℕ) → map (set_at new) ws ≡ map (set_at old) vs → length ws ≡ length vs
-length_renamed old new vs ws e = sym (length-map ws (set_at new)) ∙ ap length e ∙ length-map vs (set_at old)

@@ -84,10 +84,6 @@ module _ {K : Type 0} (cmp : K → K → Ordering) (total : IsTotalOrder cmp) (e
     | inr more ↦ let same : i ≡ j = omega (arith, le, more) in let e : ordering_index (cmp (get_or ks i d) x) ≡ ordering_index (cmp (get_or ks j d) x) = ap (λ i. ordering_index (cmp (get_or ks i d) x)) same in omega (arith, e)
   ]
 
-  -- ---- where the keys after a place begin
-  pub point_none : (ks : List K) → IsAfterPoint cmp None ks 0
-  point_none ks = record { within = omega arith; before = λ k d lt. absurd (omega (arith, lt)); behind = λ k d le lt. refl }
-
   pub point_found : (ks : List K) → IsStrictlySortedBy cmp ks → (x : K) (at : ℕ) → at < length ks → HoldsAt (λ y. cmp y x ≡ Equal) ks at → IsAfterPoint cmp (Some x) ks (at + 1)
   point_found ks s x at lt holds = record {
     within = omega (arith, lt);
@@ -223,9 +219,6 @@ module _ {K : Type 0} (cmp : K → K → Ordering) (total : IsTotalOrder cmp) (e
     | inl less ↦ absurd (not_both (is_lt (cmp q b)) (ap is_lt (total.trans q a b (less_is _ less) (less_is _ l))) h)
     | inr more ↦ more
   ]
-
-  not_under : (q b a : K) → is_lt (cmp q a) ≡ false → is_lt (cmp b a) ≡ false → is_lt (cmp b a) ≡ false
-  not_under q b a h l = l
 
   pub next_both : (place : Option K) (P Q : K → Bool) (a b : Option K) → IsNext cmp place P a → IsNext cmp place Q b → IsNext cmp place (λ q. Q q || P q) (lesser_of cmp a b)
   next_both place P Q None None n m = λ q has. elim (either (Q q) (P q) has) [ inl h ↦ m q h | inr h ↦ n q h ]

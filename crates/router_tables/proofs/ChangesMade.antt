@@ -20,11 +20,6 @@ use Rattle.router_tables.specs.Tables.{Tables, table_at, route_at, AreRowsOf}
 use Rattle.router_tables.specs.Views.{Table, ViewsValue, view_table, no_tables}
 use Rattle.router_tables.proofs.PendingDrops.{nothing}
 
--- a table that has no row may be none
-pub seen_in : (o : Option Table) (t : Table) (q : NlriValue) → unwrap_or o [] ≡ t → option_and_then (value_at nlri_cmp q) o ≡ value_at nlri_cmp q t
-seen_in None t q e = ap (value_at nlri_cmp q) e
-seen_in (Some x) t q e = ap (value_at nlri_cmp q) e
-
 no_table : (view : View) → view_table view no_tables ≡ None
 no_table InPre = refl
 no_table InPost = refl

@@ -1,5 +1,5 @@
 -- The last steps of entries, which are gathered without the first ones.
-use Rattle.std.proofs.Common.{◌≡◌, ℕ, ◌+◌, ◌-◌, ◌^◌, ◌<◌, ◌≤◌, ◌⊎◌, inl, inr, min, List, [], ◌∷◌, ◌++◌, length, map, take, drop, get_or, refl, sym, ap, ◌∙◌, arith, append_assoc, length-append, length-drop, length-take}
+use Rattle.std.proofs.Common.{◌≡◌, ℕ, ◌+◌, ◌-◌, ◌^◌, ◌<◌, ◌≤◌, ◌⊎◌, inl, inr, min, List, [], ◌++◌, length, map, take, drop, get_or, refl, sym, ap, ◌∙◌, arith, append_assoc, length-append, length-drop, length-take}
 use Rattle.std.specs.Prelude.{filter_map}
 use Rattle.std.specs.List.{AllZip}
 use Rattle.std.proofs.lemmas.Bool.{cases_lt}
@@ -42,10 +42,6 @@ module _ {X : Type 0} where
 
   pub left_more : (all next : List X) (passed left rest : ℕ) → left ≡ passed - length all → rest ≡ left - length next → rest ≡ passed - length (all ++ next)
   left_more all next passed left rest l r = omega (arith, l, r, length-append all next)
-
-  -- of one, where more than none are passed over
-  pub none_of_one : (passed : ℕ) (x : X) → 0 < passed → drop passed (x ∷ []) ≡ []
-  none_of_one passed x some = drop_of_length-le (x ∷ []) {i = passed} (omega arith)
 
   drop_min : (passed : ℕ) (xs : List X) → drop (min passed (length xs)) xs ≡ drop passed xs
   drop_min passed xs = elim (cases_lt passed (length xs)) [

@@ -18,7 +18,7 @@ use Rattle.bmp_specs.proofs.RowLaws.{row_kept, named_ends_row}
 use Rattle.route_runs.specs.Override.{value_at}
 use Rattle.route_runs.specs.Runs.{changed}
 use Rattle.router_tables.specs.Pending.{PendingValue, PendingTables, view_changes, no_changes, route_after, AreRowsAfter}
-use Rattle.router_tables.specs.Tables.{Tables, route_at, AreRowsOf}
+use Rattle.router_tables.specs.Tables.{Tables}
 use Rattle.router_tables.specs.Views.{ViewsValue, view_table}
 
 pub nothing : (view : View) (q : NlriValue) → value_at nlri_cmp q (view_changes view no_changes) ≡ None
@@ -52,7 +52,3 @@ module _ (pending later : PendingTables) (tables next : Tables) (es : List Effec
         let same : route_after later next row.row_key ≡ route_after pending tables row.row_key = (λ i. route_by (p i) (v i) row.row_key) in
         subst (λ (o : Option AttrsValue). (o ≡ Some row.route) ↔ HasRow (es ++ e ∷ []) row) (sym same) (then_iff (h row) (row_kept es e row (named_other_row k row.row_key e names other)))
   ]
-
--- no change leaves the tables as they are
-pub rows_unchanged : (tables : Tables) (es : List EffectValue) → AreRowsOf tables es → AreRowsAfter [] tables es
-rows_unchanged tables es h row = subst (λ (o : Option (Option AttrsValue)). (changed o (route_at tables row.row_key) ≡ Some row.route) ↔ HasRow es row) (sym (nothing row.row_key.view row.row_key.nlri)) (h row)

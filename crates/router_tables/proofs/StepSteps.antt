@@ -1,21 +1,18 @@
 -- The last steps of a lane, when more come.
 use Rattle.std.proofs.Common.{◌≡◌, ℕ, ◌+◌, ◌<◌, ◌≤◌, ◌^◌, ◌-◌, min, List, [], ◌∷◌, ◌++◌, length, map, take, drop, get_or, refl, sym, ap, ◌∙◌, append_assoc, arith, length-append}
 use Rattle.std.specs.Prelude.{filter_map}
-use Rattle.std.specs.declared.sync.Arc.{Arc}
-use Rattle.std.specs.declared.alloc.Global.{Global}
 use Rattle.std.proofs.lemmas.List.{map-append, length-map, take_more, flat_map_more}
 use Rattle.std.proofs.Math.Seq.{drop-append-add}
 use Rattle.std.proofs.lemmas.List.Elements.{filter_map-append}
 use Rattle.bmp_specs.specs.declared.peers.View.{View}
 use Rattle.bmp_specs.specs.Steps.{step_of, steps_in, steps_of}
-use Rattle.bmp_specs.specs.Values.{NlriValue, AttrsValue, KeyValue, PeerInfoValue, DownInfoValue, EffectValue, EntryValue, StepValue, announce, withdraw, announce_step, withdraw_step}
+use Rattle.bmp_specs.specs.Values.{NlriValue, AttrsValue, KeyValue, EffectValue, EntryValue, StepValue, announce, withdraw, announce_step, withdraw_step}
 use Rattle.recent_ring.specs.Recent.{RecentValue, last_items, recent}
 use Rattle.recent_ring.proofs.LastItems.{shown_push}
 use Rattle.rib_model.specs.declared.step.Step.{Step}
 use Rattle.rib_model.specs.Steps.{step_value}
 use Rattle.rib_model.specs.Effects.{item_values, effect_values}
 use Rattle.rib_model.specs.declared.effect.Effect.{Effect}
-use Rattle.rib_model.specs.declared.effect.Effect.TheVariants.{Up, Down, Announce, Withdraw, Mark, Statistic, Name, Descr, Orphan, Mirrored, Passed, Unread}
 use Rattle.rib_model.proofs.Items.{values_taken}
 use Rattle.router_tables.specs.Tables.{steps_told}
 
@@ -92,20 +89,3 @@ more_items all items i e within is =
 
 pub steps_more : (entries : List EntryValue) (e : EntryValue) → steps_of entries ++ steps_in e ≡ steps_of (entries ++ e ∷ [])
 steps_more entries e = flat_map_more steps_in [] entries e
-
--- effects of the other kinds are no steps
-pub no_steps : (e : Effect) → ((key : KeyValue) (info : Arc PeerInfoValue Global) → e ≡ Up key info → ⊥) → ((key : KeyValue) (info : DownInfoValue) → e ≡ Down key info → ⊥)
-    → ((key : KeyValue) (view : View) (nlris : List NlriValue) (route : Arc AttrsValue Global) → e ≡ Announce key view nlris route → ⊥)
-    → ((key : KeyValue) (view : View) (nlris : List NlriValue) → e ≡ Withdraw key view nlris → ⊥) → filter_map step_of (item_values e) ≡ []
-no_steps (Up k info) a b c d = absurd (a k info refl)
-no_steps (Down k info) a b c d = absurd (b k info refl)
-no_steps (Announce k view nlris route) a b c d = absurd (c k view nlris route refl)
-no_steps (Withdraw k view nlris) a b c d = absurd (d k view nlris refl)
-no_steps (Mark k view family) a b c d = refl
-no_steps (Statistic k stat) a b c d = refl
-no_steps (Name bytes) a b c d = refl
-no_steps (Descr bytes) a b c d = refl
-no_steps Orphan a b c d = refl
-no_steps Mirrored a b c d = refl
-no_steps Passed a b c d = refl
-no_steps (Unread parts) a b c d = refl

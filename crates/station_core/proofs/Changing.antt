@@ -218,9 +218,6 @@ module _ {B : Type 0} (meaning : Meaning) (state : B → meaning.State) where
     pub shown_few : length shown ≤ 64
     shown_few = omega (arith, s.few, s.shown_count)
 
-    pub shown_some : 0 < length shown
-    shown_some = omega (arith, s.some, s.shown_count)
-
     -- as many entries are published as the history has
     pub total_is : AreFew v → total shown ≡ revision v.history
     total_is few = (stands_given (λ tables entries. StandsFor tables (entry_values entries)) shown shown refl shown_few (counts_fit few) s.entries within_shown are_lanes).rev ∙ sym (valued-revision s.entries) ∙ ap revision (sym s.history)

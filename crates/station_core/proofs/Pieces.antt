@@ -19,7 +19,7 @@ use Rattle.rib_model.specs.Entries.{entry_value, entry_values}
 use Rattle.wire_io.specs.Aside.{fresh}
 use Rattle.station_core.specs.declared.lane.Present.{Present}
 use Rattle.station_core.specs.Machine.{AreDue, Begins, ComesTo, HasLive, with_end, with_piece}
-use Rattle.station_core.specs.Taking.{Gathers, IsIdle, IsSound, IsTaken, Moves, cause_of_close}
+use Rattle.station_core.specs.Taking.{Gathers, IsIdle, IsTaken, Moves, cause_of_close}
 use Rattle.station_core.proofs.Dues.{due_more, EndsWith, ended_life, ends_early, ends_full, ends_last, life_ended, live_going}
 
 -- how much of a piece is taken
@@ -192,10 +192,6 @@ module _ {B : Type 0} (meaning : Meaning) (state : B → meaning.State) where
             };
           };
     }
-
-  -- there is room for a piece
-  pub sound_room : (due : List Entry) (present : Present B) → IsSound meaning state due (Some present) → (present.taken < most_taken) × (fed_of present.walk ≡ present.taken)
-  sound_room due present (connections, t) = (omega (arith, t.taken, t.room), sym t.given.reached.count ∙ sym t.taken)
 
 -- so many messages of a walk were gathered
 pub record Gathering {B : Type 0} (meaning : Meaning) (state : B → meaning.State) (old new : WalkValue B) (due due' : List Entry) : Type 0 where

@@ -1,6 +1,6 @@
 -- A schedule, event by event.
 use Rattle.std.proofs.Common.{◌≡◌, ℕ, ◌+◌, ◌<◌, ◌≤◌, cond, eqb, Bool, true, false, List, [], ◌∷◌, ◌++◌, length, take, drop, get_or, set, Option, Some, Result, Ok, Err, inl, inr, refl, sym, ap, ◌∙◌, subst, append-nil, append_assoc, arith, length-append, length-set, get_or-set_other, get_or-set_same, eq-eqb, take-append-drop}
-use Rattle.std.proofs.lemmas.List.{get_or-replicate, get_or_default, length-replicate, take_all}
+use Rattle.std.proofs.lemmas.List.{get_or_default, length-replicate, take_all}
 use Rattle.std.proofs.lemmas.Grind.{take_at_read}
 use Rattle.std.specs.Prelude.{slice_get}
 use Rattle.std.proofs.lemmas.Option.{get_or_from_slice_get}
@@ -12,7 +12,7 @@ use Rattle.bmp_specs.specs.Meaning.{Meaning}
 use Rattle.router_tables.specs.Tables.{TablesValue}
 use Rattle.wire_io.specs.Aside.{Aside}
 use Rattle.wire_io.specs.Writes.{Writes}
-use Rattle.wire_io.proofs.Joins.{join, writes_none}
+use Rattle.wire_io.proofs.Joins.{join}
 use Rattle.cut_publisher.specs.History.{revision}
 use Rattle.station_core.specs.declared.event.Event.{Event}
 use Rattle.station_core.specs.declared.event.Event.TheVariants.{Begin, Take, End, Publish, Tell, Ask, Finish}
@@ -177,22 +177,6 @@ module _ {B O : Type 0} (faults : O → ℕ) (told : O → Option (List ℕ)) (a
       → last ≡ revision r.now.history → Leaves faults told meaning events start old new (Ok last)
   ran i last new lanes shown seen finished past r is =
       (record { end = r.now; replies = r.replies; runs = subst (λ (es : List Event). Runs meaning es start r.now r.replies) (take_all i events past) r.runs; written = r.written.whole; last_is = is; parts = first_due meaning state lanes shown seen finished r.now r.stands }, r.written.cause.fine)
-
-  -- nothing was run
-  pub ran_none : Leaves faults told meaning events start old old (Err NoMemory)
-  ran_none = (record { done = []; left = events; split = refl; end = start; replies = []; runs = (refl, refl); written = (writes_none {faults = faults} {told = told} {aside = aside} old).front }, refl)
-
--- at the start
-pub running_none : {B O : Type 0} (faults : O → ℕ) (told : O → Option (List ℕ)) (aside : O → Aside) (meaning : Meaning) (state : B → meaning.State) (lanes : List (Lane B)) (shown : List (TablesValue × ℕ)) (seen : List ℕ) (finished : Bool) (events : List Event) (count askers : ℕ) (old : O)
-    → Stands meaning state lanes shown seen finished (start_of count askers) → Running faults told aside meaning state (take 0 events) (start_of count askers) old old lanes shown seen finished
-running_none faults told aside meaning state lanes shown seen finished events count askers old s = record {
-  now = start_of count askers;
-  replies = [];
-  runs = (refl, refl);
-  stands = s;
-  count = λ k lt. omega (arith, ap (λ (l : LaneValue). length l.connections) (get_or-replicate count k unused unused (omega (arith, lt, length-replicate count unused))));
-  written = writes_none old;
-}
 
 module _ {B O : Type 0} (faults : O → ℕ) (told : O → Option (List ℕ)) (aside : O → Aside) (meaning : Meaning) (state : B → meaning.State) (events : List Event) (count askers i : ℕ) (old new : O) (lanes : List (Lane B)) (shown : List (TablesValue × ℕ)) (seen : List ℕ) (finished : Bool)
     (few : BeginsFew count events) (r : Running faults told aside meaning state (take i events) (start_of count askers) old new lanes shown seen finished) where

@@ -9,7 +9,7 @@ use Rattle.wire_io.specs.Aside.{Aside, Plan}
 use Rattle.station_doors.specs.declared.connections.Last.{Last}
 use Rattle.station_doors.specs.declared.connections.Last.TheVariants.{Gave, Fault}
 use Rattle.station_doors.specs.declared.connections.Session.{Session}
-use Rattle.station_doors.specs.Doors.{Opens, Reads, Closes, given_more, read_of}
+use Rattle.station_doors.specs.Doors.{Opens, Reads, given_more, read_of}
 use Rattle.station_doors.specs.LastRead.{last_of}
 use Rattle.station_doors.specs.Connections.{bytes_of, given_of, writes_of, rest_of, shows_of, port_shows, link_shows, plan_with, IsGiven}
 
@@ -145,9 +145,3 @@ reads_port fails a b r buf o = record { plan = ap (λ (p : Option Plan). Some (p
 
 pub reads_link : (fails : List ℕ) (a b : Aside) (r : Result ℕ Failed) (buf : List ℕ) → Reads a b r buf → Reads (link_shows fails a) (link_shows fails b) r buf
 reads_link fails a b r buf o = record { plan = ap (λ (p : Option Plan). Some (plan_with fails p)) o.plan; coming = o.coming; rest = o.rest; given = o.given; opened = o.opened; closed = o.closed; is_open = o.is_open; taken = o.taken; refused = o.refused; cause = o.cause; calm = o.calm; writes = o.writes; laid = o.laid }
-
-pub closes_port : (fails : List ℕ) (a b : Aside) → Closes a b → Closes (port_shows fails a) (port_shows fails b)
-closes_port fails a b c = record { same = ap (λ (x : Aside). port_shows fails x) c.same }
-
-pub closes_link : (fails : List ℕ) (a b : Aside) → Closes a b → Closes (link_shows fails a) (link_shows fails b)
-closes_link fails a b c = record { same = ap (λ (x : Aside). link_shows fails x) c.same }

@@ -9,6 +9,7 @@ use Rattle.std.proofs.lemmas.List.Elements.{All-nil, All-push, Contains-append_l
 use Rattle.bmp_specs.specs.declared.causes.Cause.{Cause}
 use Rattle.bmp_specs.specs.Life.{most_taken}
 use Rattle.bmp_specs.specs.MessageEffects.{strict}
+use Rattle.bmp_specs.specs.Octets.{AreOctets}
 use Rattle.cut_publisher.specs.Ending.{IsEnding}
 use Rattle.cut_publisher.specs.History.{Asker, Fed, Site, part}
 use Rattle.cut_publisher.specs.Opening.{AreAsksOf, AreFeedsOf, AreFreshFeeds, AreSeated, fresh_feed}
@@ -66,7 +67,7 @@ adding_none seed messages b lanes feeds tasks none fresh = record {
 }
 
 pub adding_more : (seed messages : ℕ) (b : Site) (lanes : ℕ) (left rest : List (Fed Entry)) (tasks after : List DrillTask) (w : DrillLane) → left ≡ rest ++ w.pass ∷ [] → after ≡ tasks ++ Lane w ∷ []
-    → AllByRecursion (λ b. b < 256) w.stream → IsDrillStream seed w.pass.lane messages w.stream → length w.stream < most_taken → Adding seed messages b lanes left tasks → Adding seed messages b lanes rest after
+    → AreOctets w.stream → IsDrillStream seed w.pass.lane messages w.stream → length w.stream < most_taken → Adding seed messages b lanes left tasks → Adding seed messages b lanes rest after
 adding_more seed messages b lanes left rest tasks after w e t octets stream short a =
     let long : length left ≡ length rest + 1 = ap (λ (l : List (Fed Entry)). length l) e ∙ length_push rest w.pass in
     let here : w.pass ≡ fresh_feed b (length rest) = sym (get_or_push rest w.pass w.pass (length rest) refl) ∙ ap (λ (l : List (Fed Entry)). get_or l (length rest) w.pass) (sym e) ∙ a.fresh (length rest) w.pass (omega (arith, long)) in

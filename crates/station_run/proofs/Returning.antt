@@ -81,25 +81,12 @@ return_more {P} shows old now new all left rest lane p r e t =
       back = subst (λ (l : List Returned). PortsComeBack old new l (length rest)) pushed (back_more old now new (numbered shows 0 r.given) lane (length rest) (shows p) (subst (λ (k : ℕ). PortsComeBack old now (numbered shows 0 r.given) k) long r.back) here t);
     }
 
-pub return_all : {P : Type 0} (shows : P → Aside) (old now : Option YardValue) (all left : List P) (lane : ℕ) → Return shows old now all left lane → left ≡ [] → PortsComeBack old now (numbered shows 0 all) 0
-return_all {P} shows old now all left lane r none =
-    let same : r.given ≡ all = sym (r.all_are ∙ ap (λ (l : List P). r.given ++ reverse l) none ∙ append-nil r.given) in
-    subst (λ (l : List P). PortsComeBack old now (numbered shows 0 l) 0) same (subst (λ (l : List P). PortsComeBack old now (numbered shows 0 r.given) (length l)) none r.back)
-
 -- the same of links
 pub record ReturnLinks {K : Type 0} (shows : K → LinkShows) (old now : Option YardValue) (all left : List K) (number : ℕ) : Type 0 where
   pub given : List K
   pub all_are : all ≡ given ++ reverse left
   pub count : number ≡ length given
   pub back : LinksComeBack old now (numbered_links shows 0 given) (length left)
-
-pub return_no_links : {K : Type 0} (shows : K → LinkShows) (old : Option YardValue) (all left : List K) → left ≡ reverse all → ReturnLinks shows old old all left 0
-return_no_links {K} shows old all left e = record { given = []; all_are = sym (reverse-reverse all) ∙ ap (λ (l : List K). reverse l) (sym e); count = refl; back = at old }
-  where
-    at : (old : Option YardValue) → LinksComeBack old old [] (length left)
-    at None = refl
-    at (Some yard) = λ out is. let here : 0 + length left ≡ length left = omega arith in
-        ap (λ (l : List ℕ). Some (record yard { links_out = l })) (is ∙ ap (λ (k : ℕ). lent 0 k ++ out) here) ∙ ap (λ (l : List ReturnedLink). Some (record yard { links_out = lent 0 (length left) ++ out; links_back = l })) (sym (append-nil yard.links_back))
 
 links_back_more : (old now new : Option YardValue) (back : List ReturnedLink) (left : ℕ) (link : ReturnedLink) → LinksComeBack old now back (left + 1) → link.number ≡ length back → TakesLinkBack link now new
     → LinksComeBack old new (back ++ link ∷ []) left
@@ -132,11 +119,6 @@ return_link {K} shows old now new all left rest number k r e t =
           (links_back_more old now new (numbered_links shows 0 r.given) (length rest) (record { number = number; shows = (shows k).shows; written = (shows k).written; faults = (shows k).faults })
           (subst (λ (n : ℕ). LinksComeBack old now (numbered_links shows 0 r.given) n) long r.back) here t);
     }
-
-pub return_all_links : {K : Type 0} (shows : K → LinkShows) (old now : Option YardValue) (all left : List K) (number : ℕ) → ReturnLinks shows old now all left number → left ≡ [] → LinksComeBack old now (numbered_links shows 0 all) 0
-return_all_links {K} shows old now all left number r none =
-    let same : r.given ≡ all = sym (r.all_are ∙ ap (λ (l : List K). r.given ++ reverse l) none ∙ append-nil r.given) in
-    subst (λ (l : List K). LinksComeBack old now (numbered_links shows 0 l) 0) same (subst (λ (l : List K). LinksComeBack old now (numbered_links shows 0 r.given) (length l)) none r.back)
 
 -- ports first, then links
 pub all_come_back : (old mid new : Option YardValue) (back : List Returned) (links_back : List ReturnedLink) → PortsComeBack old mid back 0 → LinksComeBack mid new links_back 0 → AllComeBack old new back links_back

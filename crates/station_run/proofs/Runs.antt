@@ -111,12 +111,6 @@ module _ {B P : Type 0} (meaning : Meaning) (shows : P → Aside) where
   runs_last k (w ∷ ws) [] p = absurd p
   runs_last k (w ∷ ws) (v ∷ vs) p = ap (λ (l : List Returned). record { lane = k; shows = shows v.port } ∷ l) (runs_last (k + 1) ws vs p.1)
 
-  pub runs_count : (ws vs : List (LaneWork B P)) → Pairs (LaneIsDone meaning shows) ws vs → length (runs_of shows ws vs) ≡ length ws
-  runs_count [] [] p = refl
-  runs_count [] (v ∷ vs) p = absurd p
-  runs_count (w ∷ ws) [] p = absurd p
-  runs_count (w ∷ ws) (v ∷ vs) p = let e = runs_count ws vs p.1 in omega (arith, e)
-
   pub lanes_serve : (b : Site) (rounds k : ℕ) (ws vs : List (LaneWork B P)) → LaneStarts b rounds k ws → Pairs (LaneIsDone meaning shows) ws vs → LanesServe meaning rounds b k (runs_of shows ws vs)
   lanes_serve b rounds k [] [] s p = tt
   lanes_serve b rounds k [] (v ∷ vs) s p = absurd p
@@ -195,12 +189,6 @@ module _ {K : Type 0} (aside : K → Aside) (told : K → Option (List ℕ)) (fa
   ask_runs_last k [] (v ∷ vs) p = absurd p
   ask_runs_last k (w ∷ ws) [] p = absurd p
   ask_runs_last k (w ∷ ws) (v ∷ vs) p = ap (λ (l : List ReturnedLink). record { number = k; shows = aside v.link; written = told v.link; faults = faults v.link } ∷ l) (ask_runs_last (k + 1) ws vs p.1)
-
-  pub ask_runs_count : (ws vs : List (AskWork K)) → Pairs (AskIsDone aside told faults) ws vs → length (ask_runs_of (link_shows aside told faults) ws vs) ≡ length ws
-  ask_runs_count [] [] p = refl
-  ask_runs_count [] (v ∷ vs) p = absurd p
-  ask_runs_count (w ∷ ws) [] p = absurd p
-  ask_runs_count (w ∷ ws) (v ∷ vs) p = let e = ask_runs_count ws vs p.1 in omega (arith, e)
 
   pub asks_serve : (b : Site) (rounds : ℕ) (ws vs : List (AskWork K)) → AskStarts b rounds ws → Pairs (AskIsDone aside told faults) ws vs → AsksServe rounds b (ask_runs_of (link_shows aside told faults) ws vs)
   asks_serve b rounds [] [] s p = tt

@@ -11,7 +11,7 @@ use Rattle.station_run.specs.declared.tasks.AskWork.{AskWork}
 use Rattle.station_run.specs.declared.tasks.Task.{Task}
 use Rattle.station_run.specs.declared.tasks.Task.TheVariants.{Lane, Ask}
 use Rattle.station_run.specs.declared.outcome.Outcome.TheVariants as outcome
-use Rattle.station_run.specs.Pairing.{AsksArePaired, LanesArePaired, after_one, ask_passes, asks_of, ends, is_want, lanes_of, links, outcome_of, passes, ports, starved}
+use Rattle.station_run.specs.Pairing.{after_one, ask_passes, asks_of, ends, is_want, lanes_of, links, outcome_of, passes, ports, starved}
 
 pub reverse_push : {A : Type 0} (xs : List A) (x : A) → reverse (xs ++ x ∷ []) ≡ x ∷ reverse xs
 reverse_push xs x = reverse-append xs (x ∷ [])
@@ -19,10 +19,6 @@ reverse_push xs x = reverse-append xs (x ∷ [])
 -- the last of those left goes over
 pub moves : {A : Type 0} (all left rest done : List A) (x : A) → all ≡ left ++ done → left ≡ rest ++ x ∷ [] → all ≡ rest ++ x ∷ done
 moves all left rest done x e f = e ∙ ap (λ l. l ++ done) f ∙ append_assoc rest (x ∷ []) done
-
-pub all_gone : {A : Type 0} (left done all : List A) → all ≡ left ++ done → length left ≡ 0 → done ≡ all
-all_gone [] done all e n = sym e
-all_gone (x ∷ left) done all e n = absurd (omega (arith, n))
 
 pub none_left : {A : Type 0} (xs : List A) → length xs ≡ 0 → xs ≡ []
 none_left [] n = refl
@@ -57,32 +53,6 @@ module _ {B P K : Type 0} where
     pub none : lanes_of (reverse tasks) ≡ []
     pub same : length left ≡ length left_doors
 
-  pub no_asks : (all : List (Asker Entry)) (doors : List K) (rounds : ℕ) (tasks : List (Task B P K)) → length all ≡ length doors → tasks ≡ [] → PairingAsks all all doors doors rounds tasks
-  no_asks all doors rounds tasks same e = subst (λ (t : List (Task B P K)). PairingAsks all all doors doors rounds t) (sym e)
-      (record { passes_are = sym (append-nil all); links_are = sym (append-nil doors); rounds_are = tt; none = refl; same = same })
-
-  pub ask_more : (all left rest : List (Asker Entry)) (doors left_doors rest_doors : List K) (rounds : ℕ) (tasks after : List (Task B P K)) (w : AskWork K) → PairingAsks all left doors left_doors rounds tasks
-      → left ≡ rest ++ w.pass ∷ [] → left_doors ≡ rest_doors ++ w.link ∷ [] → w.rounds ≡ rounds → after ≡ tasks ++ Ask w ∷ [] → PairingAsks all rest doors rest_doors rounds after
-  ask_more all left rest doors left_doors rest_doors rounds tasks after w p e f n t =
-      let turned : reverse after ≡ Ask w ∷ reverse tasks = ap (λ (l : List (Task B P K)). reverse l) t ∙ reverse_push tasks (Ask w) in
-      record {
-        passes_are = moves all left rest (ask_passes (asks_of (reverse tasks))) w.pass p.passes_are e ∙ ap (λ (l : List (Task B P K)). rest ++ ask_passes (asks_of l)) (sym turned);
-        links_are = moves doors left_doors rest_doors (links (asks_of (reverse tasks))) w.link p.links_are f ∙ ap (λ (l : List (Task B P K)). rest_doors ++ links (asks_of l)) (sym turned);
-        rounds_are = subst (λ (l : List (Task B P K)). AllByRecursion (λ (v : AskWork K). v.rounds ≡ rounds) (asks_of l)) (sym turned) (n, p.rounds_are);
-        none = ap (λ (l : List (Task B P K)). lanes_of l) turned ∙ p.none;
-        same = omega (arith, p.same, ap (λ (l : List (Asker Entry)). length l) e, ap (λ (l : List K). length l) f, length-append rest (w.pass ∷ []), length-append rest_doors (w.link ∷ []));
-      }
-
-  pub asks_paired : (all left : List (Asker Entry)) (doors left_doors : List K) (rounds : ℕ) (tasks : List (Task B P K)) → PairingAsks all left doors left_doors rounds tasks → left ≡ []
-      → AsksArePaired all doors rounds (reverse tasks)
-  asks_paired all left doors left_doors rounds tasks p e =
-      let n : length left ≡ 0 = ap (λ (l : List (Asker Entry)). length l) e in
-      record {
-        passes_are = all_gone left (ask_passes (asks_of (reverse tasks))) all p.passes_are n;
-        links_are = all_gone left_doors (links (asks_of (reverse tasks))) doors p.links_are (sym p.same ∙ n);
-        rounds_are = p.rounds_are;
-      }
-
   -- the same of lanes, behind the askers
   pub record PairingLanes (all left : List (Fed Entry)) (doors left_doors : List P) (rounds : ℕ) (before tasks : List (Task B P K)) : Type 0 where
     pub passes_are : all ≡ left ++ passes (lanes_of (reverse tasks))
@@ -90,15 +60,6 @@ module _ {B P K : Type 0} where
     pub rounds_are : AllByRecursion (λ w. w.rounds ≡ rounds) (lanes_of (reverse tasks))
     pub askers : asks_of (reverse tasks) ≡ asks_of (reverse before)
     pub same : length left ≡ length left_doors
-
-  pub no_lanes : (all : List (Fed Entry)) (doors : List P) (rounds : ℕ) (tasks : List (Task B P K)) → length all ≡ length doors → lanes_of (reverse tasks) ≡ [] → PairingLanes all all doors doors rounds tasks tasks
-  no_lanes all doors rounds tasks same e = record {
-    passes_are = sym (append-nil all) ∙ ap (λ (l : List (LaneWork B P)). all ++ passes l) (sym e);
-    ports_are = sym (append-nil doors) ∙ ap (λ (l : List (LaneWork B P)). doors ++ ports l) (sym e);
-    rounds_are = subst (λ (l : List (LaneWork B P)). AllByRecursion (λ (v : LaneWork B P). v.rounds ≡ rounds) l) (sym e) tt;
-    askers = refl;
-    same = same;
-  }
 
   pub lane_more : (all left rest : List (Fed Entry)) (doors left_doors rest_doors : List P) (rounds : ℕ) (before tasks after : List (Task B P K)) (w : LaneWork B P) → PairingLanes all left doors left_doors rounds before tasks
       → left ≡ rest ++ w.pass ∷ [] → left_doors ≡ rest_doors ++ w.port ∷ [] → w.rounds ≡ rounds → after ≡ tasks ++ Lane w ∷ [] → PairingLanes all rest doors rest_doors rounds before after
@@ -110,16 +71,6 @@ module _ {B P K : Type 0} where
         rounds_are = subst (λ (l : List (Task B P K)). AllByRecursion (λ (v : LaneWork B P). v.rounds ≡ rounds) (lanes_of l)) (sym turned) (n, p.rounds_are);
         askers = ap (λ (l : List (Task B P K)). asks_of l) turned ∙ p.askers;
         same = omega (arith, p.same, ap (λ (l : List (Fed Entry)). length l) e, ap (λ (l : List P). length l) f, length-append rest (w.pass ∷ []), length-append rest_doors (w.port ∷ []));
-      }
-
-  pub lanes_paired : (all left : List (Fed Entry)) (doors left_doors : List P) (rounds : ℕ) (before tasks : List (Task B P K)) → PairingLanes all left doors left_doors rounds before tasks → left ≡ []
-      → LanesArePaired all doors rounds (reverse tasks)
-  lanes_paired all left doors left_doors rounds before tasks p e =
-      let n : length left ≡ 0 = ap (λ (l : List (Fed Entry)). length l) e in
-      record {
-        passes_are = all_gone left (passes (lanes_of (reverse tasks))) all p.passes_are n;
-        ports_are = all_gone left_doors (ports (lanes_of (reverse tasks))) doors p.ports_are (sym p.same ∙ n);
-        rounds_are = p.rounds_are;
       }
 
   pub lanes-append : (xs ys : List (Task B P K)) → lanes_of (xs ++ ys) ≡ lanes_of xs ++ lanes_of ys

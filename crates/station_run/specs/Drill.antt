@@ -1,9 +1,10 @@
 -- A drill: lanes take streams that follow from a few numbers, side by side with askers, and no connection is closed.
 use Rattle.std.specs.Prelude.{◌≡◌, IsTrue, ℕ, ◌<◌, List, [], ◌∷◌, length, Option, Some, None}
-use Rattle.std.specs.List.{All, AllByRecursion, Contains}
+use Rattle.std.specs.List.{All, Contains}
 use Rattle.bmp_specs.specs.Life.{most_taken}
 use Rattle.bmp_specs.specs.Meaning.{WalksBy}
 use Rattle.bmp_specs.specs.MessageEffects.{strict}
+use Rattle.bmp_specs.specs.Octets.{AreOctets}
 use Rattle.bmp_specs.specs.Values.{EntryValue, opened}
 use Rattle.bmp_specs.specs.Walk.{Verdict}
 use Rattle.cut_publisher.specs.Cuts.{Stands}
@@ -29,7 +30,7 @@ pub record IsTakenWhole (bytes : List ℕ) (entries : List EntryValue) : Type 0 
 -- they are the entries that the lane of this number makes of its stream, which is a list of octets
 pub record IsDrilled (seed messages lane : ℕ) (entries : List EntryValue) : Type 0 where
   pub bytes : List ℕ
-  pub octets : AllByRecursion (λ b. b < 256) bytes
+  pub octets : AreOctets bytes
   pub stream : IsDrillStream seed lane messages bytes
   pub taken : IsTakenWhole bytes entries
 
@@ -77,7 +78,7 @@ pub record AreWorks (Is : DrillTask → Type 0) (lanes : ℕ) (tasks : List Dril
 
 -- a work of this station before it begins: a lane has its stream
 abbrev pub Begins : ℕ → ℕ → Site → DrillTask → Type 0
-Begins seed messages b (Lane w) = (w.pass.station ≡ b) × LaneMayDrill w × AllByRecursion (λ b. b < 256) w.stream × IsDrillStream seed w.pass.lane messages w.stream
+Begins seed messages b (Lane w) = (w.pass.station ≡ b) × LaneMayDrill w × AreOctets w.stream × IsDrillStream seed w.pass.lane messages w.stream
 Begins seed messages b (Ask w) = w.pass.station ≡ b
 
 -- the same once it is done: a lane made of its stream what it says, where it was taken whole

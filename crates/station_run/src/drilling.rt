@@ -1,8 +1,8 @@
 //! A drill: lanes and askers at once, over streams that follow from a few numbers.
 ghost use Rattle.std.specs.Prelude.{◌≡◌, ◌≤◌, ◌<◌, ℕ, [], length, IfOk, IfSome, IsTrue, OnOk};
 ghost use Rattle.std.specs.Arc.{arc_value};
-ghost use Rattle.std.specs.List.{AllByRecursion};
 ghost use Rattle.bmp_specs.specs.Life.{most_taken};
+ghost use Rattle.bmp_specs.specs.Octets.{AreOctets};
 ghost use Rattle.cut_publisher.specs.History.{Site};
 ghost use Rattle.cut_publisher.specs.Opening.{AreAsksOf, AreFreshFeeds, IsOpened};
 ghost use Rattle.drill_streams.specs.DrillStream.{IsDrillStream};
@@ -36,7 +36,7 @@ const ASKED: u32 = 16;
 // Whether a stream can be taken whole. That its numbers are octets, only a slice of it says.
 fn is_short(stream: &[u8]) -> bool
     ensures short { IsTrue result → length stream.now < most_taken }
-    ensures octets { AllByRecursion (λ b. b < 256) stream.now }
+    ensures octets { AreOctets stream.now }
 {
     (stream.len() as u64) < MOST_TAKEN
 }
@@ -44,7 +44,7 @@ fn is_short(stream: &[u8]) -> bool
 // The stream of a lane. One that is too long to be taken whole counts as out of memory.
 fn short_stream(alloc: Global, seed: u32, lane: u32, messages: u32) -> Result<ByteList, NoMemory>
     ensures stream { IfOk result (λ bytes. IsDrillStream seed lane messages bytes) }
-    ensures octets { IfOk result (λ bytes. AllByRecursion (λ b. b < 256) bytes) }
+    ensures octets { IfOk result AreOctets }
     ensures short { IfOk result (λ bytes. length bytes < most_taken) }
 {
     let stream = drill_stream(alloc, seed, lane, messages)?;

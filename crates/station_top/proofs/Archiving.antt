@@ -68,10 +68,6 @@ refuses_port aside calls tells shows faults path (Some old) a b new number e dis
           ∙ ap (λ (l : List DiskAt). Some (record old { disks = l })) (with_twice path (Some (record { value = shows disk; faults = faults disk })) None old.disks);
     }
 
-pub refuses_disk : {D : Type 0} (tells : Type 0) (shows : D → DiskValue) (faults : D → ℕ) (path : List ℕ) (old new : Option YardValue) (number : ℕ) (e : Failed) → HandsOutDisk tells shows faults path number old new (Err e) → RefusesDisk path old new number
-refuses_disk tells shows faults path None new number e h = h
-refuses_disk tells shows faults path (Some old) new number e h = h
-
 -- what holds of what was handed back holds where that follows
 taken_where : (meaning : Meaning) (U V : (Plan → Aside → DiskShown → DiskShown → Type 0) → Type 0) → ((Is : Plan → Aside → DiskShown → DiskShown → Type 0) → U Is → V Is) → (k : Kept) → IsTakenIn meaning U k → IsTakenIn meaning V k
 taken_where meaning U V f (kept.Uncreated why) t = absurd t

@@ -58,9 +58,6 @@ same_plain true false given plain more is also = absurd (also.1 plain is)
 same_plain false true given plain more is also = absurd (is.1 more also)
 same_plain false false given plain more is also = (is.0 ∙ sym also.0, refl)
 
-pub no_plain : (b : Bool) (given plain : List (List ℕ)) → IsPlain b given plain → plain ≢ [] → (d : Bool) → IsPlain d given [] → ⊥
-no_plain b given plain is some d also = some (same_plain b d given plain [] is also).0
-
 pub no_asking : (b : Bool) (given asked : List (List ℕ)) → IsPlain b given asked → ((query : QueryValue) → IsAsking (join_with_byte space asked) query → ⊥) → (query : QueryValue) (d : Bool) → IsReplay query d given → ⊥
 no_asking b given asked is none query d (others, plain, asks) =
     let same = (same_plain b d given asked others is plain).0 in
@@ -93,10 +90,6 @@ two_named words file text split (Some prefix) is = (file, record { text = text; 
 pub two_unnamed : (words : List (List ℕ)) (file text : List ℕ) → words ≡ file ∷ text ∷ [] → (found : Option PrefixValue) → IfNone found ((prefix : PrefixValue) → IsPrefixText text prefix → ⊥) → IfNone found ((named : List ℕ) (prefix : PrefixValue) → NamesFile named prefix words → ⊥)
 two_unnamed words file text split None none = no_prefix words file text split none
 two_unnamed words file text split (Some prefix) none = tt
-
--- words that aren't two name no file
-pub not_two : {X : Type 0} (text : X → List ℕ) (words : List X) → (length words ≡ 2 → ⊥) → (file : List ℕ) (prefix : PrefixValue) → NamesFile file prefix (map text words) → ⊥
-not_two text words apart file prefix names = apart (sym (length-map words text) ∙ ap length names.spelled)
 
 -- The file of a call of `rov`, and that it stands at its place among the words.
 pub rov_call : (prefix : PrefixValue) (lenient : Bool) (words : List (List ℕ)) → IsCall (record { command = Rov prefix; lenient = lenient }) words → (file : List ℕ) × IsRovCall file prefix lenient words × (file_in lenient words ≡ file)
@@ -155,10 +148,6 @@ asks_none words asked file split none named query asks =
     let both : file ∷ asked ≡ named ∷ asks.asked = sym split ∙ asks.spelled in
     let same : asked ≡ asks.asked = cc both in
     none query (subst (λ (l : List (List ℕ)). IsAsking (join_with_byte space l) query) (sym same) asks.is_asking)
-
-pub asks_nothing : {X : Type 0} (text : X → List ℕ) (words : List X) → length words < 1 → (file : List ℕ) (query : QueryValue) → AsksOf file query (map text words) → ⊥
-asks_nothing text [] none file query asks = cc asks.spelled
-asks_nothing text (word ∷ words) none file query asks = absurd (omega (arith, none))
 
 -- The file of a call of `recall`, and that it stands at its place among the words.
 pub recall_call : (query : Query) (lenient : Bool) (words : List (List ℕ)) → IsCall (record { command = Recall query; lenient = lenient }) words → (file : List ℕ) × IsRecallCall file (query_value query) lenient words × (file_in lenient words ≡ file)

@@ -14,7 +14,7 @@ use Rattle.bmp_specs.proofs.MessageOne.{stream_one, strict_exact}
 use Rattle.bmp_specs.proofs.QueryReplies.{reply_one}
 use Rattle.bmp_writer.specs.PeerMessage.{mark_update}
 use Rattle.bmp_writer.specs.Written.{peer_down_type, route_monitoring_type}
-use Rattle.bmp_writer.specs.WrittenUpdate.{no_attrs}
+use Rattle.bmp_specs.specs.TreatAsWithdraw.{no_attributes}
 use Rattle.cut_publisher.specs.declared.history.Event.{Event}
 use Rattle.cut_publisher.specs.History.{part}
 use Rattle.drill_streams.specs.Drawn.{attrs_of, choice_of, peer_of, prefix_of, word_at}
@@ -37,7 +37,7 @@ message_one up w a b oa ob x y = elim (cases_lt (choice_of w) 2) [
     | inr one ↦ marked (omega (arith, low, one))
   ]
   | inr high ↦ elim (cases_lt (choice_of w) 6) [
-    | inl most ↦ routes_one (peer_key (peer_of w)) InPre (prefix_of w ∷ []) [] no_attrs a b oa ob (x.withdrawal high (omega (arith, most))) (y.withdrawal high (omega (arith, most)))
+    | inl most ↦ routes_one (peer_key (peer_of w)) InPre (prefix_of w ∷ []) [] no_attributes a b oa ob (x.withdrawal high (omega (arith, most))) (y.withdrawal high (omega (arith, most)))
     | inr least ↦ routes_one (peer_key (peer_of w)) InPre [] (prefix_of w ∷ []) (attrs_of w) a b oa ob (x.announcement least) (y.announcement least)
   ]
 ]

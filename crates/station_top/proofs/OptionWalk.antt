@@ -6,7 +6,7 @@ use Rattle.std.specs.List.{after_first, before_first, list_any, position_or_len}
 use Rattle.std.specs.Str.{bytes_eq, chars}
 use Rattle.std.proofs.lemmas.Slice.Eq.{bytes_eq-Decides}
 use Rattle.clap.specs.Walk.{Held, Row, Rule, Text, Waiting, Walk, arg_by_id, arg_by_index, arg_by_long, arg_by_short, has_row, idle, option, settled, walked, with_values, without, at_row, bundle_met, used, more_values}
-use Rattle.clap.specs.Simple.{Shape, new_shape, filled_from, filled}
+use Rattle.clap.specs.Simple.{Shape, new_shape, filled}
 use Rattle.clap.specs.Faults.{flags_fault, walk_fault, settle_fault, turn_fault, use_fault}
 use Rattle.clap.specs.Kinds.{Kinds, or_else}
 use Rattle.clap.specs.declared.error.kind.ErrorKind.TheVariants as kind
@@ -28,11 +28,6 @@ ready_flag = filled flag_rule
 
 abbrev pub rules : List (List ℕ × Bool) → List Rule
 rules names = map ready names ++ ready_flag ∷ []
-
--- positions are given to none
-pub filled_options : (names : List (List ℕ × Bool)) → filled_from 1 (map option_rule names ++ flag_rule ∷ []) ≡ rules names
-filled_options [] = refl
-filled_options (n ∷ ns) = ap (λ (l : List Rule). ready n ∷ l) (filled_options ns)
 
 pub by_index : (names : List (List ℕ × Bool)) (i : ℕ) → arg_by_index (rules names) i ≡ None
 by_index [] i = refl
@@ -111,9 +106,6 @@ use_once n value rows passes = go (has_row n.0 rows) refl
     go : (b : Bool) → has_row n.0 rows ≡ b → has_row n.0 rows ≡ false
     go true e = let p = rw e at passes in cc p
     go false e = e
-
-pub use_empty : (n : List ℕ × Bool) (rows : List Row) → use_fault false (ready n) [] rows ≡ kind.InvalidValue ∷ []
-use_empty n rows = refl
 
 -- the same of the flag
 pub flag_used : (rows : List Row) → has_row flag_name rows ≡ false → used ready_flag [] rows ≡ rows ++ row flag_name [] ∷ []

@@ -1,7 +1,6 @@
 -- What `recall` comes to, from what its steps say.
-use Rattle.std.proofs.Common.{◌≡◌, ℕ, List, [], ◌∷◌, ◌++◌, Option, Some, None, Result, Ok, Err, refl, sym, ap, ◌∙◌, subst, inl}
+use Rattle.std.proofs.Common.{◌≡◌, ℕ, List, [], ◌∷◌, ◌++◌, Option, Some, None, Result, Ok, Err, refl, ap, ◌∙◌, subst, inl}
 use Rattle.std.specs.Prelude.{OnOk, OnErr, IfOk}
-use Rattle.bmp_specs.specs.declared.causes.Cause.{Cause}
 use Rattle.bmp_specs.specs.declared.causes.Cause.TheVariants as cause
 use Rattle.bmp_specs.specs.Lines.{stop_line}
 use Rattle.bmp_specs.specs.Meaning.{Meaning}
@@ -20,7 +19,7 @@ use Rattle.station_top.specs.Station.{IsStopped}
 use Rattle.station_top.specs.Status.{status_of}
 use Rattle.station_top.specs.Take.{TakesInput}
 use Rattle.station_top.specs.declared.status.Status.{Status}
-use Rattle.station_top.specs.declared.status.Status.TheVariants.{NoMemory, WriteFault, YardFault}
+use Rattle.station_top.specs.declared.status.Status.TheVariants.{NoMemory, WriteFault}
 use Rattle.station_top.specs.declared.take.Taken.{Taken}
 use Rattle.station_top.proofs.Concluding.{is_written}
 
@@ -69,16 +68,3 @@ module _ {O : Type 0} {faults : O → ℕ} {told : O → Option (List ℕ)} {asi
 -- there was no memory
 pub recall_starved : (meaning : Meaning) (Replies : List EntryValue → List ℕ → Type 0) (content : List ℕ) (told : Option (List ℕ)) → RecallAnswers meaning Replies content told told NoMemory
 recall_starved meaning Replies content told = record { meant = NoMemory; text = []; means = unrecalled; written = inl (refl, appends_none told) }
-
--- no cause has the status of a yard that failed
-no_yard_fault : (cause : Cause) → status_of cause ≡ YardFault → ⊥
-no_yard_fault cause.Ended is = cc is
-no_yard_fault cause.Terminated is = cc is
-no_yard_fault (cause.CutShort offset) is = cc is
-no_yard_fault (cause.Broken offset why) is = cc is
-no_yard_fault (cause.ReadFault offset) is = cc is
-no_yard_fault cause.Full is = cc is
-
-pub no_fault_of_yard : (cause : Cause) (r : Result (Unit {0}) Failed) (status : Status) → OnOk r (status ≡ status_of cause) → OnErr r (status ≡ WriteFault) → status ≡ YardFault → ⊥
-no_fault_of_yard cause (Ok u) status fine fault is = no_yard_fault cause (sym fine ∙ is)
-no_fault_of_yard cause (Err e) status fine fault is = cc (fault, is)

@@ -1,7 +1,7 @@
 -- What a buffer and the sink below it have together.
-use Rattle.std.proofs.Common.{◌≡◌, ℕ, ◌+◌, ◌≤◌, length, take, drop, List, [], ◌∷◌, ◌++◌, Option, None, Some, Result, Ok, Err, refl, ap, sym, ◌∙◌, subst, append_assoc, append-nil, length-take, arith}
+use Rattle.std.proofs.Common.{◌≡◌, ℕ, ◌+◌, take, drop, List, [], ◌∷◌, ◌++◌, Option, None, Some, Result, Ok, Err, refl, ap, sym, ◌∙◌, subst, append_assoc, append-nil}
 use Rattle.std.specs.Prelude.{IsOk, OnOk}
-use Rattle.std.proofs.lemmas.List.{take-append-drop, drop-drop, append_cancel_left, drop-append-le}
+use Rattle.std.proofs.lemmas.List.{take-append-drop, drop-drop, append_cancel_left}
 use Rattle.std.specs.Io.KnownBytes.{Appends, Keeps, append_known}
 use Rattle.wire_io.specs.declared.sink.Failed.{Failed}
 use Rattle.wire_io.specs.Aside.{Aside, laid_over}
@@ -27,20 +27,8 @@ pours_more a b c bytes start at n p q = record {
 pub pours_still : (a b c : Option (List ℕ)) (bytes : List ℕ) (start at : ℕ) → Pours a b bytes start at → Keeps b c → Pours a c bytes start at
 pours_still a b c bytes start at p k = record { written = p.written; split = p.split; grown = subst (λ (l : List ℕ). Appends a c l) (append-nil p.written) (appends_then a b c p.written [] p.grown (keeps_appends b c k)) }
 
--- what the two have together stays
-pub poured_same : (a b : Option (List ℕ)) (bytes : List ℕ) (start at : ℕ) → Pours a b bytes start at → Keeps (append_known a (drop start bytes)) (append_known b (drop at bytes))
-poured_same None b bytes start at p = tt
-poured_same (Some xs) None bytes start at p = absurd p.grown
-poured_same (Some xs) (Some ys) bytes start at p = ap (λ (l : List ℕ). l ++ drop at bytes) p.grown ∙ append_assoc xs p.written (drop at bytes) ∙ ap (λ (l : List ℕ). xs ++ l) (sym p.split)
-
 pub extends_then : (base a b : Option (List ℕ)) (bytes : List ℕ) (start at : ℕ) → Extends base a → Pours a b bytes start at → Extends base b
 extends_then base a b bytes start at e p = record { written = e.written ++ p.written; grown = appends_then base a b e.written p.written e.grown p.grown }
-
--- bytes that are held are told
-pub held_more : (a b : Option (List ℕ)) (old held piece : List ℕ) → Keeps (append_known a old) (append_known b held) → Appends (append_known a old) (append_known b (held ++ piece)) piece
-held_more None b old held piece k = tt
-held_more (Some xs) None old held piece k = absurd k
-held_more (Some xs) (Some ys) old held piece k = sym (append_assoc ys held piece) ∙ ap (λ (l : List ℕ). l ++ piece) k
 
 -- what is written below is a front of what the two have together
 front_below : (a b : Option (List ℕ)) (held text : List ℕ) → Extends a b → AppendsFront (append_known a []) text (append_known b held) → AppendsFront a text b
@@ -70,9 +58,6 @@ module _ {O : Type 0} (faults : O → ℕ) (told : O → Option (List ℕ)) (asi
       both : (r : Result (Unit {0}) Failed) → OnOk r (held ≡ []) → OnOk r (Appends (append_known (told old) []) (append_known (told new) held) text) → OnOk r (Appends (told old) (told new) text)
       both (Ok u) p q = all_below (told old) (told new) held text q p
       both (Err d) p q = tt
-
-pub keeps_held : (bytes new piece : List ℕ) (start len n : ℕ) → start ≤ len → len ≤ length bytes → take (len + n) new ≡ take len bytes ++ piece → drop start (take (len + n) new) ≡ drop start (take len bytes) ++ piece
-keeps_held bytes new piece start len n h k e = ap (λ (l : List ℕ). drop start l) e ∙ drop-append-le start (take len bytes) piece (omega (arith, length-take len bytes))
 
 -- what was written whole stays written, where nothing but what is held was handed on
 module _ {O : Type 0} {faults : O → ℕ} {told : O → Option (List ℕ)} {aside : O → Aside} where
