@@ -34,9 +34,6 @@ pub record ServesSome (lanes : ℕ) (seen seen' : History) (aside aside' : Aside
   pub serves : Serves lanes seen seen' aside aside' told told' writes writes' sessions
   pub count_is : count ≡ length sessions
 
-pub serves_none : (lanes : ℕ) (seen : History) (aside : Aside) (told : Option (List ℕ)) (writes : ℕ) → ServesSome lanes seen seen aside aside told told writes writes 0
-serves_none lanes seen aside told writes = record { sessions = []; serves = (refl, refl, keeps_self told, refl); count_is = refl }
-
 -- one more, after which what is told stays
 pub record Adds (lanes : ℕ) (seen1 seen2 : History) (aside1 aside2 : Aside) (told1 told2 : Option (List ℕ)) (writes1 writes2 : ℕ) (s : Session) : Type 0 where
   pub sees : Begins seen1 s.seen

@@ -1,5 +1,5 @@
 -- One capability after another, and one parameter after another, as the loops read them.
-use Rattle.std.proofs.Common.{◌≡◌, ◌<◌, ◌≤◌, ℕ, Bool, true, false, cond, List, [], ◌∷◌, ◌++◌, length, take, drop, get_or, Option, Some, None, refl, sym, ap, subst, ◌∙◌, append_assoc, append-nil, arith}
+use Rattle.std.proofs.Common.{◌≡◌, ◌<◌, ℕ, Bool, true, false, cond, List, [], ◌∷◌, ◌++◌, length, Option, Some, None, refl, sym, ap, subst, ◌∙◌, append_assoc, append-nil}
 use Rattle.std.specs.Prelude.{find, option_to_list, if◌then◌else◌}
 use Rattle.std.proofs.lemmas.List.Concat.{flat_map-append}
 use Rattle.std.proofs.lemmas.List.Elements.{filter_map-append}
@@ -8,26 +8,15 @@ use Rattle.std.specs.List.{cons_option, filter_map, flat_map}
 use Rattle.std.specs.Option.{option_map, option_or}
 use Rattle.byteorder.specs.Endian.{big_number}
 use Rattle.bmp_specs.specs.Coded.{IsCoded}
-use Rattle.bmp_specs.specs.Open.{Announces, IsParameter, entries, family_in, has_extended_length, is_four_octet, paths_in}
+use Rattle.bmp_specs.specs.Open.{IsParameter, family_in, has_extended_length, is_four_octet, paths_in}
 use Rattle.bmp_specs.specs.Parts.{AreParts}
 use Rattle.bmp_specs.specs.Sequence.{HasFront}
-use Rattle.bmp_specs.specs.Values.{CapValue, CodedValue, OpenValue}
+use Rattle.bmp_specs.specs.Values.{CapValue, CodedValue}
 use Rattle.bmp_specs.proofs.CodedCode.{coded_code}
 use Rattle.bmp_specs.proofs.OpenOne.{parameter_code}
 use Rattle.bmp_specs.proofs.PartsRead.{HasRead, HasRead-front, HasRead-none, HasRead-end}
 use Rattle.bgp_open.specs.Telling.{Adds, AddsParameters, HasCapabilities, Tells, TellsRest}
 use Rattle.bgp_open.specs.declared.read.Announced.{Announced}
-
--- the entry in four bytes
-abbrev pub entry_of : List ℕ → CapValue
-entry_of bytes = record { afi = big_number 2 bytes; safi = get_or bytes 2 0; value = get_or bytes 3 0 }
-
-pub entries_more : (bytes : List ℕ) → 4 ≤ length bytes → entries bytes ≡ entry_of (take 4 bytes) ∷ entries (drop 4 bytes)
-entries_more (a ∷ b ∷ c ∷ d ∷ bytes) long = refl
-entries_more (a ∷ b ∷ c ∷ []) long = absurd (omega arith)
-entries_more (a ∷ b ∷ []) long = absurd (omega arith)
-entries_more (a ∷ []) long = absurd (omega arith)
-entries_more [] long = absurd (omega arith)
 
 -- one AS number, where the capability has it
 four_single : (c : CodedValue) (b : Bool) → option_map (λ (d : CodedValue). big_number 4 d.value) (cond b (Some c) None) ≡ cond b (Some (big_number 4 c.value)) None
@@ -128,10 +117,6 @@ parameter_broken bytes rest after first now c p left (front, split, is) none lis
 
 pub parameters_end : (bytes rest : List ℕ) (first now : Announced) → ReadsParameters bytes rest first now → length rest ≡ 0 → AddsParameters bytes first now
 parameters_end bytes rest first now p empty = record { lists = p.lists; are = HasRead-end IsParameter bytes p.lists rest p.read empty; adds = p.adds }
-
--- what was read of the parameters is what the body of an OPEN says
-announces : (cs : List CodedValue) (a : Announced) (o : OpenValue) → Tells cs a → o.four ≡ a.four → o.families ≡ a.families → o.paths ≡ a.paths → Announces cs o
-announces cs a o t four families paths = record { four_is = four ∙ t.four_is; families_are = families ∙ t.families_are; paths_are = paths ∙ t.paths_are }
 
 -- what was added to nothing is what the rest of the body announces
 pub rest_told : (stated : ℕ) (rest : List ℕ) (first now : Announced) → has_extended_length stated rest ≡ false → length rest ≡ stated → Tells [] first → AddsParameters rest first now → TellsRest stated rest now

@@ -2,7 +2,7 @@
 use Rattle.std.proofs.Common.{◌≡◌, ℕ, Bool, true, false, not, ◌&&◌, inl, inr, List, refl, sym, ap, subst, ◌∙◌}
 use Rattle.bmp_specs.specs.declared.wire.Width.{Width}
 use Rattle.bmp_specs.specs.PeerHeader.{HeaderValue}
-use Rattle.bmp_specs.specs.UpdateForms.{FitsWidth, Takes, departs, may_have_two_octets, width_in}
+use Rattle.bmp_specs.specs.UpdateForms.{FitsWidth, Takes, departs, width_in}
 use Rattle.bmp_specs.specs.Values.{OpensValue}
 use Rattle.path_attrs.specs.Framed.{HasValueIn}
 
@@ -45,8 +45,3 @@ module _ (opens : OpensValue) (h : HeaderValue) (field : List ℕ) where
   has_in width nonzero two_octets w n p =
       let there : HasValueIn (width_in opens h two_octets) field (departs opens h two_octets) = record { read = p.read; are = p.are; no_zero = p.no_zero } in
       subst (λ (x : Width). HasValueIn x field nonzero) (sym w) (subst (λ (x : Bool). HasValueIn (width_in opens h two_octets) field x) (sym n) there)
-
-  -- where two octets aren't tried both forms are one
-  never : (two_octets : Bool) → may_have_two_octets opens h ≡ false → departs opens h two_octets ≡ false
-  never true e = e
-  never false e = refl

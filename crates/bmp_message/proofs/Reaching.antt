@@ -1,7 +1,6 @@
 -- How far a walk by pieces has come, call by call.
 use Rattle.std.proofs.Math.Dec.{eqb-suc-zero}
 use Rattle.std.proofs.Common.{if◌then◌else◌, ◌≡◌, ℕ, zero, suc, ◌+◌, true, false, Bool, List, [], ◌∷◌, ◌++◌, length, refl, sym, ap, ◌∙◌, subst, append_assoc, arith, eqb, length-append}
-use Rattle.bmp_message.specs.declared.walk.Progress.TheVariants as progress
 use Rattle.std.proofs.lemmas.List.{get_or_append_left, nil_from_length}
 use Rattle.bmp_specs.specs.declared.causes.Why.{Why}
 use Rattle.bmp_specs.specs.declared.causes.Why.TheVariants.{Version, Length, Body}

@@ -1,4 +1,4 @@
--- No code, length and value begins another, and where one stands.
+-- No code, length and value begins another.
 use Rattle.std.proofs.Common.{◌≡◌, ℕ, ◌+◌, List, ◌++◌, length, drop, get_or, sym, ap, ◌∙◌, arith}
 use Rattle.std.proofs.lemmas.List.{get_or_append_left}
 use Rattle.bmp_specs.specs.Coded.{IsCoded}

@@ -49,7 +49,7 @@ uncounted_kept len es e u =
 pub uncounted_kept_by_all : (len : ℕ) (es more : List EffectValue) → AllByRecursion IsUncounted more → message_counts len (es ++ more) ≡ message_counts len es
 uncounted_kept_by_all len es more all = same_by_all IsUncounted (message_counts len) (uncounted_kept len) es more all
 
--- and of a list of them
+-- the counts of two lists of effects, one after the other
 pub orphans_append : (es more : List EffectValue) → count_by is_orphan (es ++ more) ≡ count_by is_orphan es + count_by is_orphan more
 orphans_append = sum_by-append (λ d. cond (is_orphan d) 1 0)
 

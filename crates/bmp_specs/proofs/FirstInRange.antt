@@ -17,7 +17,7 @@ and_true : (b : Bool) → (b && true) ≡ b
 and_true true = refl
 and_true false = refl
 
--- and the pairs of one
+-- the pairs of a range that has no end
 pub between-after : {K X : Type 0} (cmp : K → K → Ordering) (k : K) (es : List (K × X)) → entries_between cmp (Excluded k) Unbounded es ≡ filter (λ e. is_lt (cmp k e.0)) es
 between-after cmp k es = λ i. filter (λ e. and_true (is_lt (cmp k e.0)) i) es
 

@@ -1,5 +1,5 @@
 -- Where a strict walk doesn't break at a body, a lenient one of the same bytes leaves the same of every peer that is no
--- Loc-RIB, and counts the same messages.
+-- Loc-RIB.
 use Rattle.std.proofs.Common.{◌≡◌, ◌↔◌, ◌⊎◌, ℕ, inl, inr, List, [], ◌∷◌, ◌++◌, length, flat_map, refl, sym, ap, ◌∙◌, subst, append-nil, append_assoc, arith}
 use Rattle.std.specs.List.{AllByRecursion}
 use mathlib.Core.Logic.Iff.{trans as then_iff}

@@ -1,6 +1,6 @@
--- Replies: each query has one on a history; and the reply of `table` on one lane.
-use Rattle.std.proofs.Common.{◌≡◌, ℕ, zero, suc, ◌<◌, Bool, true, false, List, [], ◌∷◌, ◌++◌, length, map, refl, sym, ◌∙◌, ap, arith}
-use Rattle.std.specs.Prelude.{MatchBool, flat_map, sum_by, slice_index_or, nat_lt, ◌==◌, max}
+-- Replies: each query has one on a history.
+use Rattle.std.proofs.Common.{◌≡◌, ℕ, suc, Bool, true, false, List, [], ◌∷◌, ◌++◌, length, map, refl, sym, ◌∙◌, ap, arith}
+use Rattle.std.specs.Prelude.{MatchBool, flat_map, sum_by, nat_lt, ◌==◌, max}
 use Rattle.std.specs.Ordering.{nat_cmp}
 use Rattle.std.specs.Cmp.{IsTotalOrder}
 use Rattle.std.proofs.lemmas.Cmp.{nat_cmp_total, on_total, then_total}
@@ -25,15 +25,6 @@ use Rattle.bmp_specs.specs.TableRows.{AreRows}
 use Rattle.bmp_specs.specs.Values.{EntryValue, KeyValue, PrefixValue}
 use Rattle.bmp_specs.proofs.ListedOne.{all_one, rows_one}
 use Rattle.bmp_specs.proofs.OrderLaws.{key_total, view_total, family_total, kind_total}
-
--- one lane
-module _ (query : QueryValue) (entries : List EntryValue) (lines : List (List ℕ)) where
-  one_part : AreLaneLines query 0 entries lines → AreParallel (AreLaneLines query) (entries ∷ []) (lines ∷ [])
-  one_part h = record { count = refl; each = each }
-    where
-      each : (k : ℕ) (a : List EntryValue) (b : List (List ℕ)) → k < 1 → AreLaneLines query k (slice_index_or (entries ∷ []) k a) (slice_index_or (lines ∷ []) k b)
-      each zero a b small = h
-      each (suc k) a b small = absurd (omega arith)
 
 -- parts that each item determines are one list
 parallel_one : {A B : Type 0} (Fits : ℕ → A → B → Type 0) → ((k : ℕ) (a : A) (b c : B) → Fits k a b → Fits k a c → b ≡ c) → (items : List A) (ps qs : List B) → AreParallel Fits items ps → AreParallel Fits items qs → ps ≡ qs

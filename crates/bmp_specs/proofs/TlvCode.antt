@@ -1,9 +1,7 @@
--- No TLV begins another, and where one stands.
-use Rattle.std.proofs.Common.{◌≡◌, ℕ, ◌+◌, ◌≤◌, List, ◌++◌, length, drop, refl, sym, ap, ◌∙◌, arith}
+-- No TLV begins another.
+use Rattle.std.proofs.Common.{◌≡◌, ℕ, ◌+◌, List, ◌++◌, length, drop, sym, ap, ◌∙◌, arith}
 use Rattle.byteorder.specs.Endian.{big_number}
-use Rattle.byteorder.specs.Numbers.{big_from-append}
 use Rattle.bmp_specs.specs.Parts.{IsCode}
-use Rattle.bmp_specs.specs.Sequence.{HasFront}
 use Rattle.bmp_specs.specs.Tlv.{IsTlv, AreTlvs}
 use Rattle.bmp_specs.specs.Values.{TlvValue}
 use Rattle.bmp_specs.proofs.PartsRead.{AreParts-one}
@@ -26,11 +24,3 @@ tlv_code = record { some = λ v p. omega (arith, p.header); one = tlv_one }
 
 pub AreTlvs-one : (bytes : List ℕ) (ts us : List TlvValue) → AreTlvs bytes ts → AreTlvs bytes us → ts ≡ us
 AreTlvs-one bytes ts us p q = AreParts-one IsTlv tlv_code bytes ts us p q
-
--- what was split off by the length of its value is one
-pub tlv_here : (bytes front rest : List ℕ) → bytes ≡ front ++ rest → 4 ≤ length front → length front ≡ big_number 2 (drop 2 bytes) + 4
-    → HasFront IsTlv bytes (record { kind = big_number 2 bytes; value = drop 4 front }) rest
-tlv_here bytes front rest split long size =
-    let kind : big_number 2 front ≡ big_number 2 bytes = sym (big_from-append 2 front rest (omega (arith, long))) ∙ ap (λ (l : List ℕ). big_number 2 l) (sym split) in
-    let stated : big_number 2 (drop 2 front) ≡ big_number 2 (drop 2 bytes) = sym (big_number-drop-append 2 2 front rest long) ∙ ap (λ (l : List ℕ). big_number 2 (drop 2 l)) (sym split) in
-    (front, record { joined = split }, record { header = long; kind_is = kind; length_is = ap (λ (n : ℕ). n + 4) stated ∙ sym size; value_is = refl })

@@ -15,7 +15,7 @@ use Rattle.bmp_specs.specs.Parts.{AreParts}
 use Rattle.bmp_specs.specs.Values.{CapValue, CodedValue, OpenValue}
 use Rattle.bmp_specs.proofs.PartsJoined.{parts_join}
 use Rattle.bmp_writer.specs.Written.{Appends}
-use Rattle.bmp_writer.specs.Capabilities.{AreCapabilities, HasEntries, IsAsCapability, IsFamilyCapability, IsPathCapability, IsPathEntry, as_bytes, as_family, as_size, entry_bytes, family_bytes, paths_size}
+use Rattle.bmp_writer.specs.Capabilities.{AreCapabilities, HasEntries, IsAsCapability, IsFamilyCapability, IsPathCapability, IsPathEntry, as_family, as_size, entry_bytes, family_bytes, paths_size}
 use Rattle.bmp_writer.proofs.Still.{three_pieces}
 
 abbrev pub number_in : CodedValue → ℕ
@@ -34,14 +34,6 @@ pub entry_is : (cap : CapValue) → cap.afi < 65536 → IsPathEntry (entry_bytes
 entry_is cap fits = record {
   len = refl;
   entry_is = ap (λ (n : ℕ). record { afi = n; safi = cap.safi; value = cap.value } ∷ []) (big_number-reads_back 2 cap.afi [] fits);
-}
-
-pub as_is : (asn : ℕ) → asn < 4294967296 → IsAsCapability (Some asn) (as_bytes asn)
-as_is asn fits = record {
-  value = big_bytes 4 asn;
-  is = record { header = omega arith; code_is = refl; length_is = refl; value_is = refl };
-  len = refl;
-  asn_is = big_number-reads_back 4 asn [] fits;
 }
 
 -- bytes that are capabilities, and what they announce

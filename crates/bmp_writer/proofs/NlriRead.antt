@@ -1,8 +1,6 @@
 -- Prefixes that are written are read as they were.
 use Rattle.std.proofs.Common.{◌≡◌, ℕ, zero, suc, ◌+◌, ◌-◌, ◌<◌, ◌≤◌, List, [], ◌∷◌, ◌++◌, length, take, drop, replicate, get_or, Option, Some, None, refl, sym, ap, subst, ◌∙◌, append_assoc, arith, length-append, length-drop, length-take}
-use Rattle.std.specs.Prelude.{sum_by}
-use Rattle.std.proofs.lemmas.List.{take_more}
-use Rattle.std.proofs.lemmas.List.Sums.{sum_by-cons, sum_by_push}
+use Rattle.std.proofs.lemmas.List.Sums.{sum_by-cons}
 use Rattle.bmp_specs.specs.Address.{IsAddressPrefix}
 use Rattle.bmp_specs.specs.declared.wire.Family.{Family}
 use Rattle.bmp_specs.specs.Prefix.{IsPrefix, bytes_for, first_bits, high_bits, padded}
@@ -65,8 +63,3 @@ pub nlris_length : (ns : List NlriValue) (bytes : List ℕ) → AreOwnNlri ns by
 nlris_length [] bytes p = ap (λ (l : List ℕ). length l) p
 nlris_length (n ∷ ns) bytes (front, rest, split, is, p) =
     omega (arith, ap (λ (l : List ℕ). length l) split.joined, length-append front rest, with_id_length n.prefix n.id front is, nlris_length ns rest p, sum_by-cons nlri_size n ns)
-
--- the sum with one item more
-pub sum_more : {V : Type 0} (f : V → ℕ) (vs : List V) (i : ℕ) (d v : V) → i < length vs → v ≡ get_or vs i d → sum_by f (take (i + 1) vs) ≡ sum_by f (take i vs) + f v
-sum_more {V} f vs i d v lt item =
-    ap (λ (l : List V). sum_by f l) (take_more vs i d lt ∙ ap (λ (w : V). take i vs ++ w ∷ []) (sym item)) ∙ sum_by_push f (take i vs) v

@@ -1,34 +1,15 @@
 -- Headers and an UPDATE message are a Route Monitoring message.
-use Rattle.std.proofs.Common.{◌≡◌, ℕ, ◌+◌, ◌==◌, ◌≤◌, eqb-true, if◌then◌else◌, Bool, true, false, List, [], ◌∷◌, ◌++◌, length, Option, Some, None, refl, sym, ap, subst, ◌∙◌, append_assoc, arith, length-append}
+use Rattle.std.proofs.Common.{◌≡◌, ℕ, ◌+◌, ◌≤◌, List, [], ◌++◌, length, sym, ap, subst, ◌∙◌, append_assoc, arith, length-append}
 use Rattle.bmp_specs.specs.declared.peers.View.{View}
 use Rattle.bmp_specs.specs.declared.wire.Family.{Family}
-use Rattle.bmp_specs.specs.declared.wire.Family.TheVariants.{V4, V6}
 use Rattle.bmp_specs.specs.Values.{AttrsValue, KeyValue, NlriValue}
 use Rattle.bmp_writer.specs.PeerMessage.{HasPlainHeader}
 use Rattle.bmp_writer.specs.Written.{Appends}
-use Rattle.bmp_writer.specs.WrittenAttributes.{HasHop}
 use Rattle.bmp_writer.specs.WrittenRoutes.{CanCarryRoutes, IsHeadersOf, IsRoutesMessage, family_of, routes_size}
-use Rattle.bmp_writer.specs.WrittenUpdate.{IsField, IsUpdateOf, PlacesValue, is_plain, places, told_of, update_size}
+use Rattle.bmp_writer.specs.WrittenUpdate.{IsField, IsUpdateOf, PlacesValue, places, update_size}
 use Rattle.bmp_writer.proofs.Frames.{frame_here, frame_length, header_bytes}
 use Rattle.bmp_writer.proofs.Peers.{plain_appended}
 use Rattle.bmp_writer.proofs.Still.{two_pieces}
-
-hop_told : (family : Family) (announced : List NlriValue) (attrs : AttrsValue) → HasHop (told_of (is_plain family attrs.hop) announced attrs).hop
-hop_told family [] attrs = tt
-hop_told family (n ∷ ns) attrs = go family attrs.hop
-  where
-    four : (b : Bool) (hop : List ℕ) → b ≡ (length hop == 4) → HasHop (if b then Some hop else None)
-    four true hop e = eqb-true (length hop) 4 (sym e)
-    four false hop e = tt
-
-    none : (b : Bool) → HasHop (if b then None else None)
-    none true = tt
-    none false = tt
-
-    go : (f : Family) (hop : Option (List ℕ)) → HasHop (if is_plain f hop then hop else None)
-    go V4 None = tt
-    go V4 (Some hop) = four (length hop == 4) hop refl
-    go V6 hop = tt
 
 -- what was put into an empty room is the field
 pub whole_field : (family : Family) (p : PlacesValue) (empty mid field : List ℕ) → empty ≡ [] → field ≡ mid → Appends (IsField family p) empty mid → IsField family p field

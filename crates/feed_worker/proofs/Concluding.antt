@@ -7,9 +7,9 @@ use Rattle.bmp_specs.specs.Meaning.{Meaning}
 use Rattle.bmp_specs.specs.Values.{opened, closed}
 use Rattle.cut_publisher.specs.History.{Fed}
 use Rattle.rib_model.specs.declared.entry.Entry.{Entry}
-use Rattle.station_doors.specs.Doors.{Closes, GivesNext, Opens, opened_one}
-use Rattle.wire_io.specs.Aside.{Aside, fresh}
-use Rattle.feed_worker.specs.Connection.{EndsFresh, IsNew, TakesConnection}
+use Rattle.station_doors.specs.Doors.{Closes, GivesNext, opened_one}
+use Rattle.wire_io.specs.Aside.{Aside}
+use Rattle.feed_worker.specs.Connection.{EndsFresh, TakesConnection}
 use Rattle.feed_worker.specs.Feed.{Concludes, IsBegunOf, IsLifeOf}
 use Rattle.feed_worker.specs.Publishing.{Grows}
 use Rattle.feed_worker.proofs.Growing.{grows_then, grows_count}
@@ -24,9 +24,6 @@ both_answers (Err e) m f h = h e m
 opened_fresh : (a b : Option (List Given)) → GivesNext a b opened_one → EndsFresh b
 opened_fresh None b p = subst EndsFresh (sym p) tt
 opened_fresh (Some gs) b p = subst EndsFresh (sym p) (gs, refl)
-
-pub is_new : (a b : Aside) → Opens a b opened_one → IsNew b
-is_new a b o = record { is_open = o.is_open; none = o.taken; fresh = opened_fresh a.given b.given o.given }
 
 module _ (meaning : Meaning) (a b : Aside) (pass0 pass : Fed Entry) (cause : Cause) (t : TakesConnection meaning a b pass0 pass cause) where
   -- there is room for the closing

@@ -10,7 +10,7 @@ use Rattle.station_doors.specs.Doors.{Opens, opened_one}
 use Rattle.wire_io.specs.Aside.{Aside}
 use Rattle.feed_worker.specs.Feed.{Connection, Concludes, IsBegunOf, IsLifeOf, FewRoundsFit, HaveRoom, Refuses, Serves, ServesSome, Stops, Visits, most_entries, lives_of}
 use Rattle.feed_worker.specs.Publishing.{Grows}
-use Rattle.feed_worker.proofs.Growing.{grows_none, grows_then, grows_count}
+use Rattle.feed_worker.proofs.Growing.{grows_then, grows_count}
 use Rattle.feed_worker.proofs.Lengths.{few_messages}
 use Rattle.bmp_specs.specs.Life.{IsLife}
 
@@ -21,9 +21,6 @@ pub record ServesSoMany (meaning : Meaning) (old new : Aside) (pass pass' : Fed 
   pub count_is : count ≡ length connections
   pub room : HaveRoom (length pass.entries) connections
   pub grows : Grows pass pass' (lives_of connections)
-
-pub serves_none : (meaning : Meaning) (a : Aside) (pass : Fed Entry) → ServesSoMany meaning a a pass pass 0
-serves_none meaning a pass = record { connections = []; serves = refl; count_is = refl; room = tt; grows = grows_none pass }
 
 lives_push : (cs : List Connection) (c : Connection) → lives_of (cs ++ c ∷ []) ≡ lives_of cs ++ c.life
 lives_push [] c = append-nil c.life

@@ -1,5 +1,5 @@
 -- A connection that is taken to its end and published, read by read.
-use Rattle.std.proofs.Common.{◌≡◌, ◌≢◌, inl, inr, ℕ, ◌+◌, ◌<◌, ◌≤◌, ◌^◌, length, take, List, [], ◌∷◌, ◌++◌, Some, None, Ok, Err, refl, sym, ◌∙◌, subst, append-nil, length-take, arith}
+use Rattle.std.proofs.Common.{◌≡◌, ◌≢◌, inl, inr, ℕ, ◌+◌, ◌<◌, ◌≤◌, length, take, List, [], ◌∷◌, ◌++◌, Some, None, Ok, Err, refl, sym, ◌∙◌, subst, append-nil, length-take, arith}
 use Rattle.bmp_specs.specs.declared.causes.Cause.{Cause}
 use Rattle.bmp_specs.specs.declared.causes.Cause.TheVariants.{ReadFault, Full}
 use Rattle.bmp_specs.proofs.Fronts.{read_no_further}
@@ -19,7 +19,7 @@ use Rattle.wire_io.specs.Aside.{Aside}
 use Rattle.feed_worker.specs.Connection.{IsNew, TakesConnection, BreaksConnection}
 use Rattle.feed_worker.specs.FeedPort.{IsPublishedWhereTold}
 use Rattle.feed_worker.specs.Publishing.{Grows}
-use Rattle.feed_worker.specs.Walking.{HasPublished, HasRoom, Publishes}
+use Rattle.feed_worker.specs.Walking.{HasPublished, Publishes}
 use Rattle.feed_worker.proofs.Ports.{Goes, goes_none, goes_more, takes_going, takes_end, takes_fault, published_told}
 use Rattle.feed_worker.proofs.Growing.{grows_none, grows_values}
 
@@ -70,9 +70,6 @@ module _ {B : Type 0} (meaning : Meaning) (state : B → meaning.State) (a0 a : 
     walk = t.published.given.walks;
     is = grows_values pass0 pass (opened ∷ t.published.messages) t.published.grows;
   })
-
-  pub has_room : (m : ℕ) → length pass0.entries + 2 ^ 44 ≤ 2 ^ 57 → n + m ≤ most_taken → HasRoom meaning state pass walk m
-  has_room m room within = record { first = pass0; room = room; fed = t.bytes; within = omega (arith, within, t.goes.count); published = t.published }
 
   -- a read gave none
   pub ends : (b : Aside) (buf : List ℕ) (cause : Cause) → Reads a b (Ok 0) buf → 0 < length buf → n < most_taken → cause ≡ cause_at_end (rest_of walk) walk.offset → TakesConnection meaning a0 b pass0 pass cause

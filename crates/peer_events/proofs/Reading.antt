@@ -9,7 +9,7 @@ use Rattle.bmp_specs.specs.Sequence.{HasFront}
 use Rattle.bmp_specs.specs.Statistics.{statistic_of}
 use Rattle.bmp_specs.specs.Tlv.{AreTlvs, IsTlv, last_value, values_of}
 use Rattle.bmp_specs.specs.Values.{StatValue, TlvValue}
-use Rattle.bmp_specs.proofs.PartsRead.{HasRead, HasRead-nil, HasRead-front, HasRead-none, HasRead-end, HasRead-only}
+use Rattle.bmp_specs.proofs.PartsRead.{HasRead, HasRead-front, HasRead-none, HasRead-end, HasRead-only}
 use Rattle.bmp_specs.proofs.TlvCode.{tlv_code}
 
 tlvs_more : (bytes rest after : List ℕ) (ts : List TlvValue) (t : TlvValue) → HasRead IsTlv bytes ts rest → HasFront IsTlv rest t after → HasRead IsTlv bytes (ts ++ t ∷ []) after
@@ -70,9 +70,6 @@ pub record HasCount (test : TlvValue → Bool) (bytes rest : List ℕ) (count : 
   pub read : HasRead IsTlv bytes ts rest
   pub is : count ≡ count_by test ts
   pub within : count + length rest ≤ length bytes
-
-pub count_first : (test : TlvValue → Bool) (bytes : List ℕ) → HasCount test bytes bytes 0
-count_first test bytes = record { ts = []; read = HasRead-nil IsTlv bytes; is = refl; within = omega arith }
 
 one_at_most : (b : Bool) → cond b 1 0 ≤ 1
 one_at_most true = omega arith

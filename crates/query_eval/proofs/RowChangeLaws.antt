@@ -5,7 +5,7 @@ use Rattle.std.specs.declared.cmp.Ordering.TheVariants.{Less}
 use Rattle.std.specs.Ordering.{nat_cmp}
 use Rattle.std.specs.List.{AllByRecursion, Contains}
 use Rattle.std.specs.List.Sorted.{IsStrictlySortedBy}
-use Rattle.std.proofs.lemmas.Bool.{cases_eq, cond_both, false≢true, ltb-true, ltb-false, lt-ltb, le-ltb}
+use Rattle.std.proofs.lemmas.Bool.{cases_eq, cond_both, false≢true, ltb-true, ltb-false, lt-ltb}
 use Rattle.std.proofs.lemmas.Bool.Decides.{nat_tests}
 use Rattle.std.proofs.lemmas.Cmp.{nat_cmp_total}
 use Rattle.std.proofs.lemmas.List.{drop-drop, length-map}
@@ -196,9 +196,6 @@ module _ (ring : RecentValue StepValue) (lane from : ℕ) (p : PrefixValue) wher
 
   pub told_all : ring.total < most_told → told_changes ring lane from p ≡ steps_line lane ring.total ∷ more_lines
   told_all less = ap (λ (b : Bool). steps_line lane ring.total ∷ (if b then more_lines else [])) (lt-ltb ring.total most_told less)
-
-  pub told_none : ring.total ≡ most_told → told_changes ring lane from p ≡ steps_line lane ring.total ∷ []
-  told_none most = ap (λ (b : Bool). steps_line lane ring.total ∷ (if b then more_lines else [])) (le-ltb ring.total most_told (omega (arith, most)))
 
 module _ (lane from : ℕ) (p : PrefixValue) (entries : List EntryValue) where
   abbrev steps : List StepValue

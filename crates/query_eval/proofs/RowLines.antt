@@ -1,5 +1,5 @@
 -- The lines of rows, table by table and row by row.
-use Rattle.std.proofs.Common.{◌≡◌, ℕ, ◌+◌, List, [], ◌∷◌, ◌++◌, length, map, refl, ap, ◌∙◌, length-append}
+use Rattle.std.proofs.Common.{◌≡◌, ℕ, ◌+◌, List, [], ◌∷◌, ◌++◌, map, refl, ap, ◌∙◌}
 use Rattle.std.proofs.lemmas.List.{map-append}
 use Rattle.bmp_specs.specs.declared.peers.View.{View}
 use Rattle.bmp_specs.specs.Rows.{RowValue}
@@ -17,7 +17,3 @@ pub pairs_told : (line : NlriValue → AttrsValue → List ℕ) (told : RowValue
     → (pairs : Table) → lines_by line pairs ≡ map told (map (row_of key view) pairs)
 pairs_told line told key view same [] = refl
 pairs_told line told key view same (e ∷ es) = λ i. same e.0 e.1 i ∷ pairs_told line told key view same es i
-
--- how many rows are asked of the first table and of the others
-pub count_first : (asking : Asking) (ts rest : List PeerTableValue) (t : PeerTableValue) → ts ≡ t ∷ rest → length (asked_rows asking ts) ≡ length (asked_of asking t) + length (asked_rows asking rest)
-count_first asking ts rest t e = ap (λ (l : List PeerTableValue). length (asked_rows asking l)) e ∙ length-append (asked_of asking t) (asked_rows asking rest)

@@ -10,7 +10,7 @@ use Rattle.relay_out.specs.Judging.{Refuses}
 use Rattle.relay_out.specs.Messages.{IsRelayStream, ItemValue, stream_items}
 use Rattle.relay_out.specs.Told.{IsTold, StreamValue}
 use Rattle.relay_out.specs.Writable.{IsWritable}
-use Rattle.relay_out.specs.Writing.{Emits, IsCounted, HasBegun, HasWritten, IsFront, Relays}
+use Rattle.relay_out.specs.Writing.{Emits, IsCounted, HasBegun, IsFront, Relays}
 use Rattle.relay_out.proofs.Members.{all_parts}
 use Rattle.relay_out.proofs.RelayLaw.{all_writable, are_writable, reads_back}
 
@@ -33,9 +33,6 @@ module _ {O : Type 0} (faults : O → ℕ) (told : O → Option (List ℕ)) (asi
 
   nothing_begun : (a : O) (items : List ItemValue) → HasBegun faults told aside a a items
   nothing_begun a items = record { written = []; front = record { first = []; rest = items; split = refl; back = []; are = refl }; grown = appends_none (told a); kept = refl }
-
-  fresh : (out : O) → HasWritten faults told aside (record { first = out; below = out; held = [] }) []
-  fresh out = record { written = []; are = refl; grown = appends_none (told out); kept = refl; calm = refl }
 
   -- whoever judges may be handed anything
   pub any_may : (xs : List ItemValue) → AllByRecursion (λ item. Unit {0}) xs

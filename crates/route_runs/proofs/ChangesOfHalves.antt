@@ -1,11 +1,7 @@
 -- Changes of both families: each half with those of its own family, and both halves together.
 use Rattle.std.proofs.Common.{◌≡◌, ◌++◌, ◌⊎◌, inl, inr, ℕ, ◌+◌, ◌<◌, Bool, true, false, cond, List, [], ◌∷◌, length, get_or, take, Option, refl, ap, sym, ◌∙◌, subst, arith}
-use Rattle.std.specs.declared.cmp.Ordering.{Ordering}
 use Rattle.std.specs.List.{All, Contains, filter}
-use Rattle.std.specs.List.Sorted.{IsStrictlySortedBy}
-use Rattle.std.specs.Map.{keys_of}
 use Rattle.std.proofs.lemmas.Bool.{false≢true, cond_both}
-use Rattle.std.proofs.lemmas.List.{append-nil}
 use Rattle.std.proofs.lemmas.List.Elements.{filter_more}
 use Rattle.bmp_specs.specs.declared.wire.Family.{Family}
 use Rattle.bmp_specs.specs.declared.wire.Family.TheVariants.{V4, V6}
@@ -103,16 +99,7 @@ module _ (f : Family) (ns : List NlriValue) (n : ℕ) (x : NlriValue) (within : 
   family_more : (b : Bool) → is_family f x ≡ b → of_family f (take (n + 1) ns) ≡ of_family f (take n ns) ++ cond b (x ∷ []) []
   family_more b e = filter_more (is_family f) ns n x within ∙ ap (λ y. of_family f (take n ns) ++ cond (is_family f y) (y ∷ []) []) (sym is) ∙ ap (λ b. of_family f (take n ns) ++ cond b (x ∷ []) []) e
 
-  pub none_more : is_family f x ≡ false → of_family f (take n ns) ≡ [] → of_family f (take (n + 1) ns) ≡ []
-  none_more e so_far = family_more false e ∙ append-nil (of_family f (take n ns)) ∙ so_far
-
 -- ---- one half
-pub none_changed : {K A : Type 0} (cmp : K → K → Ordering) (keys : List K) (to : Option A) (old : List (K × Option A)) → keys ≡ [] → IsStrictlySortedBy cmp (keys_of old) → AreChangedTo cmp keys to old old
-none_changed cmp keys to old none ordered = record {
-  ordered = ordered;
-  these = λ q has. let c = subst (λ l. Contains l q) none has in absurd (omega (arith, c.1));
-  others = λ q lacks. refl;
-}
 
 module _ {A : Type 0} (f : Family) (keys : List NlriValue) (to : Option A) (old new : List (NlriValue × Option A)) (l : IsLayered nlri_cmp old (all_to (of_family f keys) to) new) where
   all_set : IsAllSet nlri_cmp (of_family f keys) to (all_to (of_family f keys) to)

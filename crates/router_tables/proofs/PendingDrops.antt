@@ -1,4 +1,4 @@
--- A peer that comes up or goes down loses the gathered changes with its tables, and without changes tables are as they are.
+-- A peer that comes up or goes down loses the gathered changes with its tables.
 use Rattle.std.proofs.Common.{◌≡◌, ◌↔◌, inl, inr, false, List, [], ◌∷◌, ◌++◌, Option, None, Some, refl, sym, ap, ◌∙◌, subst}
 use Rattle.std.specs.BTreeMap.{is_at}
 use Rattle.std.specs.Map.{lookup}

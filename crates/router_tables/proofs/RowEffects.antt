@@ -1,5 +1,5 @@
 -- The rows after effects that change no route, and after those on no NLRI.
-use Rattle.std.proofs.Common.{◌≡◌, List, [], ◌++◌, map, Option, refl, sym, ap, ◌∙◌, subst, append-nil}
+use Rattle.std.proofs.Common.{◌≡◌, List, ◌++◌, refl}
 use Rattle.std.specs.List.{AllByRecursion}
 use Rattle.std.specs.declared.sync.Arc.{Arc}
 use Rattle.std.specs.declared.alloc.Global.{Global}
@@ -11,7 +11,7 @@ use Rattle.bmp_specs.proofs.RowLaws.{row_kept_by_all}
 use Rattle.rib_model.specs.Effects.{item_values}
 use Rattle.rib_model.specs.declared.effect.Effect.{Effect}
 use Rattle.rib_model.specs.declared.effect.Effect.TheVariants.{Up, Down, Announce, Withdraw, Mark, Statistic, Name, Descr, Orphan, Mirrored, Passed, Unread}
-use Rattle.router_tables.specs.Pending.{RowsValue, route_effect, StandsForRows}
+use Rattle.router_tables.specs.Pending.{RowsValue, StandsForRows}
 
 -- the effects of the other kinds replace no row
 others_replace_none : (place : RowKeyValue) (e : Effect) → ((key : KeyValue) (info : Arc PeerInfoValue Global) → e ≡ Up key info → ⊥) → ((key : KeyValue) (info : DownInfoValue) → e ≡ Down key info → ⊥)
@@ -35,10 +35,3 @@ pub rows_kept : (rows : RowsValue) (e : Effect) → ((key : KeyValue) (info : Ar
     → ((key : KeyValue) (view : View) (nlris : List NlriValue) → e ≡ Withdraw key view nlris → ⊥)
     → (effects : List EffectValue) → StandsForRows rows effects → StandsForRows rows (effects ++ item_values e)
 rows_kept rows e a b c d effects h row = then_iff (h row) (row_kept_by_all effects (item_values e) row (others_replace_none row.row_key e a b c d))
-
--- no NLRI is announced or withdrawn
-pub rows_same : (rows : RowsValue) (key : KeyValue) (view : View) (to : Option AttrsValue) (nlris : List NlriValue) → nlris ≡ []
-    → (effects : List EffectValue) → StandsForRows rows effects → StandsForRows rows (effects ++ map (route_effect key view to) nlris)
-rows_same rows key view to nlris none effects h =
-    let more : effects ++ map (route_effect key view to) nlris ≡ effects = ap (λ (l : List NlriValue). effects ++ map (route_effect key view to) l) none ∙ append-nil effects in
-    subst (StandsForRows rows) (sym more) h

@@ -61,18 +61,6 @@ module _ {B P K : Type 0} where
     pub askers : asks_of (reverse tasks) ≡ asks_of (reverse before)
     pub same : length left ≡ length left_doors
 
-  pub lane_more : (all left rest : List (Fed Entry)) (doors left_doors rest_doors : List P) (rounds : ℕ) (before tasks after : List (Task B P K)) (w : LaneWork B P) → PairingLanes all left doors left_doors rounds before tasks
-      → left ≡ rest ++ w.pass ∷ [] → left_doors ≡ rest_doors ++ w.port ∷ [] → w.rounds ≡ rounds → after ≡ tasks ++ Lane w ∷ [] → PairingLanes all rest doors rest_doors rounds before after
-  lane_more all left rest doors left_doors rest_doors rounds before tasks after w p e f n t =
-      let turned : reverse after ≡ Lane w ∷ reverse tasks = ap (λ (l : List (Task B P K)). reverse l) t ∙ reverse_push tasks (Lane w) in
-      record {
-        passes_are = moves all left rest (passes (lanes_of (reverse tasks))) w.pass p.passes_are e ∙ ap (λ (l : List (Task B P K)). rest ++ passes (lanes_of l)) (sym turned);
-        ports_are = moves doors left_doors rest_doors (ports (lanes_of (reverse tasks))) w.port p.ports_are f ∙ ap (λ (l : List (Task B P K)). rest_doors ++ ports (lanes_of l)) (sym turned);
-        rounds_are = subst (λ (l : List (Task B P K)). AllByRecursion (λ (v : LaneWork B P). v.rounds ≡ rounds) (lanes_of l)) (sym turned) (n, p.rounds_are);
-        askers = ap (λ (l : List (Task B P K)). asks_of l) turned ∙ p.askers;
-        same = omega (arith, p.same, ap (λ (l : List (Fed Entry)). length l) e, ap (λ (l : List P). length l) f, length-append rest (w.pass ∷ []), length-append rest_doors (w.port ∷ []));
-      }
-
   pub lanes-append : (xs ys : List (Task B P K)) → lanes_of (xs ++ ys) ≡ lanes_of xs ++ lanes_of ys
   lanes-append [] ys = refl
   lanes-append (Lane w ∷ xs) ys = ap (λ (l : List (LaneWork B P)). w ∷ l) (lanes-append xs ys)

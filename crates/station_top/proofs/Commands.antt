@@ -3,7 +3,7 @@
 use Rattle.std.proofs.Common.{◌≡◌, ◌≢◌, ℕ, ◌+◌, ◌-◌, ◌<◌, ◌≤◌, Bool, true, false, List, [], ◌∷◌, length, map, get_or, take, drop, codes, Option, Some, None, IfSome, IfNone, Result, Ok, Err, IfOk, refl, sym, ap, ◌∙◌, subst, arith, inl, inr}
 use Rattle.std.specs.Prelude.{IsTrue, ◌⊎◌}
 use Rattle.std.specs.List.{join_with_byte}
-use Rattle.std.proofs.lemmas.List.{length-map, take_rest}
+use Rattle.std.proofs.lemmas.List.{take_rest}
 use Rattle.bmp_specs.specs.PrefixText.{IsPrefixText}
 use Rattle.bmp_specs.specs.Query.{QueryValue, quit, space, IsQuery}
 use Rattle.bmp_specs.specs.Values.{PrefixValue}
@@ -114,11 +114,6 @@ pub one_file : {X : Type 0} (text : X → List ℕ) (b : Bool) (given : List (Li
 one_file text b given [] plain one = absurd (omega (arith, one))
 one_file text b given (x ∷ []) plain one = (text x, plain)
 one_file text b given (x ∷ y ∷ more) plain one = absurd (omega (arith, one))
-
-pub no_file : {X : Type 0} (text : X → List ℕ) (b : Bool) (given : List (List ℕ)) (words : List X) → IsPlain b given (map text words) → (length words ≡ 1 → ⊥) → (d : Bool) → IsArchive d given → ⊥
-no_file text b given words plain apart d (file, is) =
-    let same = (same_plain b d given (map text words) (file ∷ []) plain is).0 in
-    apart (sym (length-map words text) ∙ ap length same)
 
 -- The file of a call of `archive`, and that it stands at its place among the words.
 pub archive_call : (lenient : Bool) (words : List (List ℕ)) → IsCall (record { command = Archive; lenient = lenient }) words → (file : List ℕ) × IsArchiveCall file lenient words × (file_in lenient words ≡ file)

@@ -1,12 +1,11 @@
-ghost use Rattle.std.specs.Prelude.{◌≡◌, ℕ, ◌<◌, ◌≤◌, ◌+◌, ◌++◌, [], ⊤, Result, length, take, OnOk};
+ghost use Rattle.std.specs.Prelude.{◌≡◌, ◌<◌, ◌≤◌, ◌+◌, ◌++◌, [], ⊤, Result, length, take, OnOk};
 ghost use Rattle.std.specs.Io.KnownBytes.{Keeps, append_known};
 ghost use Rattle.wire_io.specs.Aside.{laid_over};
 ghost use Rattle.wire_io.specs.declared.sink.Failed.{Failed};
 ghost use Rattle.wire_io.specs.Faults.{HasCause};
-ghost use Rattle.wire_io.specs.Writes.{Writes, joined};
 ghost use Rattle.wire_io.specs.Buffer.{BufferValue, Extends, GoesThrough, Pours};
 
-use crate::{Failed, Sink, write_pieces};
+use crate::{Failed, Sink};
 use core::mem::replace_with;
 use std::marker::Model;
 use std::snapshot::Snapshot;
