@@ -15,8 +15,9 @@ use crate::forms::Forms;
 use crate::in_forms::{InForms, add_up, judge_in_forms, read_in_forms};
 use crate::routes::{add_routes, count, id_use, judge_routes, update_body, width_of};
 use bgp_open::PeerInfo;
-use bgp_update::UpdateReader;
+use bgp_update::{Update, UpdateReader};
 use bmp_frames::{PeerHeader, PeerKey};
+use bmp_specs::View;
 use rib_model::{Effect, EffectList};
 use std::alloc::Global;
 use std::sync::Arc;
@@ -89,6 +90,23 @@ pub(crate) fn made_of<M: Makes>(
     }
 }
 
+// The effects of an UPDATE in their list, with the Up of the peer before them where it is implied.
+fn listed(
+    alloc: Global,
+    key: &PeerKey,
+    view: View,
+    peer: &Arc<PeerInfo>,
+    implied: bool,
+    update: Update,
+) -> Result<EffectList, NoMemory>
+    ensures { IfOk result (λ effects. effect_values effects ≡ up_if implied key.now (arc_value peer.now) ++ effects_of (routes_of key.now view update)) }
+{
+    let mut effects = EffectList::with_capacity(alloc, one_if(implied) + count(&update))?;
+    add_up(&mut effects, key, peer, implied)?;
+    add_routes(&mut effects, key, view, update)?;
+    Ok(effects)
+}
+
 // The effects are made, in their list.
 pub(crate) struct WithEffects;
 
@@ -141,9 +159,7 @@ impl Makes for WithEffects {
         last: &Forms,
     ) -> Result<(EffectList, Forms), BodyFault> {
         let InForms { update, taken } = read_in_forms(alloc, reader, peer, head, rest, last)?;
-        let mut effects = EffectList::with_capacity(alloc, one_if(implied) + count(&update))?;
-        add_up(&mut effects, key, peer, implied)?;
-        add_routes(&mut effects, key, head.view(), update)?;
+        let effects = listed(alloc, key, head.view(), peer, implied, update)?;
         Ok((effects, taken))
     }
 }

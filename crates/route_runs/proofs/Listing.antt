@@ -23,6 +23,7 @@ use Rattle.route_runs.proofs.OneSet.{strict_dedup}
 use Rattle.route_runs.proofs.Overriding.{value-named}
 use Rattle.route_runs.proofs.Searching.{itself}
 
+-- ---- lists
 map_reverse : {X Y : Type 0} (f : X → Y) (xs : List X) → map f (reverse xs) ≡ reverse (map f xs)
 map_reverse f [] = refl
 map_reverse f (x ∷ xs) = ap (map f) (reverse-append (x ∷ []) xs) ∙ map-append f (reverse xs) (x ∷ []) ∙ ap (λ l. l ++ f x ∷ []) (map_reverse f xs) ∙ sym (reverse-append (f x ∷ []) (map f xs))

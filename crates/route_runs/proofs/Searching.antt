@@ -84,6 +84,7 @@ module _ {K : Type 0} (cmp : K → K → Ordering) (total : IsTotalOrder cmp) (e
     | inr more ↦ let same : i ≡ j = omega (arith, le, more) in let e : ordering_index (cmp (get_or ks i d) x) ≡ ordering_index (cmp (get_or ks j d) x) = ap (λ i. ordering_index (cmp (get_or ks i d) x)) same in omega (arith, e)
   ]
 
+  -- ---- where the keys after a place begin
   pub point_found : (ks : List K) → IsStrictlySortedBy cmp ks → (x : K) (at : ℕ) → at < length ks → HoldsAt (λ y. cmp y x ≡ Equal) ks at → IsAfterPoint cmp (Some x) ks (at + 1)
   point_found ks s x at lt holds = record {
     within = omega (arith, lt);

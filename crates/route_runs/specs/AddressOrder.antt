@@ -10,7 +10,7 @@ use Rattle.std.specs.Slice.Scan.{big_endian}
 use Rattle.std.proofs.lemmas.Cmp.{tied_itself, nat_list_cmp_total}
 use Rattle.bmp_specs.specs.declared.wire.Family.TheVariants.{V4, V6}
 use Rattle.ip_prefix.proofs.OctetsOrder.{by_front, by_back}
-use Rattle.route_runs.specs.NumberKeys.{octets4, octets6, AreOctets}
+use Rattle.route_runs.specs.NumberKeys.{octets4, octets6, AreOctetsOf}
 use Rattle.route_runs.specs.Spots.{front_word, front_half}
 
 -- numbers that differ decide
@@ -26,7 +26,7 @@ first_decides x y r apart = by (nat_cmp x y) (ranks x y)
 pub next_decides : (x y : ℕ) (r : Ordering) → x ≡ y → r ≡ ordering_then (nat_cmp x y) r
 next_decides x y r e = ap (λ (s : Ordering). ordering_then s r) (nat_cmp_is x y Equal e)
 
-pub octets4_cmp : (a b : ℕ) → from_be_bytes w32 (octets4 a) ≡ a → from_be_bytes w32 (octets4 b) ≡ b → AreOctets V4 (octets4 a) → AreOctets V4 (octets4 b) → nat_cmp a b ≡ slice_cmp nat_cmp (octets4 a) (octets4 b)
+pub octets4_cmp : (a b : ℕ) → from_be_bytes w32 (octets4 a) ≡ a → from_be_bytes w32 (octets4 b) ≡ b → AreOctetsOf V4 (octets4 a) → AreOctetsOf V4 (octets4 b) → nat_cmp a b ≡ slice_cmp nat_cmp (octets4 a) (octets4 b)
 octets4_cmp a b e f k l = by (nat_cmp a b) (ranks a b)
   where
     os : List ℕ
@@ -45,7 +45,7 @@ octets4_cmp a b e f k l = by (nat_cmp a b) (ranks a b)
     by Greater t = let more : b < a = t in nat_cmp_is (a * 4294967296) (b * 4294967296) Greater (omega arith) ∙ apart (λ e. omega arith)
 
 pub octets6_cmp : (a b : ℕ × ℕ) → (from_be_bytes w64 (octets6 a), from_be_bytes w64 (drop 8 (octets6 a))) ≡ a → (from_be_bytes w64 (octets6 b), from_be_bytes w64 (drop 8 (octets6 b))) ≡ b
-    → AreOctets V6 (octets6 a) → AreOctets V6 (octets6 b) → ordering_then (nat_cmp a.0 b.0) (nat_cmp a.1 b.1) ≡ slice_cmp nat_cmp (octets6 a) (octets6 b)
+    → AreOctetsOf V6 (octets6 a) → AreOctetsOf V6 (octets6 b) → ordering_then (nat_cmp a.0 b.0) (nat_cmp a.1 b.1) ≡ slice_cmp nat_cmp (octets6 a) (octets6 b)
 octets6_cmp a b e f k l = by (nat_cmp a.0 b.0) (ranks a.0 b.0)
   where
     os : List ℕ

@@ -19,13 +19,13 @@ unfoldable pub octets6 : ℕ × ℕ → List ℕ
 octets6 halves = to_be_bytes w64 halves.0 ++ to_be_bytes w64 halves.1
 
 -- the bytes are those of an address of this family
-abbrev pub AreOctets : Family → List ℕ → Type 0
-AreOctets family octets = IsAddress (record { family = family; octets = octets })
+abbrev pub AreOctetsOf : Family → List ℕ → Type 0
+AreOctetsOf family octets = IsAddress (record { family = family; octets = octets })
 
 -- the numbers of a family's addresses stand in the order of their bytes
 abbrev pub StandAsOctets : {A : Type 0} → (A → A → Ordering) → Family → (A → List ℕ) → (List ℕ → A) → Type 0
 StandAsOctets {A} cmp family octets number = (a b : A) → number (octets a) ≡ a → number (octets b) ≡ b
-    → AreOctets family (octets a) → AreOctets family (octets b) → cmp a b ≡ slice_cmp nat_cmp (octets a) (octets b)
+    → AreOctetsOf family (octets a) → AreOctetsOf family (octets b) → cmp a b ≡ slice_cmp nat_cmp (octets a) (octets b)
 
 -- the path identifier, where the mark isn't zero
 abbrev pub id_at : ℕ → ℕ → Option ℕ

@@ -292,6 +292,7 @@ impl<'a, K: RunKey, A: Drop> Cursor<'a, K, A> {
     pub(crate) fn see_order(&self)
         ensures { IsStrictlySortedBy K.cmp (keys_of self.now.pairs) }
     {
+        // For the proof: the runs are in order.
         self.runs.see_order();
     }
 

@@ -106,6 +106,7 @@ impl<K: TableKey> FamilyTable<K> {
     pub(crate) fn see_order(&self)
         ensures { IsStrictlySortedBy K.cmp (keys_of self.now) }
     {
+        // For the proof: the runs are in order.
         self.runs.see_order();
     }
 

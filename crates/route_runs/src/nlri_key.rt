@@ -173,6 +173,7 @@ impl TableKey for NlriKey<u32> {
             prefix: Prefix::new(addr, 32).unwrap(),
             id: Some(u32::MAX),
         };
+        // For the proof: it is an NLRI, so its key is one.
         see(&last);
         Some(NlriKey::of(&last))
     }
@@ -216,6 +217,7 @@ impl TableKey for NlriKey<(u64, u64)> {
             prefix: Prefix::new(addr, 128).unwrap(),
             id: Some(u32::MAX),
         };
+        // For the proof: it is an NLRI, so its key is one.
         see(&last);
         Some(NlriKey::of(&last))
     }

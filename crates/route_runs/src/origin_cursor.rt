@@ -49,6 +49,7 @@ impl<'a, K: TableKey> OriginCursor<'a, K> {
     pub(crate) fn see_order(&self)
         ensures { IsStrictlySortedBy K.cmp (keys_of self.now) }
     {
+        // For the proof: the rows are in order.
         self.rows.see_order();
     }
 }

@@ -206,14 +206,14 @@ impl RouteTable {
         self.ipv4.count().saturating_add(self.ipv6.count())
     }
 
-    /// Whether it is known at once that each route passes a test: the IPv4 ones have a path identifier where `low` is so and
-    /// none elsewhere, the IPv6 ones where `high` is, and the attributes of each pass. Each list of attributes that the table
-    /// keeps is tested once, however many routes have it. Those that no route has any more are tested too, until a merge
-    /// drops them: so all routes may pass and it isn't known.
-    pub fn all_pass<T: SetTest>(&self, low: bool, high: bool) -> bool
-        ensures { IsTrue result → AllByRecursion (RoutePasses low high T.passes) self.now }
+    /// Whether it is known at once that each route passes a test: the IPv4 ones have a path identifier where `ipv4` is so
+    /// and none elsewhere, the IPv6 ones where `ipv6` is, and the attributes of each pass. Each list of attributes that the
+    /// table keeps is tested once, however many routes have it. Those that no route has any more are tested too, until a
+    /// merge drops them: so all routes may pass and it isn't known.
+    pub fn all_pass<T: SetTest>(&self, ipv4: bool, ipv6: bool) -> bool
+        ensures { IsTrue result → AllByRecursion (RoutePasses ipv4 ipv6 T.passes) self.now }
     {
-        all_pass::<Key4, T>(self.ipv4.rows(), low) && all_pass::<Key6, T>(self.ipv6.rows(), high)
+        all_pass::<Key4, T>(self.ipv4.rows(), ipv4) && all_pass::<Key6, T>(self.ipv6.rows(), ipv6)
     }
 
     /// Whether it is known at once that there is no route. A table whose last route is withdrawn may still have runs,
