@@ -63,11 +63,21 @@ pub fn take_lanes<J: Naming>(
     feeds: &mut FeedList<Numbers>,
 ) -> Result<(FeedPass<Numbers>, FeedPass<Numbers>), NoMemory>
     requires { AreFeedsOf J.site feeds.old }
-    ensures { IfOk result (λ f. (f.0.station ≡ J.site) × (f.1.station ≡ J.site)) }
+    ensures left { AreFeedsOf J.site feeds.new }
+    ensures taken { IfOk result (λ f. (f.0.station ≡ J.site) × (f.1.station ≡ J.site)) }
 {
     let one = take_feed::<J>(feeds)?;
     let zero = take_feed::<J>(feeds)?;
     Ok((zero, one))
+}
+
+// Takes the last asker out of the list.
+fn take_ask<J: Naming>(asks: &mut AskList<Numbers>) -> Result<AskPass<Numbers>, NoMemory>
+    requires { AreAsksOf J.site asks.old }
+    ensures left { AreAsksOf J.site asks.new }
+    ensures taken { IfOk result (λ a. a.station ≡ J.site) }
+{
+    asks.pop().ok_or(NoMemory)
 }
 
 // Takes two askers out of the list.
@@ -75,11 +85,67 @@ pub fn take_askers<J: Naming>(
     asks: &mut AskList<Numbers>,
 ) -> Result<(AskPass<Numbers>, AskPass<Numbers>), NoMemory>
     requires { AreAsksOf J.site asks.old }
-    ensures { IfOk result (λ a. a.0.station ≡ J.site) }
+    ensures left { AreAsksOf J.site asks.new }
+    ensures taken { IfOk result (λ a. (a.0.station ≡ J.site) × (a.1.station ≡ J.site)) }
 {
-    let first = asks.pop().ok_or(NoMemory)?;
-    let second = asks.pop().ok_or(NoMemory)?;
+    let first = take_ask::<J>(asks)?;
+    let second = take_ask::<J>(asks)?;
     Ok((first, second))
+}
+
+// Puts a pass into the list.
+fn put_feed<J: Naming>(
+    feeds: &mut FeedList<Numbers>,
+    feed: FeedPass<Numbers>,
+) -> Result<(), NoMemory>
+    requires feeds { AreFeedsOf J.site feeds.old }
+    requires feed { feed.station ≡ J.site }
+    ensures { AreFeedsOf J.site feeds.new }
+{
+    match feeds.push(feed) {
+        Ok(()) => Ok(()),
+        Err(_) => Err(NoMemory),
+    }
+}
+
+// Puts the passes of lanes 0 and 1 into the list.
+pub fn put_lanes<J: Naming>(
+    feeds: &mut FeedList<Numbers>,
+    lanes: (FeedPass<Numbers>, FeedPass<Numbers>),
+) -> Result<(), NoMemory>
+    requires feeds { AreFeedsOf J.site feeds.old }
+    requires lanes { (lanes.0.station ≡ J.site) × (lanes.1.station ≡ J.site) }
+    ensures { AreFeedsOf J.site feeds.new }
+{
+    let (zero, one) = lanes;
+    put_feed::<J>(feeds, zero)?;
+    put_feed::<J>(feeds, one)
+}
+
+// Puts an asker into the list.
+fn put_ask<J: Naming>(asks: &mut AskList<Numbers>, ask: AskPass<Numbers>) -> Result<(), NoMemory>
+    requires asks { AreAsksOf J.site asks.old }
+    requires ask { ask.station ≡ J.site }
+    ensures { AreAsksOf J.site asks.new }
+{
+    match asks.push(ask) {
+        Ok(()) => Ok(()),
+        Err(_) => Err(NoMemory),
+    }
+}
+
+// Puts two askers into the list.
+pub fn put_askers<J: Naming>(
+    asks: &mut AskList<Numbers>,
+    askers: (AskPass<Numbers>, AskPass<Numbers>),
+) -> Result<(), NoMemory>
+    requires asks { AreAsksOf J.site asks.old }
+    requires askers { (askers.0.station ≡ J.site) × (askers.1.station ≡ J.site) }
+    ensures { AreAsksOf J.site asks.new }
+{
+    let (first, second) = askers;
+    put_ask::<J>(asks, first)?;
+    put_ask::<J>(asks, second)
 }
 
 // Publishes these numbers behind those that the lane has published.

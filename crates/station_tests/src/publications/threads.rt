@@ -7,26 +7,29 @@ use std::alloc::Global;
 use std::sync::Wait;
 use std::thread::{Threads, join};
 
-/// Both lanes publish, and two askers look, on four threads. How many numbers each lane has published then, one of the
-/// askers, and whether none of them ever saw less.
+/// Both lanes publish, and two askers look, on four threads. All passes as they are then, and whether no asker ever saw
+/// less.
 pub(crate) fn on_threads<J: Naming + Send + Sync, R: Threads + Wait + Sync>(
     rt: &R,
     alloc: Global,
     publisher: &Publisher<Numbers, J>,
-    zero: FeedPass<Numbers>,
-    one: FeedPass<Numbers>,
-    first: AskPass<Numbers>,
-    second: AskPass<Numbers>,
-) -> ((u64, u64), (AskPass<Numbers>, bool))
-    requires zero { zero.station ≡ J.site }
-    requires one { one.station ≡ J.site }
+    lanes: (FeedPass<Numbers>, FeedPass<Numbers>),
+    askers: (AskPass<Numbers>, AskPass<Numbers>),
+) -> (
+    (FeedPass<Numbers>, FeedPass<Numbers>),
+    ((AskPass<Numbers>, AskPass<Numbers>), bool),
+)
+    requires lanes { (lanes.0.station ≡ J.site) × (lanes.1.station ≡ J.site) }
+    requires askers { (askers.0.station ≡ J.site) × (askers.1.station ≡ J.site) }
+    ensures lanes { (result.0.0.station ≡ J.site) × (result.0.1.station ≡ J.site) }
+    ensures askers { (result.1.0.0.station ≡ J.site) × (result.1.0.1.station ≡ J.site) }
 {
     join(
         rt,
-        || -> (u64, u64)
-            requires { (zero.station ≡ J.site) × (one.station ≡ J.site) }
-        { both_lanes(rt, alloc, publisher, zero, one) },
-        || -> (AskPass<Numbers>, bool) { both_askers(rt, first, second) },
+        || -> (FeedPass<Numbers>, FeedPass<Numbers>)
+            requires { (lanes.0.station ≡ J.site) × (lanes.1.station ≡ J.site) }
+        { both_lanes(rt, alloc, publisher, lanes) },
+        || -> ((AskPass<Numbers>, AskPass<Numbers>), bool) { both_askers(rt, askers) },
     )
 }
 
@@ -34,18 +37,18 @@ fn both_lanes<J: Naming + Send + Sync, R: Threads + Wait + Sync>(
     rt: &R,
     alloc: Global,
     publisher: &Publisher<Numbers, J>,
-    zero: FeedPass<Numbers>,
-    one: FeedPass<Numbers>,
-) -> (u64, u64)
-    requires zero { zero.station ≡ J.site }
-    requires one { one.station ≡ J.site }
+    lanes: (FeedPass<Numbers>, FeedPass<Numbers>),
+) -> (FeedPass<Numbers>, FeedPass<Numbers>)
+    requires lanes { (lanes.0.station ≡ J.site) × (lanes.1.station ≡ J.site) }
+    ensures { (result.0.station ≡ J.site) × (result.1.station ≡ J.site) }
 {
+    let (zero, one) = lanes;
     join(
         rt,
-        || -> u64
+        || -> FeedPass<Numbers>
             requires { zero.station ≡ J.site }
         { run_lane(rt, alloc, publisher, zero) },
-        || -> u64
+        || -> FeedPass<Numbers>
             requires { one.station ≡ J.site }
         { run_lane(rt, alloc, publisher, one) },
     )
@@ -56,30 +59,36 @@ fn run_lane<J: Naming, R: Wait>(
     alloc: Global,
     publisher: &Publisher<Numbers, J>,
     mut feed: FeedPass<Numbers>,
-) -> u64
+) -> FeedPass<Numbers>
     requires { feed.station ≡ J.site }
+    ensures { result.station ≡ J.site }
 {
     for number in 0..100 {
         let _ = tell(rt, alloc, publisher, &mut feed, &[number]);
     }
-    feed.count()
+    feed
 }
 
 fn both_askers<R: Threads + Sync>(
     rt: &R,
-    first: AskPass<Numbers>,
-    second: AskPass<Numbers>,
-) -> (AskPass<Numbers>, bool) {
-    let ((first, rises), (_, rises_too)) = join(
+    askers: (AskPass<Numbers>, AskPass<Numbers>),
+) -> ((AskPass<Numbers>, AskPass<Numbers>), bool)
+    ensures zero { result.0.0.station ≡ askers.0.station }
+    ensures one { result.0.1.station ≡ askers.1.station }
+{
+    let (first, second) = askers;
+    let ((first, rises), (second, rises_too)) = join(
         rt,
         || -> (AskPass<Numbers>, bool) { run_asker(first) },
         || -> (AskPass<Numbers>, bool) { run_asker(second) },
     );
-    (first, rises && rises_too)
+    ((first, second), rises && rises_too)
 }
 
 // Looks again and again, and says whether it never saw less.
-fn run_asker(mut ask: AskPass<Numbers>) -> (AskPass<Numbers>, bool) {
+fn run_asker(mut ask: AskPass<Numbers>) -> (AskPass<Numbers>, bool)
+    ensures { result.0.station ≡ ask.station }
+{
     let mut rises = true;
     let mut last = 0;
     for _ in 0..1000 {
