@@ -12,6 +12,8 @@
 # times; that is what `archive` does with each read. Prints the least time and the records of `archive`, and the mean
 # times of the disk. Then `recall count` of the archive and `replay count` of the stream run in turn, from files in the
 # cache; prints least processor times, their ratio, and peak memories.
+#
+# With SYNC_US=N each sync waits N microseconds first (`slow_sync.c`), as on a slower disk.
 set -euo pipefail
 
 least_bytes=$((${1:-200} * 1000000))
@@ -22,6 +24,12 @@ bench=$(dirname "$0")
 folder=$(mktemp -d "${2:-$work}/archive.XXXXXX")
 trap 'rm -rf "$work" "$folder"' EXIT
 
+preload=
+if [ -n "${SYNC_US:-}" ]; then
+    preload=$work/slow_sync.so
+    cc -O2 -shared -fPIC -o "$preload" "$bench/slow_sync.c"
+fi
+
 stream=$work/stream
 "$bench/table" 1000000 7 >"$work/table"
 while [ "$(stat -c %s "$stream" 2>/dev/null || echo 0)" -lt "$least_bytes" ]; do cat "$work/table" >>"$stream"; done
@@ -29,7 +37,7 @@ bytes=$(stat -c %s "$stream")
 
 # The milliseconds that the disk takes for a record and for its first byte, each written and synced.
 disk() {
-    python3 - "$folder/disk" <<'PYTHON'
+    LD_PRELOAD=$preload python3 - "$folder/disk" <<'PYTHON'
 import os, sys, time
 file = os.open(sys.argv[1], os.O_RDWR | os.O_CREAT)
 record, times = bytes(65541), 300
@@ -48,7 +56,7 @@ for round in $(seq "$rounds"); do
     rm -f "$folder/F"
     disk >>"$work/disk"
     start=$(date +%s%N)
-    cat "$stream" | "$ours" archive "$folder/F" >"$work/said"
+    cat "$stream" | LD_PRELOAD=$preload "$ours" archive "$folder/F" >"$work/said"
     echo "$((($(date +%s%N) - start) / 1000000))" >>"$work/archived"
 done
 records=$((($(stat -c %s "$folder/F") - 1 - bytes) / 5))
