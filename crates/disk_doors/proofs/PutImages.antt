@@ -32,7 +32,7 @@ module _ (old : DiskValue) (place : ℕ) (piece : List ℕ) (kept : old.now ≡ 
   after_wrote mid r w = passes_more P old old mid w.made (passes_none P old start) w.next (written r w.made w.moment)
 
   pub puts_failed : (mid : DiskValue) (e : Failed) (r : Result (Unit {0}) Failed) → is_err r ≡ true → WritesAt old mid place piece (Err e) → Puts old mid place piece r
-  puts_failed mid e r h w = record { passes = after_wrote mid (Err e) w; planned = on_err r (λ s. ⊎_elim (not_planned old _ s) (λ l. omega (arith, l, s.fits)) w.planned); done = on_none r _ h }
+  puts_failed mid e r h w = record { passes = after_wrote mid (Err e) w; planned = on_err r (λ s. ⊎_elim (not_planned old _ s) (λ l. omega (arith, l, s.fits)) w.planned); done = on_none r _ h; few = omega (arith, ap (λ (d : DiskValue). d.calls) w.next) }
 
   pub puts_synced : (mid new : DiskValue) (u : Unit {0}) (r : Result (Unit {0}) Failed) → WritesAt old mid place piece (Ok u) → Syncs mid new r → Puts old new place piece r
   puts_synced mid new u (Ok v) w s =
@@ -42,6 +42,7 @@ module _ (old : DiskValue) (place : ℕ) (piece : List ℕ) (kept : old.now ≡ 
         passes = passes_more P old mid new (settled mid.now.file) first s.next (λ c i. subst P (sym (settled_image mid.now.file c i ∙ file)) (overwritten_torn old.now.file place piece));
         planned = tt;
         done = ap (λ (d : DiskValue). d.now) s.next ∙ ap settled file;
+        few = omega (arith, ap (λ (d : DiskValue). d.calls) w.next, ap (λ (d : DiskValue). d.calls) s.next);
       }
   puts_synced mid new u (Err e) w s =
       let first = after_wrote mid (Ok u) w in
@@ -50,4 +51,5 @@ module _ (old : DiskValue) (place : ℕ) (piece : List ℕ) (kept : old.now ≡ 
         passes = passes_more P old mid new mid.now first s.next (λ c i. written (Ok u) w.made w.moment c (subst (λ (m : Moment). IsImage m c) now i));
         planned = λ sound. not_planned mid _ (sound_later old mid _ first.lasts sound) s.planned;
         done = tt;
+        few = omega (arith, ap (λ (d : DiskValue). d.calls) w.next, ap (λ (d : DiskValue). d.calls) s.next);
       }
