@@ -156,6 +156,10 @@ Went (Some old) new result = new ≡ Some (went_so result ∷ old)
 abbrev pub read_size : ℕ → ℕ
 read_size taken = min most_read (most_taken - taken)
 
+-- the same of a link
+abbrev pub heard_size : ℕ → ℕ
+heard_size taken = min 512 (most_taken - taken)
+
 -- a call of a planned port fails exactly where its number is among those that do
 abbrev pub AsPlanned : Option Plan → ℕ → ℕ → Result ℕ Failed → Type 0
 AsPlanned None before after result = Unit {0}

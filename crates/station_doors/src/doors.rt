@@ -4,7 +4,7 @@ ghost use Rattle.std.specs.Io.KnownBytes.{Keeps};
 ghost use Rattle.bmp_specs.specs.Life.{LastRead};
 ghost use Rattle.wire_io.specs.Aside.{Aside};
 ghost use Rattle.wire_io.specs.Faults.{HasCause};
-ghost use Rattle.station_doors.specs.Doors.{Opens, Reads, Closes, AsPlanned, MadeOver, Went, noted_writes, read_size, YardSeen, CountsCall, LeavesRest, IsLane, askers_of, Listens, HandsOut, HandsOutLink, TakesBack, TakesLinkBack, KeepsEnding, one_more};
+ghost use Rattle.station_doors.specs.Doors.{Opens, Reads, Closes, AsPlanned, MadeOver, Went, noted_writes, read_size, heard_size, YardSeen, CountsCall, LeavesRest, IsLane, askers_of, Listens, HandsOut, HandsOutLink, TakesBack, TakesLinkBack, KeepsEnding, one_more};
 ghost use Rattle.station_doors.specs.Disks.{HandsOutDisk, TakesDiskBack};
 ghost use Rattle.station_doors.specs.Files.{GivesFile, HasFileCause};
 ghost use Rattle.station_doors.specs.declared.listening.Listening.{Listening};
@@ -75,9 +75,11 @@ pub trait Link: Sink {
         ensures calm { Self.faults self.new ≡ Self.faults self.old }
         ensures calls { calls self.new ≡ calls self.old };
 
-    /// Gives the next bytes of the present connection, which is open: at least one, or none at its end.
+    /// Gives the next bytes of the present connection, which is open: at least one, or none at its end. It
+    /// is asked for 512 bytes, or for what is left up to 2^46 bytes of one connection.
     fn read(&mut self, buf: &mut [u8]) -> Result<usize, Failed>
         requires some { 0 < length buf.old }
+        requires size { length buf.old ≡ heard_size (Self.aside self.old).taken }
         requires is_open { IsTrue (Self.aside self.old).is_open }
         ensures bound { ReadsAtMost result buf.new }
         ensures reads { Reads (Self.aside self.old) (Self.aside self.new) result buf.new }

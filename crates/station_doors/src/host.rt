@@ -1,6 +1,7 @@
-ghost use Rattle.std.specs.Prelude.{◌≡◌, ◌↔◌, None, Some, IfOk, IsOk, IsSome, ◌<◌, slice_get};
+ghost use Rattle.std.specs.Prelude.{◌≡◌, ◌↔◌, None, Some, IfOk, IsOk, IsSome, ◌<◌, ◌≤◌, slice_get};
 ghost use Rattle.wire_io.specs.Faults.{HasCause};
-ghost use Rattle.station_doors.specs.Doors.{CountsCall, askers_of, counts_only};
+ghost use Rattle.station_doors.specs.Files.{HasFileCause};
+ghost use Rattle.station_doors.specs.Doors.{CountsCall, LeavesRest, askers_of, counts_only, one_more};
 
 use crate::files::read_whole;
 use crate::sockets::{MOST, listen_at, take_listener};
@@ -18,7 +19,8 @@ use wire_io::{ByteList, Failed, NoMemory};
 ///
 /// Where it was asked to listen, lane n listens at `feed_port + n` and asker n at `ask_port + n`. Where the ports are
 /// shared, all lanes take their connections of one listener and all askers of another, and the system says which of them
-/// gets one. A yard that wasn't asked gives at port 0 what the reader gives, as one connection.
+/// gets one. A yard that wasn't asked gives at port 0 what the reader gives, as one connection. Until then no call reads of
+/// the reader.
 #[derive(Drop)]
 pub struct HostYard<'a, R, N> {
     input: Option<R>,
@@ -43,6 +45,7 @@ impl<
         ensures calls { IfOk result (λ y. y.calls ≡ 0) }
         ensures calm { IfOk result (λ y. y.faults ≡ 0) }
         ensures listened { IfOk result (λ y. y.listened ≡ None) }
+        ensures endings { IfOk result (λ y. y.endings ≡ 0) }
     {
         let feeds = Vec::with_capacity(alloc, MOST as usize)?;
         let askers = Vec::with_capacity(alloc, MOST as usize)?;
@@ -76,7 +79,13 @@ impl<
 
     ghost faults = { λ y. y.faults };
 
-    fn listen(&mut self, at: &Listening) -> Result<(), Failed> {
+    fn listen(&mut self, at: &Listening) -> Result<(), Failed>
+        ensures listened { self.new.listened ≡ Some at.now }
+        ensures calls { self.new.calls ≡ one_more self.old.calls }
+        ensures cause { HasCause self.old.faults self.new.faults result }
+        ensures endings { self.new.endings ≡ self.old.endings }
+        ensures input { self.new.input ≡ self.old.input }
+    {
         self.calls = self.calls.saturating_add(1);
         self.listened = Some(*at);
         if listen_at(
@@ -131,6 +140,7 @@ impl<
     fn link(&mut self, number: u32) -> Result<HostLink<'a, N>, Failed>
         requires { number < askers_of self.old.listened }
         ensures asker { IfOk result (λ link. slice_get self.old.askers.items number ≡ Some (Some link.listener)) }
+        ensures input { self.new.input ≡ self.old.input }
         ensures counted { CountsCall (counts_only self.old.calls self.old.listened self.old.endings) (counts_only self.new.calls self.new.listened self.new.endings) }
         ensures cause { HasCause self.old.faults self.new.faults result }
     {
@@ -150,7 +160,11 @@ impl<
         }
     }
 
-    fn disk(&mut self, path: &str) -> Result<HostDisk, Failed> {
+    fn disk(&mut self, path: &str) -> Result<HostDisk, Failed>
+        ensures counted { CountsCall (counts_only self.old.calls self.old.listened self.old.endings) (counts_only self.new.calls self.new.listened self.new.endings) }
+        ensures cause { HasCause self.old.faults self.new.faults result }
+        ensures input { self.new.input ≡ self.old.input }
+    {
         self.calls = self.calls.saturating_add(1);
         match HostDisk::open(self.net, path) {
             Ok(disk) => Ok(disk),
@@ -161,7 +175,12 @@ impl<
         }
     }
 
-    fn file(&mut self, alloc: Global, path: &str) -> Result<ByteList, FileFault> {
+    fn file(&mut self, alloc: Global, path: &str) -> Result<ByteList, FileFault>
+        ensures counted { CountsCall (counts_only self.old.calls self.old.listened self.old.endings) (counts_only self.new.calls self.new.listened self.new.endings) }
+        ensures cause { HasFileCause self.old.faults self.new.faults result }
+        ensures later { self.old.faults ≤ self.new.faults }
+        ensures input { self.new.input ≡ self.old.input }
+    {
         self.calls = self.calls.saturating_add(1);
         let found = match fs::open(self.net, path) {
             Ok(mut file) => read_whole(alloc, &mut file),
@@ -173,13 +192,31 @@ impl<
         found
     }
 
-    fn take_port(&mut self, _lane: u32, _port: HostPort<'a, R, N>) {}
+    fn take_port(&mut self, _lane: u32, _port: HostPort<'a, R, N>)
+        ensures rest { LeavesRest (counts_only self.old.calls self.old.listened self.old.endings) (counts_only self.new.calls self.new.listened self.new.endings) }
+        ensures calm { self.new.faults ≡ self.old.faults }
+        ensures input { self.new.input ≡ self.old.input }
+    {}
 
-    fn take_link(&mut self, _number: u32, _link: HostLink<'a, N>) {}
+    fn take_link(&mut self, _number: u32, _link: HostLink<'a, N>)
+        ensures rest { LeavesRest (counts_only self.old.calls self.old.listened self.old.endings) (counts_only self.new.calls self.new.listened self.new.endings) }
+        ensures calm { self.new.faults ≡ self.old.faults }
+        ensures input { self.new.input ≡ self.old.input }
+    {}
 
-    fn take_disk(&mut self, _path: &str, _disk: HostDisk) {}
+    fn take_disk(&mut self, _path: &str, _disk: HostDisk)
+        ensures rest { LeavesRest (counts_only self.old.calls self.old.listened self.old.endings) (counts_only self.new.calls self.new.listened self.new.endings) }
+        ensures calm { self.new.faults ≡ self.old.faults }
+        ensures input { self.new.input ≡ self.old.input }
+    {}
 
-    fn take_ending(&mut self, _ending: ()) {
+    fn take_ending(&mut self, _ending: ())
+        ensures endings { self.new.endings ≡ one_more self.old.endings }
+        ensures listened { self.new.listened ≡ self.old.listened }
+        ensures calls { self.new.calls ≡ self.old.calls }
+        ensures calm { self.new.faults ≡ self.old.faults }
+        ensures input { self.new.input ≡ self.old.input }
+    {
         self.endings = self.endings.saturating_add(1);
     }
 }

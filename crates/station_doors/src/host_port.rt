@@ -1,6 +1,7 @@
-ghost use Rattle.std.specs.Prelude.{◌≡◌, ◌≤◌, length, IfOk};
+ghost use Rattle.std.specs.Prelude.{◌≡◌, ◌≤◌, [], length, IfOk, IfSome, OnErr, IsTrue};
 ghost use Rattle.std.specs.Io.KnownBytes.{ReadConsumes};
 ghost use Rattle.station_doors.specs.Counts.{rest_of};
+ghost use Rattle.station_doors.specs.Doors.{Opens, Closes};
 
 use crate::Port;
 use crate::counts::Counts;
@@ -83,7 +84,11 @@ fn read_from<R: Read>(
 impl<'a, R: Read + Drop, N: Clock + Sync> Port for HostPort<'a, R, N> {
     ghost aside = { λ p. record p.counts { rest = rest_of R.remaining p.input } };
 
-    fn next_connection(&mut self) -> Result<bool, Failed> {
+    fn next_connection(&mut self) -> Result<bool, Failed>
+        ensures opens { Opens (record self.old.counts { rest = rest_of R.remaining self.old.input }) (record self.new.counts { rest = rest_of R.remaining self.new.input }) result }
+        ensures planned { IfSome self.old.counts.plan (λ plan. OnErr result (plan.fails ≡ [] → ⊥)) }
+        ensures input { self.new.input ≡ self.old.input }
+    {
         let is_first = self.counts.is_unused();
         let came = come(
             self.clock,
@@ -100,7 +105,11 @@ impl<'a, R: Read + Drop, N: Clock + Sync> Port for HostPort<'a, R, N> {
         self.counts.read(came)
     }
 
-    fn close(&mut self) {
+    fn close(&mut self)
+        requires { IsTrue self.old.counts.is_open }
+        ensures closes { Closes (record self.old.counts { rest = rest_of R.remaining self.old.input }) (record self.new.counts { rest = rest_of R.remaining self.new.input }) }
+        ensures input { self.new.input ≡ self.old.input }
+    {
         self.stream = None;
         self.counts.close();
     }

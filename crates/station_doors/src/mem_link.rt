@@ -1,9 +1,9 @@
-ghost use Rattle.std.specs.Prelude.{◌≡◌, ◌≤◌, ◌<◌, [], Some, length, vec_len, All, IfOk, IsTrue};
+ghost use Rattle.std.specs.Prelude.{◌≡◌, ◌≤◌, ◌<◌, [], Some, length, vec_len, All, IfOk, IfSome, OnErr, IsTrue};
 ghost use Rattle.std.specs.Io.{ReadsAtMost};
 ghost use Rattle.std.specs.Io.KnownBytes.{WriteAppends};
 ghost use Rattle.wire_io.specs.Aside.{Plan};
 ghost use Rattle.wire_io.specs.Faults.{HasCause};
-ghost use Rattle.station_doors.specs.Doors.{Reads, AsPlanned, untouched_link};
+ghost use Rattle.station_doors.specs.Doors.{Reads, AsPlanned, Opens, Closes, noted_writes, heard_size, untouched_link};
 
 use crate::Link;
 use crate::connections::Connections;
@@ -138,12 +138,18 @@ impl Link for MemLink {
 
     ghost calls = { λ k. k.calls };
 
-    fn next_connection(&mut self) -> Result<bool, Failed> {
+    fn next_connection(&mut self) -> Result<bool, Failed>
+        ensures opens { Opens self.old.shows self.new.shows result }
+        ensures writes { self.new.shows.write_faults ≡ noted_writes self.old.faults self.old.shows.write_faults result }
+        ensures planned { IfSome self.old.shows.plan (λ plan. OnErr result (plan.fails ≡ [] → ⊥)) }
+        ensures same { self.new ≡ record self.old { shows = self.new.shows } }
+    {
         Ok(self.connections.open(self.faults))
     }
 
     fn read(&mut self, buf: &mut [u8]) -> Result<usize, Failed>
         requires some { 0 < length buf.old }
+        requires size { length buf.old ≡ heard_size self.old.shows.taken }
         requires is_open { IsTrue self.old.shows.is_open }
         ensures bound { ReadsAtMost result buf.new }
         ensures reads { Reads self.old.shows self.new.shows result buf.new }
@@ -162,7 +168,11 @@ impl Link for MemLink {
         Ok(self.connections.give(most, buf))
     }
 
-    fn close(&mut self) {
+    fn close(&mut self)
+        requires { IsTrue self.old.shows.is_open }
+        ensures closes { Closes self.old.shows self.new.shows }
+        ensures same { self.new ≡ record self.old { shows = self.new.shows } }
+    {
         self.connections.close();
     }
 }

@@ -1,7 +1,7 @@
-ghost use Rattle.std.specs.Prelude.{◌≡◌, ◌<◌, length, slice_get, unwrap_or, All, IfOk, IsTrue};
+ghost use Rattle.std.specs.Prelude.{◌≡◌, ◌<◌, [], length, slice_get, unwrap_or, All, IfOk, IfSome, OnErr, IsTrue};
 ghost use Rattle.std.specs.Io.{ReadsAtMost};
 ghost use Rattle.wire_io.specs.Aside.{Plan};
-ghost use Rattle.station_doors.specs.Doors.{Reads, AsPlanned, read_size, untouched};
+ghost use Rattle.station_doors.specs.Doors.{Reads, AsPlanned, Opens, Closes, read_size, untouched};
 
 use crate::Port;
 use crate::connections::Connections;
@@ -76,7 +76,11 @@ impl Port for MemPort {
 
     ghost calls = { λ p. p.reads };
 
-    fn next_connection(&mut self) -> Result<bool, Failed> {
+    fn next_connection(&mut self) -> Result<bool, Failed>
+        ensures opens { Opens self.old.shows self.new.shows result }
+        ensures planned { IfSome self.old.shows.plan (λ plan. OnErr result (plan.fails ≡ [] → ⊥)) }
+        ensures same { self.new ≡ record self.old { shows = self.new.shows } }
+    {
         Ok(self.connections.open(0))
     }
 
@@ -100,7 +104,11 @@ impl Port for MemPort {
         Ok(self.connections.give(most, buf))
     }
 
-    fn close(&mut self) {
+    fn close(&mut self)
+        requires { IsTrue self.old.shows.is_open }
+        ensures closes { Closes self.old.shows self.new.shows }
+        ensures same { self.new ≡ record self.old { shows = self.new.shows } }
+    {
         self.connections.close();
     }
 }

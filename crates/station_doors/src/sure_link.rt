@@ -1,7 +1,7 @@
-ghost use Rattle.std.specs.Prelude.{◌≡◌, ◌<◌, ◌+◌, ◌-◌, ◌^◌, [], ◌∷◌, Ok, length, min, unwrap_or, IfOk, IsOk, IsTrue};
+ghost use Rattle.std.specs.Prelude.{◌≡◌, ◌<◌, ◌+◌, ◌-◌, ◌^◌, [], ◌∷◌, Ok, length, min, unwrap_or, IfOk, IfSome, IsOk, OnErr, IsTrue};
 ghost use Rattle.std.specs.Io.{ReadsAtMost};
 ghost use Rattle.wire_io.specs.Aside.{Plan};
-ghost use Rattle.station_doors.specs.Doors.{Reads, AsPlanned, untouched_link};
+ghost use Rattle.station_doors.specs.Doors.{Reads, AsPlanned, Opens, Closes, noted_writes, heard_size, untouched_link};
 
 use crate::Link;
 use crate::connections::Connections;
@@ -60,12 +60,18 @@ impl Sink for SureLink {
 impl Link for SureLink {
     ghost calls = { λ k. k.reads };
 
-    fn next_connection(&mut self) -> Result<bool, Failed> {
+    fn next_connection(&mut self) -> Result<bool, Failed>
+        ensures opens { Opens self.old.shows self.new.shows result }
+        ensures writes { self.new.shows.write_faults ≡ noted_writes 0 self.old.shows.write_faults result }
+        ensures planned { IfSome self.old.shows.plan (λ plan. OnErr result (plan.fails ≡ [] → ⊥)) }
+        ensures same { self.new ≡ record self.old { shows = self.new.shows } }
+    {
         Ok(self.connections.open(0))
     }
 
     fn read(&mut self, buf: &mut [u8]) -> Result<usize, Failed>
         requires some { 0 < length buf.old }
+        requires size { length buf.old ≡ heard_size self.old.shows.taken }
         requires is_open { IsTrue self.old.shows.is_open }
         ensures sure { IsOk result }
         ensures bound { ReadsAtMost result buf.new }
@@ -78,7 +84,11 @@ impl Link for SureLink {
         Ok(self.connections.give(buf.len(), buf))
     }
 
-    fn close(&mut self) {
+    fn close(&mut self)
+        requires { IsTrue self.old.shows.is_open }
+        ensures closes { Closes self.old.shows self.new.shows }
+        ensures same { self.new ≡ record self.old { shows = self.new.shows } }
+    {
         self.connections.close();
     }
 }
