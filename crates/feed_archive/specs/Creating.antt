@@ -8,10 +8,10 @@ use Rattle.feed_archive.specs.declared.fault.CreateFault.{CreateFault}
 use Rattle.feed_archive.specs.declared.fault.CreateFault.TheVariants.{Failed, NotEmpty}
 
 -- After Ok the file was empty, it is the closing byte alone, 0, all of it kept, and each image has no content. `NotEmpty`
--- comes exactly where it wasn't empty.
+-- comes exactly where it wasn't empty. A disk that wasn't empty is left as it was, also where a call failed.
 abbrev pub Creates : DiskValue → DiskValue → Result (Unit {0}) CreateFault → Type 0
 Creates old new (Ok u) = (length old.now.file ≡ 0) × HasOnly new.now [] × (new.now ≡ settled (0 ∷ []))
-Creates old new (Err Failed) = Unit {0}
+Creates old new (Err Failed) = length old.now.file ≢ 0 → Rests old new
 Creates old new (Err NotEmpty) = (length old.now.file ≢ 0) × Rests old new
 
 abbrev pub CreateCause : ℕ → ℕ → Result (Unit {0}) CreateFault → Type 0

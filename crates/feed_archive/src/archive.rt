@@ -106,7 +106,8 @@ impl<D: Disk> Archive<D> {
         disk
     }
 
-    /// Appends the piece, of 1 to 65,536 bytes, as one record. It takes no memory.
+    /// Appends the piece, of 1 to 65,536 bytes, as one record. It takes no memory, and makes at most four calls of the
+    /// disk.
     ///
     /// A crash at any moment of it leaves the archive with the piece or without it, and after Ok with it; the byte that
     /// closes it is then 0. `Full` comes exactly where the archive would have more than 2^31 bytes, and `Stopped` where the
@@ -121,6 +122,7 @@ impl<D: Disk> Archive<D> {
         ensures zero { OnOk result (D.tells → IsZeroAt (D.shows self.new.disk).now self.new.place) }
         ensures answers { AppendAnswers self.old self.new (length piece.now) result }
         ensures lasts { D.tells → Lasts (D.shows self.old.disk) (D.shows self.new.disk) }
+        ensures few { D.tells → (D.shows self.new.disk).calls ≤ (D.shows self.old.disk).calls + 4 }
         ensures planned { D.tells → AppendPlanned (D.shows self.old.disk) (self.old.place + 6 + length piece.now) result }
         ensures cause { AppendCause (D.faults self.old.disk) (D.faults self.new.disk) result }
     {

@@ -5,7 +5,8 @@ use crate::CreateFault;
 use disk_doors::Disk;
 
 /// Makes the archive with no content, which is the one byte 0, of a file with no bytes. It is kept after Ok; nothing is
-/// said of a crash before that. `NotEmpty` comes exactly where the file has a byte, and leaves the disk as it was.
+/// said of a crash before that. `NotEmpty` comes exactly where the file has a byte and no call fails. A disk whose file
+/// has a byte is left as it was, also where a call failed.
 pub fn create<D: Disk>(disk: &mut D) -> Result<(), CreateFault>
     ensures told { D.tells → Creates (D.shows disk.old) (D.shows disk.new) result }
     ensures lasts { D.tells → Lasts (D.shows disk.old) (D.shows disk.new) }

@@ -1,5 +1,6 @@
 use Rattle.std.proofs.Common.{◌≡◌, length, arith}
-use Rattle.disk_doors.proofs.Passing.{sizes_lasts, writes_lasts, syncs_lasts, lasts_then}
+use Rattle.std.proofs.lemmas.Result.{err_from_is_err_and}
+use Rattle.disk_doors.proofs.Passing.{asked_rests, sizes_lasts, writes_lasts, syncs_lasts, lasts_then}
 use Rattle.feed_archive.proofs.Empty.{created}
 use Rattle.feed_archive.proofs.creating.create.Goals as goal
 
@@ -7,6 +8,25 @@ pub returns-clause-told : goal.returns-clause-told
 returns-clause-told g c = λ t.
     let none : length (g.D.Disk.shows c.args.disk.now).now.file ≡ 0 = omega (arith, (c.in_ok-size.ensures.told t).size, c.if-branch-ne0.false) in
     created _ _ _ _ _ _ _ none (c.in_ok-size.ensures.told t) (c.in_ok-write_at.ensures.told t) (c.in_ok-sync.ensures.told t)
+
+pub returns-in_err-size-clause-told : goal.returns-in_err-size-clause-told
+returns-in_err-size-clause-told g c =
+    let p = err_from_is_err_and c.from_residual.result c.from_residual.ensures.1 in
+    rw (p.1, p.2) (λ t some. asked_rests _ _ (c.in_err-size.ensures.told t).next)
+
+pub returns-in_err-write_at-clause-told : goal.returns-in_err-write_at-clause-told
+returns-in_err-write_at-clause-told g c =
+    let p = err_from_is_err_and c.from_residual-in_err-write_at.result c.from_residual-in_err-write_at.ensures.1 in
+    rw (p.1, p.2) (λ t some.
+    let none : length (g.D.Disk.shows c.args.disk.now).now.file ≡ 0 = omega (arith, (c.in_ok-size.ensures.told t).size, c.if-branch-ne0.false) in
+    absurd (some none))
+
+pub returns-in_err-sync-clause-told : goal.returns-in_err-sync-clause-told
+returns-in_err-sync-clause-told g c =
+    let p = err_from_is_err_and c.from_residual-in_err-sync.result c.from_residual-in_err-sync.ensures.1 in
+    rw (p.1, p.2) (λ t some.
+    let none : length (g.D.Disk.shows c.args.disk.now).now.file ≡ 0 = omega (arith, (c.in_ok-size.ensures.told t).size, c.if-branch-ne0.false) in
+    absurd (some none))
 
 pub returns-in_err-size-clause-lasts : goal.returns-in_err-size-clause-lasts
 returns-in_err-size-clause-lasts g c = λ t. (sizes_lasts _ _ _ (c.in_err-size.ensures.told t))

@@ -54,3 +54,18 @@ returns-then-self-clause-any_moment g c = λ t content only. unappended content 
 
 pub returns-then-end-gt-MOST-clause-any_moment : goal.returns-then-end-gt-MOST-clause-any_moment
 returns-then-end-gt-MOST-clause-any_moment g c = λ t content only. unappended content c.args.piece.now (g.D.Disk.shows c.args.self.now.disk) only
+
+pub returns-then-self-clause-few : goal.returns-then-self-clause-few
+returns-then-self-clause-few g c = λ t. omega arith
+
+pub returns-then-end-gt-MOST-clause-few : goal.returns-then-end-gt-MOST-clause-few
+returns-then-end-gt-MOST-clause-few g c = λ t. omega arith
+
+pub returns-in_err-put-clause-few : goal.returns-in_err-put-clause-few
+returns-in_err-put-clause-few g c = rw (← c.self.view_is) (λ t. omega (arith, (c.put.ensures.told t).few))
+
+pub returns-in_err-put-2-clause-few : goal.returns-in_err-put-2-clause-few
+returns-in_err-put-2-clause-few g c = rw (← c.self.view_is) (λ t. omega (arith, (c.in_ok-put.ensures.told t).few, (c.put-2.ensures.told t).few))
+
+pub returns-clause-few : goal.returns-clause-few
+returns-clause-few g c = rw (← c.self.view_is) (λ t. omega (arith, (c.in_ok-put.ensures.told t).few, (c.in_ok-put-2.ensures.told t).few))
