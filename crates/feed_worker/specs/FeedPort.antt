@@ -1,8 +1,9 @@
--- When a lane may be given more bytes: nothing whole is unpublished.
-use Rattle.std.specs.Prelude.{◌≡◌, ℕ, List, [], ◌∷◌, ◌++◌, Option, None, Some}
+-- When a lane may be given more bytes, or the next connection: nothing whole is unpublished, or nothing at all.
+use Rattle.std.specs.Prelude.{◌≡◌, ◌⊎◌, ℕ, List, [], ◌∷◌, ◌++◌, Option, None, Some}
+use Rattle.bmp_specs.specs.declared.causes.Cause.{Cause}
 use Rattle.bmp_specs.specs.Life.{Given}
 use Rattle.bmp_specs.specs.Meaning.{Meaning, WalksBy}
-use Rattle.bmp_specs.specs.Values.{EntryValue, opened}
+use Rattle.bmp_specs.specs.Values.{EntryValue, opened, closed}
 use Rattle.bmp_specs.specs.Walk.{Verdict}
 
 -- by this meaning of bodies the entries since the last opening are exactly the messages of these bytes
@@ -24,3 +25,7 @@ present_of (g ∷ h ∷ gs) = present_of (h ∷ gs)
 abbrev pub IsPublishedWhereTold : Meaning → List EntryValue → Option (List Given) → Type 0
 IsPublishedWhereTold meaning entries None = Unit {0}
 IsPublishedWhereTold meaning entries (Some given) = IsPublished meaning entries (present_of given)
+
+-- nothing of a connection is unpublished: there is no entry, or the last one is a closing
+abbrev pub IsAtRest : List EntryValue → Type 0
+IsAtRest entries = (entries ≡ []) ⊎ ((before : List EntryValue) × (cause : Cause) × (entries ≡ before ++ closed cause ∷ []))

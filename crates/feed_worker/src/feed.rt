@@ -1,8 +1,10 @@
 //! The connections of a lane, one after another.
 ghost use Rattle.std.specs.Prelude.{◌≡◌, ◌+◌, ◌≤◌, ◌^◌, false, IsTrue, length, MatchResult};
+ghost use Rattle.rib_model.specs.Entries.{entry_values};
 ghost use Rattle.station_doors.specs.Doors.{Opens, opened_one};
 ghost use Rattle.feed_worker.specs.Connection.{IsNew};
 ghost use Rattle.feed_worker.specs.Feed.{Concludes, IsBegunOf, IsLifeOf, Refuses, ServesFeed};
+ghost use Rattle.feed_worker.specs.FeedPort.{IsAtRest};
 
 use crate::connection::{close_connection, take_connection};
 use crate::feed_port::FeedPort;
@@ -37,11 +39,16 @@ impl fmt::Display for LaneEnd {
 }
 
 /// Whether the next connection was opened. There may be none, or opening it may fail.
-fn opens<B: BodyReading, J: Naming, P: FeedPort<B, J>>(port: &mut P) -> bool
+fn opens<B: BodyReading, J: Naming, P: FeedPort<B, J>>(
+    pass: &FeedPass<RouterTables>,
+    port: &mut P,
+) -> bool
+    requires station { pass.now.station ≡ J.site }
+    requires at_rest { IsAtRest (entry_values pass.now.entries) }
     ensures opens { IsTrue result → Opens (P.aside port.old) (P.aside port.new) opened_one }
     ensures refuses { result ≡ false → Refuses (P.aside port.old) (P.aside port.new) }
 {
-    match port.next_connection() {
+    match port.next_connection(pass) {
         Ok(more) => more,
         Err(_) => false,
     }
@@ -72,11 +79,11 @@ fn serve_connection<B: BodyReading + Drop, J: Naming, P: FeedPort<B, J>, R: Wait
 }
 
 /// Serves up to so many connections of the port, one after another: takes each as `B` reads it, publishes its opening,
-/// its messages and its closing, and closes it. `Over` exactly where as many were served, or no further one was opened:
-/// there was none, or it failed, or the pass has more than 2^56 entries, which up to 4,096 rounds of a pass that had none
-/// don't come to. Out of memory, the pass published the opening of the last connection and the messages of all its
-/// reads but the last, or of all; or nothing of it, and then nothing was read. It is closed too, and no further one is
-/// opened.
+/// its messages and its closing, and closes it. All of that is published before the next one is asked for. `Over`
+/// exactly where as many were served, or no further one was opened: there was none, or it failed, or the pass has more
+/// than 2^56 entries, which up to 4,096 rounds of a pass that had none don't come to. Out of memory, the pass published
+/// the opening of the last connection and the messages of all its reads but the last, or of all; or nothing of it, and
+/// then nothing was read. It is closed too, and no further one is opened.
 pub fn serve_feed<B: BodyReading + Drop, J: Naming, P: FeedPort<B, J>, R: Wait>(
     rt: &R,
     alloc: Global,
@@ -85,7 +92,8 @@ pub fn serve_feed<B: BodyReading + Drop, J: Naming, P: FeedPort<B, J>, R: Wait>(
     port: &mut P,
     rounds: u32,
 ) -> LaneEnd
-    requires { pass.old.station ≡ J.site }
+    requires station { pass.old.station ≡ J.site }
+    requires at_rest { IsAtRest (entry_values pass.old.entries) }
     ensures { ServesFeed B.meaning rounds (P.aside port.old) (P.aside port.new) pass.old pass.new result }
 {
     let mut served = 0;
@@ -93,7 +101,7 @@ pub fn serve_feed<B: BodyReading + Drop, J: Naming, P: FeedPort<B, J>, R: Wait>(
         if pass.count() > MOST_ENTRIES {
             return LaneEnd::Over;
         }
-        if !opens::<B, J, P>(port) {
+        if !opens::<B, J, P>(pass, port) {
             return LaneEnd::Over;
         }
         match serve_connection::<B, J, P, R>(rt, alloc, publisher, pass, port) {

@@ -4,7 +4,7 @@ ghost use Rattle.std.specs.Io.{ReadsAtMost};
 ghost use Rattle.rib_model.specs.Entries.{entry_values};
 ghost use Rattle.wire_io.specs.Aside.{Aside};
 ghost use Rattle.station_doors.specs.Doors.{Opens, Reads, Closes, AsPlanned, read_size};
-ghost use Rattle.feed_worker.specs.FeedPort.{IsPublishedWhereTold};
+ghost use Rattle.feed_worker.specs.FeedPort.{IsAtRest, IsPublishedWhereTold};
 
 use bmp_message::BodyReading;
 use cut_publisher::{FeedPass, Naming};
@@ -12,8 +12,10 @@ use router_tables::RouterTables;
 use wire_io::Failed;
 
 /// The port of a lane of the station that `J` names. It gives bytes only to a lane that has published, on that station,
-/// all messages of the earlier ones as `B` reads them: nothing whole is unpublished when more is asked for. A lane that
-/// is written over any such port has no other way to the bytes of its connections.
+/// all messages of the earlier ones as `B` reads them: nothing whole is unpublished when more is asked for. It opens
+/// the next connection only for a lane that has published the closing of the last one: nothing of the earlier
+/// connections is unpublished while a lane waits for the next. A lane that is written over any such port has no other
+/// way to the bytes of its connections.
 pub trait FeedPort<B: BodyReading, J: Naming> {
     /// What it tells: its plan, the connections that it gave, and its counts.
     ghost aside: { Self → Aside };
@@ -21,8 +23,12 @@ pub trait FeedPort<B: BodyReading, J: Naming> {
     /// How many of its calls were made that its plan numbers.
     ghost calls: { Self → ℕ };
 
-    /// Opens the next connection, as a `Port` does.
-    fn next_connection(&mut self) -> Result<bool, Failed>
+    /// Opens the next connection, as a `Port` does, for the pass of a lane of this station. A lane may wait here for
+    /// days. Nothing of the earlier connections is unpublished then: the pass has no entry, or the last one is a
+    /// closing. Where one of them was read, its opening is among the entries, so the last one is its closing.
+    fn next_connection(&mut self, pass: &FeedPass<RouterTables>) -> Result<bool, Failed>
+        requires station { pass.now.station ≡ J.site }
+        requires at_rest { IsAtRest (entry_values pass.now.entries) }
         ensures opens { Opens (aside self.old) (aside self.new) result }
         ensures planned { IfSome (aside self.old).plan (λ plan. OnErr result (plan.fails ≡ [] → ⊥)) }
         ensures calls { calls self.new ≡ calls self.old };

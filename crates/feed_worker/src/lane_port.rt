@@ -43,7 +43,7 @@ impl<P: Port, B: BodyReading, J: Naming> FeedPort<B, J> for LanePort<P> {
 
     ghost calls = { P.calls };
 
-    fn next_connection(&mut self) -> Result<bool, Failed> {
+    fn next_connection(&mut self, _pass: &FeedPass<RouterTables>) -> Result<bool, Failed> {
         self.port.next_connection()
     }
 

@@ -8,8 +8,9 @@
 //! Proved: `take_connection` publishes the opening and exactly the messages of the bytes that it took, in order, and
 //! answers the cause of the connection's end; `close_connection` publishes that cause; `serve_feed` publishes the
 //! lives of all connections that it opened. All three are written over any `FeedPort`, which gives bytes only where the
-//! messages of all earlier ones are published; `LanePort` makes one of any port. Out of memory, the last
-//! connection's life was published up to its last read at least.
+//! messages of all earlier ones are published, and opens a connection only where the closing of the last one is;
+//! `LanePort` makes one of any port. Out of memory, the last connection's life was published up to its last read at
+//! least.
 //! Begin with `specs/Connection.antt`, `specs/Feed.antt` and `specs/FeedPort.antt`, then `src/connection.rt`.
 #![tactic(auto)]
 

@@ -25,7 +25,7 @@ use Rattle.station_run.specs.declared.outcome.Outcome.{Outcome}
 use Rattle.cut_publisher.specs.Cuts.{total}
 use Rattle.router_tables.specs.Tables.{TablesValue}
 use Rattle.station_run.specs.Served.{AreAskRuns, AreLaneRuns, AreOnHistory, AsksServe, AskRun, HaveServed, IsServed, LaneRun, LanesServe, StandFor, ask_of, end_of, first_link_of, first_of, last_link_of, last_of, pass_of}
-use Rattle.station_run.specs.Tasks.{AskIsDone, IsDone, LaneIsDone, station_of}
+use Rattle.station_run.specs.Tasks.{AskIsDone, IsDone, LaneIsDone, MayBegin, station_of}
 use Rattle.station_run.specs.Works.{AreDone, AreReady}
 
 -- two lists of equal length whose elements are related, each to the other's at its place
@@ -240,11 +240,17 @@ module _ {B P K : Type 0} (meaning : Meaning) (port : P → Aside) (aside : K �
   ask_pairs (Ask w ∷ ts) (Lane v ∷ us) p = absurd p.0
   ask_pairs (Ask w ∷ ts) (Ask v ∷ us) p = (p.0, ask_pairs ts us p.1)
 
--- each work can be begun
-pub all_ready : {B P K : Type 0} (b : Site) (rounds k : ℕ) (ts : List (Task B P K)) → LaneStarts b rounds k (lanes_of ts) → AskStarts b rounds (asks_of ts) → AllByRecursion (λ t. station_of t ≡ b) ts
-all_ready b rounds k [] l a = tt
-all_ready b rounds k (Lane w ∷ ts) l a = (ap (λ (f : Fed Entry). f.station) l.0, all_ready b rounds (k + 1) ts l.2 a)
-all_ready b rounds k (Ask w ∷ ts) l a = (a.0, all_ready b rounds k ts l a.3)
+-- each work is of the station
+all_of : {B P K : Type 0} (b : Site) (rounds k : ℕ) (ts : List (Task B P K)) → LaneStarts b rounds k (lanes_of ts) → AskStarts b rounds (asks_of ts) → AllByRecursion (λ t. station_of t ≡ b) ts
+all_of b rounds k [] l a = tt
+all_of b rounds k (Lane w ∷ ts) l a = (ap (λ (f : Fed Entry). f.station) l.0, all_of b rounds (k + 1) ts l.2 a)
+all_of b rounds k (Ask w ∷ ts) l a = (a.0, all_of b rounds k ts l a.3)
+
+-- and can be begun
+all_able : {B P K : Type 0} (b : Site) (rounds k : ℕ) (ts : List (Task B P K)) → LaneStarts b rounds k (lanes_of ts) → AllByRecursion MayBegin ts
+all_able b rounds k [] l = tt
+all_able b rounds k (Lane w ∷ ts) l = (ap (λ (f : Fed Entry). f.entries) l.0, all_able b rounds (k + 1) ts l.2)
+all_able b rounds k (Ask w ∷ ts) l = (tt, all_able b rounds k ts l)
 
 -- what works have come to that were paired from the passes of a station that was just opened
 pub have_served : {B P K : Type 0} (meaning : Meaning) (port : P → Aside) (aside : K → Aside) (told : K → Option (List ℕ)) (faults : K → ℕ) (b : Site) (rounds : ℕ) (feeds feeds2 : List (Fed Entry)) (asks asks2 : List (Asker Entry))
@@ -282,10 +288,11 @@ asks_begin b n rounds feeds asks0 asks ps ks ts fresh seated p =
     (all_from (λ (a : Asker Entry). (a.station ≡ b) × (a.seen ≡ [])) asks (λ k d h. let here : k < length asks0 = omega (arith, h, seated.count) in let there : k < n = omega (arith, here, fresh.count) in
     (ap (λ (a : Asker Entry). a.station) (seated.each k d here) ∙ ap (λ (a : Asker Entry). a.station) (fresh.each k d there), ap (λ (a : Asker Entry). a.seen) (seated.each k d here) ∙ ap (λ (a : Asker Entry). a.seen) (fresh.each k d there))))) p.askers.rounds_are
 
-pub are_ready : {B P K : Type 0} (b : Site) (rounds : ℕ) (ts : List (Task B P K)) → LaneStarts b rounds 0 (lanes_of ts) → AskStarts b rounds (asks_of ts) → AreReady station_of (λ _. Unit {0}) b ts
-are_ready b rounds ts l a =
-    let all = all_ready b rounds 0 ts l a in
-    record { of = λ k d h. all_at (λ t. station_of t ≡ b) ts all k d h; able = λ k d h. tt }
+pub are_ready : {B P K : Type 0} (b : Site) (rounds : ℕ) (ts : List (Task B P K)) → LaneStarts b rounds 0 (lanes_of ts) → AskStarts b rounds (asks_of ts) → AreReady station_of MayBegin b ts
+are_ready b rounds ts l a = record {
+  of = all_at (λ t. station_of t ≡ b) ts (all_of b rounds 0 ts l a);
+  able = all_at MayBegin ts (all_able b rounds 0 ts l);
+}
 
 -- the history that all have seen at the end
 pub is_served : (meaning : Meaning) (rounds lanes askers : ℕ) (b : Site) (runs : List LaneRun) (ask_runs : List AskRun) (cut : List (TablesValue × ℕ)) (feeds feeds2 : List (Fed Entry)) (asks asks2 : List (Asker Entry)) (rev : ℕ)

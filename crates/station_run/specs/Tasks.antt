@@ -1,5 +1,5 @@
--- The works of lanes and askers, each of which can be begun at any time, and what it is afterwards.
-use Rattle.std.specs.Prelude.{ℕ, List, Option}
+-- The works of lanes and askers, when each can be begun, and what it is afterwards.
+use Rattle.std.specs.Prelude.{◌≡◌, ℕ, List, [], Option}
 use Rattle.bmp_specs.specs.Meaning.{Meaning}
 use Rattle.cut_publisher.specs.History.{Site}
 use Rattle.wire_io.specs.Aside.{Aside}
@@ -22,6 +22,11 @@ pub record AskIsDone {K : Type 0} (shows : K → Aside) (told : K → Option (Li
 abbrev pub station_of : {B P K : Type 0} → Task B P K → Site
 station_of (Lane w) = w.pass.station
 station_of (Ask w) = w.pass.station
+
+-- a lane begins with a pass that published nothing; an asker can begin at any time
+abbrev pub MayBegin : {B P K : Type 0} → Task B P K → Type 0
+MayBegin (Lane w) = w.pass.entries ≡ []
+MayBegin (Ask w) = Unit {0}
 
 -- it is done, and of the same kind
 abbrev pub IsDone : {B P K : Type 0} → Meaning → (P → Aside) → (K → Aside) → (K → Option (List ℕ)) → (K → ℕ) → Task B P K → Task B P K → Type 0

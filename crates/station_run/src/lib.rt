@@ -11,7 +11,8 @@
 //! under its number, on every way out; that `ready` is written only once all ports and links stand; that all passes
 //! have seen one history in the end, whose part of each lane is what that lane's connections said and on which each asker's
 //! replies are; that the revision of that history is the one that is written; and which outcome comes. The works of lanes
-//! know of their ports what `FeedPort` has, and so get no bytes before all earlier messages are published.
+//! know of their ports what `FeedPort` has, and so get no bytes before all earlier messages are published, and no
+//! further connection before the closing of the last one is.
 //! Of `drill`: that its cut stands for a history whose part of each lane is the opening and all messages of its stream.
 //! That threads run at once, and that they get on, no contract says.
 //! Begin with `specs/Serve.antt`, `specs/Served.antt` and `specs/Handed.antt`, then `src/run.rt`; for a drill with

@@ -6,7 +6,7 @@ ghost use Rattle.cut_publisher.specs.History.{Asker};
 ghost use Rattle.rib_model.specs.declared.entry.Entry.{Entry};
 ghost use Rattle.station_run.specs.Handed.{link_shows, numbered, numbered_links};
 ghost use Rattle.station_run.specs.Served.{HaveServed};
-ghost use Rattle.station_run.specs.Tasks.{IsDone, station_of};
+ghost use Rattle.station_run.specs.Tasks.{IsDone, MayBegin, station_of};
 ghost use Rattle.station_run.specs.Works.{AreDone, AreReady};
 
 use crate::outcome::Outcome;
@@ -30,7 +30,7 @@ fn do_all<
     K: Link + Drop + Send,
     R: Threads + Wait + Sync,
 >(rt: &R, alloc: Global, publisher: &Publisher<RouterTables, J>, tasks: &mut Vec<Task<B, P, K>>)
-    requires { AreReady station_of (λ _. Unit {0}) J.site tasks.old.items }
+    requires { AreReady station_of MayBegin J.site tasks.old.items }
     ensures { AreDone (IsDone B.meaning P.aside K.aside K.told K.faults) tasks.old.items tasks.new.items }
 {
     run_all(rt, alloc, publisher, tasks.as_mut_slice());

@@ -1,5 +1,5 @@
 //! The works of lanes and askers.
-ghost use Rattle.std.specs.Prelude.{◌≡◌};
+ghost use Rattle.std.specs.Prelude.{◌≡◌, []};
 ghost use Rattle.station_run.specs.Tasks.{LaneIsDone};
 
 use crate::works::Work;
@@ -45,11 +45,11 @@ impl<B: BodyReading + Drop, J: Naming + Send + Sync, P: FeedPort<B, J> + Drop, K
     RouterTables,
     J,
 > for Task<B, P, K> {
-    ghost use Rattle.station_run.specs.Tasks.{station_of, IsDone};
+    ghost use Rattle.station_run.specs.Tasks.{station_of, IsDone, MayBegin};
 
     ghost station = { station_of };
 
-    ghost ready = { λ _. Unit {0} };
+    ghost ready = { MayBegin };
 
     ghost done = { IsDone B.meaning P.aside K.aside K.told K.faults };
 
@@ -73,7 +73,8 @@ fn serve_lane<B: BodyReading + Drop, J: Naming, P: FeedPort<B, J> + Drop, R: Wai
     publisher: &Publisher<RouterTables, J>,
     work: &mut LaneWork<B, P>,
 )
-    requires { work.old.pass.station ≡ J.site }
+    requires station { work.old.pass.station ≡ J.site }
+    requires none { work.old.pass.entries ≡ [] }
     ensures { LaneIsDone B.meaning P.aside work.old work.new }
 {
     work.end = serve_feed::<B, J, P, R>(

@@ -169,6 +169,10 @@ fn served<J: Naming, R: Wait>(
     let (Some(mut pass), Some(watch)) = (pass, watch) else {
         return None;
     };
+    // the pass of a new station
+    if pass.count() > 0 {
+        return None;
+    }
     let mut port = LanePort::new(watch);
     let end = serve_feed::<Reading, J, LanePort<Watch>, R>(
         rt, alloc, publisher, &mut pass, &mut port, rounds,

@@ -1,4 +1,5 @@
 use Rattle.std.proofs.Common.{refl, arith}
+use Rattle.feed_worker.proofs.Resting.{rests_after}
 use Rattle.feed_worker.proofs.Serving.{serves_more, serves_some}
 use Rattle.feed_worker.proofs.feed.serve_feed.Goals as goal
 
@@ -9,4 +10,5 @@ pub loop-served-preserved : goal.loop-served-preserved
 loop-served-preserved g c = record {
   serves = serves_more g.B.BodyReading.meaning _ _ _ _ _ c.loop-served.invariant.serves (omega (arith, c.if-count-gt-MOST_ENTRIES.false, c.count.ensures)) (g.P.FeedPort.aside c.opens.new.port) _ (c.if-not-opens.ensures.opens refl) _ c.in-Ok.ensures;
   most = omega (arith, c.loop-served-test.true);
+  at_rest = rests_after g.B.BodyReading.meaning _ _ _ _ c.in-Ok.ensures;
 }
