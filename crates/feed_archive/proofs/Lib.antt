@@ -10,3 +10,4 @@ pub mod Kept
 pub mod Telling
 pub mod Asked
 pub mod AsideReads
+pub mod Holding
