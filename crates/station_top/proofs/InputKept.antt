@@ -9,14 +9,14 @@ use Rattle.disk_doors.proofs.Passing.{sound_smaller}
 use Rattle.disk_doors.specs.Disk.{DiskValue}
 use Rattle.disk_doors.specs.Note.{Event}
 use Rattle.feed_archive.proofs.Kept.{file_content, refused_counts}
-use Rattle.feed_archive.proofs.Telling.{aside_calm}
+use Rattle.feed_archive.proofs.Telling.{aside_calm, open_is}
 use Rattle.feed_archive.specs.Appending.{ArchiveValue, IsClosedAt}
 use Rattle.feed_archive.specs.Keeping.{HasKept, InnerGave, KeepCause, KeepPortValue, KeepsDisk, KeepsExactly, KeepsGoing, KeepsPlace, KeepsPlan, Told, TellsBytes, all_bytes, asked, gave, is_refused, keep_aside, lost, made_over, stays_of, told_by, went_of}
 use Rattle.feed_archive.specs.Recovering.{HasOnly}
 use Rattle.feed_archive.specs.declared.fault.AppendFault.{AppendFault}
 use Rattle.feed_archive.specs.declared.fault.AppendFault.TheVariants as append
 use Rattle.station_doors.specs.Doors.{DiskShown, MadeOver, one_more, untouched}
-use Rattle.station_doors.specs.Planned.{FollowsPlan, first_of}
+use Rattle.station_doors.specs.Planned.{FollowsBy, FollowsPlan, first_of}
 use Rattle.wire_io.specs.Aside.{Aside, Plan}
 use Rattle.wire_io.specs.Faults.{Rose}
 use Rattle.station_top.specs.ArchiveRuns.{HandsEmpty, IsRefused, IsTakenIn, KeepsBytes, KeepsFor, KeepsFront, KeepsInput}
@@ -42,6 +42,12 @@ opens_few : (given : List Given) (refused : Bool) (opened faults : ℕ) → open
 opens_few [] refused opened faults is asked counts = (omega (arith, is), λ one. absurd (omega (arith, is, one)))
 opens_few (g ∷ gs) refused opened faults is asked counts = (omega (arith, is), λ one. (asked (omega arith), counts))
 
+-- where it gave a byte and opened one connection at most, it opened one
+opened_once : (plan : Plan) (now : Aside) (calls : ℕ) (went : List LastRead) (given : List Given) → FollowsBy plan now calls went given → now.opened ≤ 1 → 0 < length (all_bytes given) → now.opened ≡ 1
+opened_once plan now calls went [] f few some = absurd (omega (arith, some))
+opened_once plan now calls went (g ∷ []) f few some = f.0
+opened_once plan now calls went (g ∷ h ∷ gs) f few some = absurd (omega (arith, f, few))
+
 not_true : (b : Bool) → (b ≡ true → ⊥) → b ≡ false
 not_true true other = absurd (other refl)
 not_true false other = refl
@@ -54,6 +60,10 @@ none_is (Some fault) e = absurd (cc e)
 same_opened : (b : Bool) (inner base : Aside) (es : List Event) → (told_by b inner base es).opened ≡ inner.opened
 same_opened true inner base es = refl
 same_opened false inner base es = refl
+
+same_closed : (b : Bool) (inner base : Aside) (es : List Event) → (told_by b inner base es).closed ≡ inner.closed
+same_closed true inner base es = refl
+same_closed false inner base es = refl
 
 same_refused : (b : Bool) (inner base : Aside) (es : List Event) → (told_by b inner base es).refused ≡ inner.refused
 same_refused true inner base es = refl
@@ -214,15 +224,24 @@ module _ {P D : Type 0} (aside : P → Aside) (calls : P → ℕ) (shows : D →
           let same : told.given ≡ told_here.given = same_some told.given told_here.given (sym told.given_is ∙ told_here.given_is) in
           ap (λ (g : Given). g.bytes) told.input_is ∙ input_bytes told.given (keep_aside (aside k.inner) (aside k.before) k.events).refused told.one ∙ ap all_bytes same ∙ told_here.bytes_are
 
+      opened_is : (aside k.inner).opened ≡ one_for told_input.given 0
+      opened_is = sym (same_opened (is_refused k.events) (aside k.inner) (aside k.before) k.events) ∙ told_input.opened ∙ ap (one_for told_input.given) (ap (λ (a : Aside). a.opened) started_is)
+
+      -- it was closed as often as it was opened
+      closed_is : (aside k.inner).closed ≡ (aside k.inner).opened
+      closed_is = sym (same_closed (is_refused k.events) (aside k.inner) (aside k.before) k.events) ∙ told_input.closed ∙ ap (one_for told_input.given) (ap (λ (a : Aside). a.closed) started_is) ∙ sym opened_is
+
+      shut : (aside k.inner).is_open ≡ false
+      shut = sym (open_is (is_refused k.events) (aside k.inner) (aside k.before) k.events) ∙ told_input.is_closed (ap (λ (a : Aside). a.is_open) started_is)
+
       few_opened : ((aside k.inner).opened ≤ 1) × ((aside k.inner).opened ≡ 1 → ((aside k.inner).refused ≡ false) × ((aside k.inner).open_faults ≡ 0))
       few_opened =
           let told = told_input in
           let b = is_refused k.events in
-          let opened : (aside k.inner).opened ≡ one_for told.given 0 = sym (same_opened b (aside k.inner) (aside k.before) k.events) ∙ told.opened ∙ ap (one_for told.given) (ap (λ (a : Aside). a.opened) started_is) in
           let refused = same_refused b (aside k.inner) (aside k.before) k.events in
           let counted = subst (λ (n : ℕ). CountsOpening told.given (keep_aside (aside k.inner) (aside k.before) k.events).refused n (keep_aside (aside k.inner) (aside k.before) k.events).open_faults) (ap (λ (a : Aside). a.open_faults) started_is) told.opening in
           let counts = subst (λ (n : ℕ). CountsOpening told.given (aside k.inner).refused 0 n) (same_faults b (aside k.inner) (aside k.before) k.events) (subst (λ (q : Bool). CountsOpening told.given q 0 (keep_aside (aside k.inner) (aside k.before) k.events).open_faults) refused counted) in
-          opens_few told.given (aside k.inner).refused (aside k.inner).opened (aside k.inner).open_faults opened (λ some. sym refused ∙ told.asked some) counts
+          opens_few told.given (aside k.inner).refused (aside k.inner).opened (aside k.inner).open_faults opened_is (λ some. sym refused ∙ told.asked some) counts
 
       -- the input as it was taken of a port that shows no plan
       unplanned_input : WentOn (keep_aside (aside port) (aside port) []) (keep_aside (aside k.inner) (aside k.before) k.events) (Some []) (Some (went_of k.events)) → is_refused k.events ≡ false → Comes meaning p (aside k.inner) i.input i.messages taken.cause
@@ -267,14 +286,20 @@ module _ {P D : Type 0} (aside : P → Aside) (calls : P → ℕ) (shows : D →
       keeps_for why started is =
           let f = front few_opened in
           let within : length (gave k.events ++ lost k.events) ≤ length (first_of p.connections) = omega (arith, ap length f.1, length-append (gave k.events ++ lost k.events) f.0) in
+          let some : 0 < length (lost k.events) = r.place.some (r.noted ∙ ap is_some is) in
+          let same : all_bytes follows.given ≡ gave k.events ++ lost k.events = ap all_bytes (same_some follows.given told_below.given (sym follows.given_is ∙ told_below.given_is)) ∙ told_below.bytes_are in
+          let one : (aside k.inner).opened ≡ 1 = opened_once p (aside k.inner) (calls k.inner) (asked k.events) follows.given follows.follows few_opened.0 (omega (arith, ap length same, length-append (gave k.events) (lost k.events), some)) in
           record {
             lost = lost k.events;
-            some = r.place.some (r.noted ∙ ap is_some is);
+            some = some;
             kept = subst (λ (l : List ℕ). KeepsBytes l (lost k.events) (shown_by shows faults archive.disk) (shown_by shows faults k.archive.disk)) (sym bytes_are) bytes_kept;
             rest = f.0;
             front = f.1 ∙ ap (λ (l : List ℕ). (l ++ lost k.events) ++ f.0) (sym bytes_are);
             shown = follows.shown;
             told = subst (λ (l : List ℕ). Told (aside k.inner) (l ++ lost k.events)) (sym bytes_are) told_below;
+            opened = one;
+            closed = closed_is ∙ one;
+            is_closed = shut;
             refused = by why is (length (first_of p.connections)) within;
           }
         where

@@ -1,5 +1,5 @@
 -- What `archive` comes to.
-use Rattle.std.specs.Prelude.{◌≡◌, ◌⊎◌, ℕ, ◌+◌, ◌*◌, ◌<◌, ◌≤◌, List, [], ◌∷◌, ◌++◌, Option, Some, None, Contains, Result, Ok, Err, length, codes}
+use Rattle.std.specs.Prelude.{◌≡◌, ◌⊎◌, ℕ, ◌+◌, ◌*◌, ◌<◌, ◌≤◌, List, [], ◌∷◌, ◌++◌, Option, Some, None, Contains, Result, Ok, Err, false, length, codes}
 use Rattle.bmp_specs.specs.declared.causes.Cause.{Cause}
 use Rattle.bmp_specs.specs.Life.{IsReadNoFurther, Given, HasCome}
 use Rattle.bmp_specs.specs.Lines.{line, number_line, stop_line}
@@ -157,7 +157,7 @@ IsRefused append.Full n bytes begun back = (back.faults ≡ begun.faults) × (mo
 IsRefused append.Stopped n bytes begun back = ⊥
 
 -- These bytes were kept, and the append of the next piece was refused. They and the piece are the first bytes of the first
--- connection of the port's plan, and what the port shows as given.
+-- connection of the port's plan, and what the port shows as given. That connection was opened and closed, and no other.
 pub record KeepsFor (why : AppendFault) (bytes : List ℕ) (plan : Plan) (shows : Aside) (begun back : DiskShown) : Type 0 where
   pub lost : List ℕ
   pub some : 0 < length lost
@@ -166,6 +166,9 @@ pub record KeepsFor (why : AppendFault) (bytes : List ℕ) (plan : Plan) (shows 
   pub front : first_of plan.connections ≡ (bytes ++ lost) ++ rest
   pub shown : shows.plan ≡ Some plan
   pub told : Told shows (bytes ++ lost)
+  pub opened : shows.opened ≡ 1
+  pub closed : shows.closed ≡ 1
+  pub is_closed : shows.is_open ≡ false
   pub refused : IsRefused why (length (first_of plan.connections)) bytes begun back
 
 -- Some first bytes of the first connection were kept, and then there was no memory: the disk is an archive of them, and they
