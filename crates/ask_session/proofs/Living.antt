@@ -1,12 +1,14 @@
 -- A connection, piece by piece, up to its end.
-use Rattle.std.proofs.Common.{◌≡◌, ◌⊎◌, inl, inr, ℕ, ◌+◌, ◌≤◌, true, false, length, List, [], ◌++◌, Option, refl, ap, sym, ◌∙◌, subst, append-nil, length-append, arith}
+use Rattle.std.proofs.Common.{◌≡◌, ◌⊎◌, inl, inr, ℕ, ◌+◌, ◌≤◌, true, false, length, List, [], ◌++◌, Option, Err, refl, ap, sym, ◌∙◌, subst, append-nil, length-append, arith}
 use mathlib.Core.Bool.{false≢true}
 use Rattle.std.specs.Io.KnownBytes.{Appends, Keeps, IsAtEnd}
 use Rattle.bmp_specs.specs.Life.{LastRead, gave, gave_none, failed, most_taken, Given}
 use Rattle.cut_publisher.specs.History.{revision}
 use Rattle.cut_publisher.proofs.Prefixes.{begins_self}
+use Rattle.station_doors.specs.Doors.{AsPlanned}
 use Rattle.wire_io.specs.Aside.{Aside, fresh}
 use Rattle.wire_io.specs.Faults.{Rose}
+use Rattle.wire_io.specs.declared.sink.Failed.{Failed}
 use Rattle.wire_io.proofs.Joins.{appends_none, appends_then, keeps_appends}
 use Rattle.ask_session.specs.declared.close.Close.{Close}
 use Rattle.ask_session.specs.declared.close.Close.TheVariants.{Ended, Full, Over, ReadFault, WriteFault}
@@ -19,7 +21,7 @@ use Rattle.ask_session.specs.Taking.{Lives}
 use Rattle.ask_session.proofs.NextLine.{few_none}
 use Rattle.ask_session.proofs.Going.{no_further}
 use Rattle.ask_session.proofs.Pieces.{goes_none, goes_halts, goes_then}
-use Rattle.ask_session.proofs.Reading.{ReadsPiece, input_begin, input_then}
+use Rattle.ask_session.proofs.Reading.{ReadsPiece, fails_some, input_begin, input_then}
 
 goes_keeps : (lanes : ℕ) (s1 s2 : History) (from pending : List ℕ) (a b c : Option (List ℕ)) (n0 n1 n2 : ℕ) → Goes lanes s1 s2 from pending a b n0 n1 → Keeps b c → n2 ≡ n1 → Goes lanes s1 s2 from pending a c n0 n2
 goes_keeps lanes s1 s2 from pending a b c n0 n1 n2 p k e = record {
@@ -114,8 +116,8 @@ module _ (lanes lanes' : ℕ) (same : lanes' ≡ lanes) (s1 s2 s3 : History) (a1
     goes = goes_then lanes s1 s2 s3 p.input.bytes pending piece pending' t1 t3 t4 n1 n3 n4 goes_read (subst (λ (l : ℕ). Goes l s2 s3 (pending ++ piece) pending' t3 t4 n3 n4) same q);
   }
 
-  pub conversed_early : (close : Close) → IsEarly close → length piece ≤ most_heard → Halts lanes' close false s2 s3 (pending ++ piece) t3 t4 n3 n4 → (input : Given) × Conversed lanes s3 (revision s1) a1 a4 input t1 t4 n1 n4 close
-  conversed_early close e short q =
+  pub conversed_early : (close : Close) → IsEarly close → last ≡ gave → length piece ≤ most_heard → Halts lanes' close false s2 s3 (pending ++ piece) t3 t4 n3 n4 → (input : Given) × Conversed lanes s3 (revision s1) a1 a4 input t1 t4 n1 n4 close
+  conversed_early close e some short q =
       let q1 = subst (λ (l : ℕ). Halts l close false s2 s3 (pending ++ piece) t3 t4 n3 n4) same q in
       let h = goes_halts lanes close false s1 s2 s3 p.input.bytes pending piece t1 t3 t4 n1 n3 n4 goes_read q1 in (
         input_now,
@@ -128,6 +130,7 @@ module _ (lanes lanes' : ℕ) (same : lanes' ≡ lanes) (s1 s2 s3 : History) (a1
           talk = h.talk;
           written = h.written;
           fault = fault_early close a1.read_faults a4.read_faults e all_calm;
+          planned = λ other. absurd (cc (some, other));
           no_further = no_further lanes s1 s2 s3 (p.input.bytes ++ piece) p.input.bytes pending piece close q1.replies t1 t3 t4 n1 n3 n3 n4 goes_read q1.sees refl short q1.written;
         },
       )
@@ -148,6 +151,7 @@ module _ (lanes lanes' : ℕ) (same : lanes' ≡ lanes) (s1 s2 s3 : History) (a1
           talk = h.talk;
           written = h.written;
           fault = fault_end Ended result a1.read_faults a4.read_faults (inl refl) q.which all_calm;
+          planned = λ other. absurd (cc (none_given, other));
           no_further = no_further lanes s1 s2 s3 (p.input.bytes ++ piece) p.input.bytes pending piece result q1.replies t1 t3 t4 n1 n3 n3 n4 goes_read q1.sees refl (omega (arith, ap length none)) q1.written;
         },
       )
@@ -170,13 +174,14 @@ module _ (lanes : ℕ) (s1 s2 s3 : History) (a1 a2 a3 : Aside) (t1 t2 t3 : Optio
           talk = subst (λ (l : List ℕ). Dialogue lanes result true s3 (revision s1) l h.replies) (append-nil p.input.bytes) h.talk;
           written = h.written;
           fault = fault_end Full result a1.read_faults a3.read_faults (inr refl) q.which calm;
+          planned = λ other. absurd (cc (p.going, other));
           no_further = no_further lanes s1 s2 s3 p.input.bytes p.input.bytes pending [] result q1.replies t1 t2 t3 n1 n2 n2 n3 p.goes q1.sees (sym (append-nil p.input.bytes)) (omega arith) q1.written;
         },
       )
 
   -- a failed read
-  pub conversed_fault : ReadsPiece a2 a3 [] failed → Keeps t2 t3 → n3 ≡ n2 → Rose a2.read_faults a3.read_faults → (input : Given) × Conversed lanes s2 (revision s1) a1 a3 input t1 t3 n1 n3 ReadFault
-  conversed_fault r told calm rose =
+  pub conversed_fault : (before after : ℕ) (e : Failed) → ReadsPiece a2 a3 [] failed → AsPlanned a2.plan before after (Err e) → Keeps t2 t3 → n3 ≡ n2 → Rose a2.read_faults a3.read_faults → (input : Given) × Conversed lanes s2 (revision s1) a1 a3 input t1 t3 n1 n3 ReadFault
+  conversed_fault before after e r plan told calm rose =
       let g = goes_keeps lanes s1 s2 p.input.bytes pending t1 t2 t3 n1 n2 n3 p.goes told calm in
       let d : Dialogue lanes ReadFault false s2 (revision s2) (pending ++ []) [] = record { turns = []; talks = (record { plain = subst (λ (l : List ℕ). HasNoEnd l) (sym (append-nil pending)) g.plain; few = subst (λ (l : List ℕ). IsTooMany l → ⊥) (sym (append-nil pending)) g.few; none = λ h. absurd (false≢true h) }, refl) } in
       let input : Given = record { bytes = p.input.bytes ++ []; last = failed } in (
@@ -190,6 +195,7 @@ module _ (lanes : ℕ) (s1 s2 s3 : History) (a1 a2 a3 : Aside) (t1 t2 t3 : Optio
           talk = g.turns.go ReadFault false s2 [] [] (begins_self s2) d;
           written = (subst (λ (l : List ℕ). Appends t1 t3 l) (sym (append-nil g.written)) g.told_is, g.calm);
           fault = subst (λ (n : ℕ). Rose n a3.read_faults) p.calm rose;
+          planned = λ _. fails_some a1.plan a2.plan before after e p.reads.stays.plan plan;
           no_further = no_further lanes s1 s2 s2 (p.input.bytes ++ []) p.input.bytes pending [] ReadFault [] t1 t3 t3 n1 n3 n3 n3 g (begins_self s2) refl (omega arith) (appends_none t3, refl);
         },
       )

@@ -1,11 +1,12 @@
 -- What reads leave of what a link tells.
 use Rattle.std.proofs.Common.{◌≡◌, ℕ, nat_eq, cond, Bool, true, false, ◌+◌, ◌^◌, ◌<◌, length, take, List, [], ◌++◌, Option, None, Some, Result, Ok, Err, refl, ap, sym, ◌∙◌, subst, append_assoc, length-append, arith}
 use Rattle.std.proofs.lemmas.Bool.Decides.{nat_tests}
+use Rattle.std.specs.Prelude.{IfSome}
 use Rattle.std.specs.Io.KnownBytes.{Consumes, Keeps}
 use Rattle.bmp_specs.specs.Life.{LastRead, gave, gave_none, failed, Given}
-use Rattle.station_doors.specs.Doors.{Reads, GivesBytes, read_of, GivesMore}
+use Rattle.station_doors.specs.Doors.{Reads, AsPlanned, GivesBytes, read_of, GivesMore}
 use Rattle.station_doors.proofs.Sessions.{given_more_last}
-use Rattle.wire_io.specs.Aside.{Aside, fresh}
+use Rattle.wire_io.specs.Aside.{Aside, Plan, fresh}
 use Rattle.wire_io.specs.declared.sink.Failed.{Failed}
 use Rattle.ask_session.specs.Connection.{GivesInput, Stays, ReadsInput}
 
@@ -68,6 +69,11 @@ piece_err old new e buf r = record {
   taken = λ fits. omega (arith, r.taken);
   stays = stays_of old new (Err e) buf r;
 }
+
+-- the plan fails a call
+pub fails_some : (plan0 plan : Option Plan) (c d : ℕ) (e : Failed) → plan ≡ plan0 → AsPlanned plan c d (Err e) → IfSome plan0 (λ x. x.fails ≡ [] → ⊥)
+fails_some None plan c d e is p = tt
+fails_some (Some x) plan c d e is p = λ none. let q = subst (λ (o : Option Plan). AsPlanned o c d (Err e)) is p in omega (arith, q.1.1, ap length none)
 
 pub input_begin : (a : Aside) → ReadsInput a a fresh
 input_begin a = record { rest = consumes_self a.rest; given = input_fresh a.given; taken = λ none. none; stays = stays_self a }

@@ -1,5 +1,5 @@
 -- One connection of an asker: what was read of it, what was written, and why it ended.
-use Rattle.std.specs.Prelude.{◌≡◌, ◌⊎◌, ℕ, ◌≤◌, Bool, true, false, List, [], ◌∷◌, ◌++◌, length, Option, None, Some}
+use Rattle.std.specs.Prelude.{◌≡◌, ◌⊎◌, ℕ, ◌≤◌, Bool, true, false, List, [], ◌∷◌, ◌++◌, length, Option, None, Some, IfSome}
 use Rattle.std.specs.Io.KnownBytes.{Appends, Consumes, IsAtEnd}
 use Rattle.bmp_specs.specs.Life.{gave_none, failed, most_taken, Given}
 use Rattle.wire_io.specs.Aside.{Aside, fresh}
@@ -58,7 +58,8 @@ HasReadFault Full reads reads' = reads' ≡ reads
 HasReadFault Over reads reads' = reads' ≡ reads
 HasReadFault WriteFault reads reads' = reads' ≡ reads
 
--- the most bytes that one read gives
+-- The most bytes that one read gives: each is asked for so many, or for what is left up to 2^46 bytes of one connection
+-- (`heard_size` of `station_doors`).
 abbrev pub most_heard : ℕ
 most_heard = 512
 
@@ -78,7 +79,8 @@ pub record IsReadNoFurther (lanes : ℕ) (history : History) (least : ℕ) (byte
   pub written : AppendsThenMore told told' replies
 
 -- One connection, from its opening to its end: what was read of it, at most 2^46 bytes, and what was written. `history` is
--- what the pass has seen in the end, `least` the revision of what it had seen when the connection began.
+-- what the pass has seen in the end, `least` the revision of what it had seen when the connection began. A read failed only
+-- where the plan has a call that fails.
 pub record Conversed (lanes : ℕ) (history : History) (least : ℕ) (old new : Aside) (input : Given) (told told' : Option (List ℕ)) (writes writes' : ℕ) (close : Close) : Type 0 where
   pub reads : ReadsInput old new input
   pub few : length input.bytes ≤ most_taken
@@ -88,4 +90,5 @@ pub record Conversed (lanes : ℕ) (history : History) (least : ℕ) (old new : 
   pub talk : Dialogue lanes close ended history least input.bytes replies
   pub written : HasWritten close replies told told' writes writes'
   pub fault : HasReadFault close old.read_faults new.read_faults
+  pub planned : input.last ≡ failed → IfSome old.plan (λ plan. plan.fails ≡ [] → ⊥)
   pub no_further : IsReadNoFurther lanes history least input.bytes told told'

@@ -1,5 +1,5 @@
 -- The connections of an asker, one after another.
-use Rattle.std.specs.Prelude.{◌≡◌, ℕ, Bool, List, [], ◌∷◌, length, MatchBool, nat_lt, Option, Result, Some, map, ◌++◌}
+use Rattle.std.specs.Prelude.{◌≡◌, ℕ, Bool, List, [], ◌∷◌, length, MatchBool, nat_lt, Option, Result, Some, IfSome, OnErr, map, ◌++◌}
 use Rattle.std.specs.Io.KnownBytes.{Keeps}
 use Rattle.bmp_specs.specs.Life.{Given}
 use Rattle.cut_publisher.specs.History.{Asker, Begins, IsUnmarked, revision}
@@ -41,11 +41,12 @@ Serves lanes seen seen' aside aside' told told' writes writes' (s ∷ ss) = Begi
     × Conversed lanes s.seen (revision seen) s.opened s.ended s.input s.told0 s.told1 writes s.writes s.close × Closes s.ended s.closed
     × Serves lanes s.seen seen' s.closed aside' s.told1 told' s.writes writes' ss
 
--- a call of `next_connection` gave no connection
+-- A call of `next_connection` gave no connection. It failed only where the plan has a call that fails.
 pub record Refuses (old new : Aside) (writes : ℕ) : Type 0 where
   pub result : Result Bool Failed
   pub refused : IsRefusal result
   pub opens : OpensLink old new writes result
+  pub planned : IfSome old.plan (λ plan. OnErr result (plan.fails ≡ [] → ⊥))
 
 -- So many of the rounds were served: all of them, or fewer, where `next_connection` then gave no connection.
 pub record Served (lanes : ℕ) (rounds : ℕ) (seen seen' : History) (aside aside' : Aside) (told told' : Option (List ℕ)) (writes writes' : ℕ) (count : ℕ) : Type 0 where

@@ -70,9 +70,10 @@ fn hear_last<K: Link>(
     }
 }
 
-/// Serves the present connection to its end.
+/// Serves the present connection, of which no byte was given, to its end.
 pub fn converse<K: Link>(pass: &mut AskPass<RouterTables>, link: &mut K) -> Close
-    requires { IsTrue (K.aside link.old).is_open }
+    requires is_open { IsTrue (K.aside link.old).is_open }
+    requires fresh { (K.aside link.old).taken ≡ 0 }
     ensures sees { Sees pass.old pass.new }
     ensures talk { (input : Given) × Conversed pass.old.station.lanes pass.new.seen (revision pass.old.seen)
         (K.aside link.old) (K.aside link.new) input (K.told link.old) (K.told link.new) (K.faults link.old) (K.faults link.new) result }

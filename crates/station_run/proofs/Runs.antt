@@ -166,6 +166,7 @@ on_history lanes h (x ∷ xs) seen seen' a a' t t' w w' s later =
         talk = dialogue_later lanes x.close s.3.ended x.seen h (revision seen) x.input.bytes s.3.replies here s.3.talk;
         written = s.3.written;
         fault = s.3.fault;
+        planned = s.3.planned;
         no_further = no_further_later lanes x.seen h (revision seen) x.input.bytes x.told0 x.told1 here s.3.no_further;
       },
       on_history lanes h xs x.seen seen' x.closed a' x.told1 t' x.writes w' rest later,

@@ -1,4 +1,4 @@
-use Rattle.std.proofs.Common.{◌≡◌, ◌<◌, ◌≤◌, ◌++◌, ℕ, length, take, drop, arith, rules, sym, ap, [], ◌≢◌, ◌∙◌}
+use Rattle.std.proofs.Common.{◌≡◌, ◌<◌, ◌≤◌, ◌++◌, ℕ, length, take, drop, arith, rules, sym, ap, length-take, [], ◌≢◌, ◌∙◌}
 use Rattle.std.proofs.lemmas.List.{take-append-le}
 use Rattle.cut_publisher.specs.History.{Site}
 use Rattle.station_doors.specs.Doors.{read_of}
@@ -22,16 +22,17 @@ returns-in-Some-clause-talk g c =
     let e = c.in-Ok.ensures in
     let within : c.in-Ok.n ≤ length c.read.new.buf = search rules in
     let len : length (take c.in-Ok.n c.read.new.buf) ≡ c.in-Ok.n = search rules in
+    let some : c.in-Ok.n ≢ 0 = search rules in
     let short : length (take c.in-Ok.n c.read.new.buf) ≤ 512 = search rules in
     let same : take c.in-Ok.n (c.read.new.buf ++ drop c.min-room.result c.loop-taken.buf) ≡ take c.in-Ok.n c.read.new.buf = take-append-le c.in-Ok.n c.read.new.buf (drop c.min-room.result c.loop-taken.buf) within in
     let hears = rw same at c.in-Some.ensures.hears in
     let piece = piece_ok (g.K.Sink.aside c.loop-taken.link) (g.K.Sink.aside c.read.new.self) c.in-Ok.n c.read.new.buf e.reads len in
     conversed_early c.args.pass.now.station.lanes c.loop-taken.pass.station.lanes (ap (λ (x : Site). x.lanes) c.loop-taken.invariant.sees.station) _ _ _ _ _ _ _ _ _ _ _ _ _ _ _ _ _ _ _ c.loop-taken.invariant.lives piece e.told e.calm e.reads.cause.fine
-    (search rules) c.in-Some.ensures.kept c.in-Some.close hears.0 short hears.1
+    (search rules) c.in-Some.ensures.kept c.in-Some.close hears.0 (read_some c.in-Ok.n some) short hears.1
 
 pub returns-in-Err-clause-talk : goal.returns-in-Err-clause-talk
 returns-in-Err-clause-talk g c = conversed_fault c.args.pass.now.station.lanes _ _ c.loop-taken.pass.seen (g.K.Sink.aside c.args.link.now) (g.K.Sink.aside c.loop-taken.link) (g.K.Sink.aside c.read.new.self) _ _ _ _ _ _ _ _ c.loop-taken.invariant.lives
-    (piece_err (g.K.Sink.aside c.loop-taken.link) (g.K.Sink.aside c.read.new.self) _ c.read.new.buf c.in-Err.ensures.reads) c.in-Err.ensures.told c.in-Err.ensures.calm c.in-Err.ensures.reads.cause.failed
+    _ _ _ (piece_err (g.K.Sink.aside c.loop-taken.link) (g.K.Sink.aside c.read.new.self) _ c.read.new.buf c.in-Err.ensures.reads) c.in-Err.ensures.planned c.in-Err.ensures.told c.in-Err.ensures.calm c.in-Err.ensures.reads.cause.failed
 
 pub returns-clause-talk : goal.returns-clause-talk
 returns-clause-talk g c = conversed_full c.args.pass.now.station.lanes _ _ _ _ _ _ _ _ _ _ _ _ _ _ c.loop-taken.invariant.lives c.loop-taken.pass.station.lanes (ap (λ (x : Site). x.lanes) c.loop-taken.invariant.sees.station)
@@ -89,4 +90,9 @@ pub hear_last-requires-2-clause-few : goal.hear_last-requires-2-clause-few
 hear_last-requires-2-clause-few g c = c.loop-taken.invariant.lives.goes.few
 
 pub read-requires-clause-is_open : goal.read-requires-clause-is_open
-read-requires-clause-is_open g c = c.loop-taken.invariant.lives.reads.stays.is_open ∙ c.requires
+read-requires-clause-is_open g c = c.loop-taken.invariant.lives.reads.stays.is_open ∙ c.requires.is_open
+
+pub read-requires-clause-size : goal.read-requires-clause-size
+read-requires-clause-size g c =
+    let l = c.loop-taken in
+    omega (arith, l.invariant.lives.reads.taken c.requires.fresh, l.invariant.lives.count, length-take c.min-room.result l.buf)

@@ -30,3 +30,6 @@ loop-served-preserved g c =
       });
       most = omega arith;
     }
+
+pub converse-requires-clause-fresh : goal.converse-requires-clause-fresh
+converse-requires-clause-fresh g c = (c.if-not-opens.ensures.opens refl).opens.taken
