@@ -3,5 +3,5 @@ use Rattle.rib_model.specs.declared.entry.Entry.{Entry}
 use Rattle.rib_model.specs.Entries.{entry_values}
 use Rattle.station_run.proofs.tasks.serve_lane.Goals as goal
 
-pub serve_feed-requires-clause-at_rest : goal.serve_feed-requires-clause-at_rest
-serve_feed-requires-clause-at_rest g c = inl (ap (λ (l : List Entry). entry_values l) c.requires.none)
+pub serve_feed-work-requires-clause-at_rest : goal.serve_feed-work-requires-clause-at_rest
+serve_feed-work-requires-clause-at_rest g c = inl (ap (λ (l : List Entry). entry_values l) c.requires.none)
