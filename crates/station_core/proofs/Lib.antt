@@ -7,3 +7,4 @@ pub mod Running
 pub mod Starting
 pub mod Growing
 pub mod Publishing
+pub mod Moving

@@ -1,5 +1,5 @@
 -- What is shown of a lane, once the next of its entries are published.
-use Rattle.std.proofs.Common.{◌≡◌, ℕ, ◌+◌, ◌-◌, ◌<◌, ◌≤◌, List, ◌++◌, length, get_or, set, take, drop, inl, refl, sym, ap, ◌∙◌, subst, arith, length-drop, take-append-drop}
+use Rattle.std.proofs.Common.{◌≡◌, ℕ, ◌+◌, ◌-◌, ◌<◌, ◌≤◌, List, ◌++◌, length, get_or, set, take, drop, inl, inr, refl, sym, ap, ◌∙◌, subst, arith, length-drop, take-append-drop}
 use Rattle.std.proofs.lemmas.List.{get_or_default, take_all}
 use Rattle.bmp_specs.specs.Values.{EntryValue}
 use Rattle.rib_model.specs.declared.entry.Entry.{Entry}
@@ -36,3 +36,6 @@ shows_at lanes shown number lane x next due here count lane_is x_is due_is shows
         subst (λ (z : Lane _). ShowsNext z.due (get_or shown number e) next) l (subst (λ (z : TablesValue × ℕ). ShowsNext lane.due z next) y (subst (λ (es : List Entry). ShowsNext es x next) due_is shows));
   },
 )
+
+pub shows_none : {B : Type 0} (lanes : List (Lane B)) (shown : List (TablesValue × ℕ)) (number : ℕ) → length lanes ≤ number → ShowsLane lanes number shown shown
+shows_none lanes shown number past = inr (past, refl)

@@ -2,8 +2,11 @@ use Rattle.std.proofs.Common.{ℕ, arith, ap, subst, sym, ◌∙◌}
 use Rattle.router_tables.specs.Tables.{TablesValue}
 use Rattle.station_core.specs.declared.lane.Lane.{Lane}
 use Rattle.station_core.specs.Standing.{ShowsNext}
-use Rattle.station_core.proofs.Publishing.{shows_at}
+use Rattle.station_core.proofs.Publishing.{shows_at, shows_none}
 use Rattle.station_core.proofs.machine.publish_on.Goals as goal
+
+pub returns-then-at-lanes : goal.returns-then-at-lanes
+returns-then-at-lanes g c = shows_none c.args.lanes.now c.args.shown.now c.args.number (omega (arith, c.if-at-lanes.true))
 
 pub returns : goal.returns
 returns g c =
