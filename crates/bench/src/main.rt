@@ -22,7 +22,7 @@ use std::thread::Threads;
 use std::{env, io};
 use tables::Order;
 
-// The numbers behind the word, where they are given.
+// The numbers after the word, where they are given.
 #[derive(Clone, Copy)]
 struct Numbers {
     first: Option<usize>,

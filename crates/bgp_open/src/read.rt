@@ -166,7 +166,7 @@ fn is_extended(stated: u8, rest: &[u8]) -> bool
     stated == EXTENDED && rest.first() == Some(&EXTENDED)
 }
 
-// Reads what the parameters announce, the whole rest of the body behind their stated length.
+// Reads what the parameters announce, the whole rest of the body after their stated length.
 fn read_parameters(alloc: Global, stated: u8, rest: &[u8]) -> Result<Announced, BodyFault>
     ensures ok { IfOk result (λ a. TellsRest stated rest.now a) }
     ensures broken { IsErrOf result BodyFault.Broken → (o : OpenValue) → AreParameters stated rest.now o → ⊥ }

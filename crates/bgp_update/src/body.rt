@@ -12,7 +12,7 @@ pub(crate) struct Fields<'a> {
     pub(crate) nlri: &'a [u8],
 }
 
-// The field behind its length in two octets at the front, and what follows it.
+// The field after its length in two octets at the front, and what follows it.
 fn split_counted(input: &[u8]) -> Option<(&[u8], &[u8])>
     ensures found { IfSome result (λ f. HasFront IsCounted input.now f.0.now f.1.now) }
     ensures none { IfNone result ((value rest : List ℕ) → HasFront IsCounted input.now value rest → ⊥) }

@@ -20,7 +20,7 @@
 //!
 //! Begin with `specs/MessageBody.antt` and `specs/MessageEffects.antt` of `bmp_specs`, then
 //! `src/bodies.rt`, `src/reading.rt` and `src/walk.rt`; `src/dispatch.rt` goes by the type and the Per-Peer
-//! Header for both readings, `src/routes.rt` and `src/events.rt` read what stands behind the headers,
+//! Header for both readings, `src/routes.rt` and `src/events.rt` read what stands after the headers,
 //! `src/in_forms.rt` an UPDATE in the form that fits, and `src/lenient.rt` keeps which did last.
 #![tactic(auto)]
 

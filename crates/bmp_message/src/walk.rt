@@ -30,11 +30,11 @@ pub enum Progress<T> {
 /// Where a walk stands between two calls.
 #[derive(Clone, Copy, Debug, PartialEq, Eq)]
 pub enum Stage {
-    /// Behind a message whose entry was given, or at the start.
+    /// After a message whose entry was given, or at the start.
     Between,
     /// A message of this type was cut, and for its entry there was no memory.
     Within(u8),
-    /// Behind a Termination Message.
+    /// After a Termination Message.
     Terminated,
     /// Before what is no message.
     Broken(Why),
@@ -171,7 +171,7 @@ impl<R: BodyReading> StreamWalk<R> {
     }
 }
 
-// Where a walk stands behind a message of this type.
+// Where a walk stands after a message of this type.
 fn stage_after(kind: u8) -> Stage
     ensures { result ≡ next_stage kind }
 {

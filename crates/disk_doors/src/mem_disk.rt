@@ -46,7 +46,7 @@ impl Model for MemDisk {
     ghost invariant = { λ d. HoldsFile d.notes.events d.bytes.items d.room (vec_capacity d.bytes) };
 }
 
-// The bytes, and zeros behind them up to this length.
+// The bytes, and zeros after them up to this length.
 fn lengthen(bytes: &mut Vec<u8>, end: usize)
     requires { end ≤ vec_capacity bytes.old }
     ensures items { bytes.new.items ≡ padded bytes.old.items end }
@@ -59,7 +59,7 @@ fn lengthen(bytes: &mut Vec<u8>, end: usize)
     }
 }
 
-// Puts the piece at this place, behind zeros where the bytes end before it.
+// Puts the piece at this place, after zeros where the bytes end before it.
 fn overwrite(bytes: &mut Vec<u8>, place: usize, piece: &[u8])
     requires { place + length piece.now ≤ vec_capacity bytes.old }
     ensures items { bytes.new.items ≡ overwritten bytes.old.items place piece.now }

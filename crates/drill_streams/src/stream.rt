@@ -13,7 +13,7 @@ use rand_pcg::Lcg64Xsh32;
 use std::alloc::Global;
 use wire_io::{ByteList, NoMemory};
 
-// Which peers are up behind the message of a word, after those in front of it.
+// Which peers are up after the message of a word, after those in front of it.
 fn turned(up: [bool; 4], word: u32) -> [bool; 4]
     ensures { (p : ℕ) → p < 4 → slice_index_or result p false ≡ (if turns p word then not (slice_index_or up p false) else slice_index_or up p false) }
 {
@@ -25,7 +25,7 @@ fn turned(up: [bool; 4], word: u32) -> [bool; 4]
     up
 }
 
-// Appends the messages of the words, behind a Peer Up Notification of each peer.
+// Appends the messages of the words, after a Peer Up Notification of each peer.
 fn put_drawn(
     out: &mut ByteList,
     alloc: Global,
@@ -45,7 +45,7 @@ fn put_drawn(
     Ok(())
 }
 
-/// The stream of a lane of a drill, with the messages of so many words behind its opening. It follows from the seed, the
+/// The stream of a lane of a drill, with the messages of so many words after its opening. It follows from the seed, the
 /// lane's number and the number of messages alone. `NoMemory` where it ran out of memory. Time and memory are linear in the
 /// messages.
 pub fn drill_stream(

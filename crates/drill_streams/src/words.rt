@@ -13,7 +13,7 @@ use wire_io::{ByteList, NoMemory};
 /// ORIGIN: IGP (RFC 4271, section 5.1.1).
 const IGP: u8 = 0;
 
-/// The first of the AS numbers behind the peer's.
+/// The first of the AS numbers after the peer's.
 const BEHIND: u32 = 65000;
 
 /// The peer that the message is for.
@@ -44,7 +44,7 @@ pub(crate) fn prefix_of(word: u32) -> Nlri
     }
 }
 
-// AS_PATH: the peer's AS, and one behind it.
+// AS_PATH: the peer's AS, and one after it.
 fn path_of(alloc: Global, word: u32) -> Result<AsPath, NoMemory>
     ensures { IfOk result (λ path. path ≡ path_at word) }
 {

@@ -1,4 +1,4 @@
-//! Which routes a message can carry. A prefix has its path identifier behind it; `-` is no prefix, and no identifier.
+//! Which routes a message can carry. A prefix has its path identifier after it; `-` is no prefix, and no identifier.
 use crate::words::{Line, at, nlri_at, number_at, octet_at};
 use as_path::Segment;
 use bgp_update::NlriList;

@@ -13,7 +13,7 @@ fn feed(cutter: &mut Cutter, piece: &[u8]) -> bool {
         && cutter.feed(piece).is_ok()
 }
 
-// What a cutter answers behind a piece.
+// What a cutter answers after a piece.
 fn put_next(out: &mut Line, cutter: &mut Cutter, piece: &[u8]) {
     if !feed(cutter, piece) {
         out.fail();

@@ -1,6 +1,6 @@
 //! Runs the calls that read and write messages on the cases of standard input, and prints what each answers.
 //!
-//! A case is a line: a word that names the call, and behind it what the call is given, with a space before each. A case
+//! A case is a line: a word that names the call, and after it what the call is given, with a space before each. A case
 //! prints a line. A line that begins with `#` tells of the cases below it, and prints nothing. The files `stdin` and
 //! `stdout` are the cases and their answers. These are values that RFCs, captures and bytes made by hand have, and none
 //! was taken from this program. A new case is a line in each file, and nothing is proved anew. `calls.rt` has the words.

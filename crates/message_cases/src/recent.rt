@@ -40,7 +40,7 @@ fn put_item(out: &mut Line, ring: &Recent<Item>, place: u64) {
     out.show(" ", &item_at(ring, place));
 }
 
-// The total, how many are kept, the oldest of them, one between, the newest, and none behind it.
+// The total, how many are kept, the oldest of them, one between, the newest, and none after it.
 fn put_ring(out: &mut Line, ring: &Recent<Item>) {
     let kept = ring.len();
     out.show("", &ring.total());
@@ -108,7 +108,7 @@ fn put_items(items: &mut Vec<Item>, from: u64, count: u32) -> bool {
     is_put
 }
 
-// Makes a longer ring of the ring and of so many items behind `passed` others, shows both, and goes on with the longer.
+// Makes a longer ring of the ring and of so many items after `passed` others, shows both, and goes on with the longer.
 fn make_longer(out: &mut Line, ring: &mut Recent<Item>, passed: u32, count: u32) {
     let passed = passed as u64;
     let mut last = Vec::new(out.alloc);

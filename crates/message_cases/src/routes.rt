@@ -33,7 +33,7 @@ fn put(
     }
 }
 
-// Writes the routes of one effect, behind these withdrawals.
+// Writes the routes of one effect, after these withdrawals.
 fn put_behind(out: &mut Line, withdrawn: &NlriList, effect: &Effect) {
     match effect {
         Effect::Announce {

@@ -42,7 +42,7 @@ impl Line {
         }
     }
 
-    // A text, and behind it a value.
+    // A text, and after it a value.
     pub(crate) fn show<D: Debug>(&mut self, text: &str, value: &D) {
         self.put(text);
         if write!(self.text, "{value:?}").is_err() {
@@ -94,7 +94,7 @@ pub(crate) fn at<'a>(words: &[&'a str], place: usize) -> &'a str {
     }
 }
 
-// The words behind so many others.
+// The words after so many others.
 pub(crate) fn behind<'a>(words: &'a [&'a str], count: usize) -> &'a [&'a str] {
     let (_, behind) = words.split_at(count.min(words.len()));
     behind

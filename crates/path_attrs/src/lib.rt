@@ -1,7 +1,7 @@
 //! Path attributes: what an UPDATE says of its routes.
 //!
 //! Attributes are the middle part of an UPDATE (RFC 4271, sections 4.3 and 5): origin, AS path, next
-//! hop and the rest, each behind its flags, its type and its length. `bgp_update` reads them with this
+//! hop and the rest, each after its flags, its type and its length. `bgp_update` reads them with this
 //! crate, and all routes of one UPDATE share what it gives.
 //!
 //! Proved: `judge_attrs` tells exactly where a field has attributes: where it is a list of attributes, no

@@ -63,7 +63,7 @@ fn read_opening(alloc: Global, input: &[u8]) -> Result<Opening<'_>, BodyFault>
     Ok(Opening { open, rest })
 }
 
-// "Sent OPEN Message" and "Received OPEN Message", and the TLVs behind them.
+// "Sent OPEN Message" and "Received OPEN Message", and the TLVs after them.
 #[derive(Drop)]
 struct Openings<'a> {
     sent: Open,
@@ -71,7 +71,7 @@ struct Openings<'a> {
     information: &'a [u8],
 }
 
-// Reads them behind the ports (RFC 7854, section 4.10).
+// Reads them after the ports (RFC 7854, section 4.10).
 fn read_openings(alloc: Global, rest: &[u8]) -> Result<Openings<'_>, BodyFault>
     requires { 20 ≤ length rest.now }
     ensures parts { IfOk result (λ o. (ts : List TlvValue) × AreTlvs o.information.now ts × Then IsOpenMessage (Then IsOpenMessage AreTlvs) (drop 20 rest.now) (o.sent, (o.received, ts))) }
@@ -109,7 +109,7 @@ fn table(alloc: Global, head: &PeerHeader, information: &[u8]) -> Result<Option<
     }
 }
 
-// Which Peer Up carries the TLVs behind this header.
+// Which Peer Up carries the TLVs after this header.
 fn carrier_of(head: &PeerHeader) -> Carrier
     ensures { result ≡ (if loc_rib_in head.now then Carrier.LocRibPeerUp else Carrier.PeerUp) }
 {

@@ -14,7 +14,7 @@ use ip_prefix::Nlri;
 use rib_model::Route;
 use wire_io::{Failed, Sink};
 
-// Writes the line of a pair, and those of the pairs that a walk gives behind it, up to the first that isn't in the run,
+// Writes the line of a pair, and those of the pairs that a walk gives after it, up to the first that isn't in the run,
 // and answers how many.
 fn put_from<'a, O: Sink, W: Pairs<'a>, L: TellsTable>(
     out: &mut O,

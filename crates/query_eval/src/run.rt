@@ -22,7 +22,7 @@ pub(crate) enum Part {
     Within(Prefix),
 }
 
-/// NLRI that stand one behind the other in their order: those of a family, where one is named, and of a part.
+/// NLRI that stand one after the other in their order: those of a family, where one is named, and of a part.
 #[derive(Clone, Copy)]
 pub(crate) struct Run {
     pub(crate) family: Option<Family>,

@@ -71,7 +71,7 @@ fn sought_number(rest: &[u8]) -> Option<(u32, Select)>
     }
 }
 
-// Reads a peer, and nothing behind it.
+// Reads a peer, and nothing after it.
 fn only_peer(rest: &[u8]) -> Option<PeerKey>
     ensures some { IfSome result (λ key. IsStatsQuery key (codes "stats" ∷ further_words rest.now)) }
     ensures only { IfSome result (λ key. (k : KeyValue) → IsStatsQuery k (codes "stats" ∷ further_words rest.now) → k ≡ key) }
@@ -87,7 +87,7 @@ fn only_peer(rest: &[u8]) -> Option<PeerKey>
     }
 }
 
-// Reads a lane, the number of a step and a prefix, and nothing behind them.
+// Reads a lane, the number of a step and a prefix, and nothing after them.
 fn lane_step_and_prefix(rest: &[u8]) -> Option<(u32, u64, Prefix)>
     ensures some { IfSome result (λ r. IsChangesQuery r.0 r.1 r.2 (codes "changes" ∷ further_words rest.now)) }
     ensures only { IfSome result (λ r. (lane from : ℕ) (p : PrefixValue) → IsChangesQuery lane from p (codes "changes" ∷ further_words rest.now)

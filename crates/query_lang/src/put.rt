@@ -22,7 +22,7 @@ fn digits(number: u64) -> ShortText
     text
 }
 
-// `router N` behind a space, as its word and its text; nothing where no router is named.
+// `router N` after a space, as its word and its text; nothing where no router is named.
 fn router_pieces(router: Option<u32>) -> (&'static [u8], ShortText)
     ensures whole { result.0.now ++ result.1 ≡ spaced (selector_words (codes "router") number_text router) }
     ensures read_back { IsSelector (codes "router") IsNumberText router (selector_words (codes "router") number_text router) }
@@ -55,7 +55,7 @@ fn view_pieces(view: Option<View>) -> (&'static [u8], ShortText)
     }
 }
 
-// `family F`, behind a space; nothing where no family is named.
+// `family F`, after a space; nothing where no family is named.
 fn family_piece(family: Option<Family>) -> &'static [u8]
     ensures whole { result.now ≡ spaced (selector_words (codes "family") family_text family) }
     ensures read_back { IsSelector (codes "family") IsFamilyText family (selector_words (codes "family") family_text family) }

@@ -81,7 +81,7 @@ fn take_family(rest: &[u8]) -> Option<(Option<Family>, &[u8])>
     }
 }
 
-// Reads the first two selectors, and nothing behind them.
+// Reads the first two selectors, and nothing after them.
 pub(crate) fn peer_selectors(rest: &[u8]) -> Option<(Option<u32>, Option<PeerKey>)>
     ensures some { IfSome result (λ r. ArePeerSelectors r.0 r.1 (further_words rest.now)) }
     ensures only { IfSome result (λ r. (router : Option ℕ) (peer : Option KeyValue) → ArePeerSelectors router peer (further_words rest.now) → (router ≡ r.0) × (peer ≡ r.1)) }
@@ -100,7 +100,7 @@ pub(crate) fn peer_selectors(rest: &[u8]) -> Option<(Option<u32>, Option<PeerKey
     }
 }
 
-// Reads the four selectors, and nothing behind them.
+// Reads the four selectors, and nothing after them.
 pub(crate) fn selectors(rest: &[u8]) -> Option<Select>
     ensures some { IfSome result (λ s. AreSelectors s (further_words rest.now)) }
     ensures only { IfSome result (λ s. (t : SelectValue) → AreSelectors t (further_words rest.now) → t ≡ s) }

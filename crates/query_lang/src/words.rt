@@ -19,7 +19,7 @@ pub(crate) fn split_word(text: &[u8]) -> (&[u8], &[u8])
     }
 }
 
-// The next word behind another, and what follows it. None exactly where no word follows.
+// The next word after another, and what follows it. None exactly where no word follows.
 pub(crate) fn next_word(rest: &[u8]) -> Option<(&[u8], &[u8])>
     ensures { MatchOption result (further_words rest.now ≡ []) (λ next. further_words rest.now ≡ next.0.now ∷ further_words next.1.now) }
 {
@@ -29,8 +29,8 @@ pub(crate) fn next_word(rest: &[u8]) -> Option<(&[u8], &[u8])>
     }
 }
 
-// The text behind a selector's word, and what follows it. None exactly where the next word is another
-// one, or has none behind it.
+// The text after a selector's word, and what follows it. None exactly where the next word is another
+// one, or has none after it.
 pub(crate) fn take_selector<'a>(word: &[u8], rest: &'a [u8]) -> Option<(&'a [u8], &'a [u8])>
     ensures some { IfSome result (λ found. further_words rest.now ≡ word.now ∷ found.0.now ∷ further_words found.1.now) }
     ensures none { IfNone result (Unnamed word.now (further_words rest.now)) }

@@ -18,7 +18,7 @@ fn sets_in<A>(packs: &[Arc<Pack<A>>]) -> usize {
     sets
 }
 
-// Whether a run is made anew, in few packs. That costs a look at each row, and puts its set behind that of the row
+// Whether a run is made anew, in few packs. That costs a look at each row, and puts its set after that of the row
 // before, away from those it came with. So it is done only where it gives much back: where there are more sets than
 // two a row and 4,096, so that no row names the greater part of them; or where packs are many and tiny, as those of
 // single messages are, so that there are more than one for 64 rows and 64. What has been made anew has at most one set

@@ -21,7 +21,7 @@ fn add_packs<A: Drop>(out: &mut Vec<Arc<Pack<A>>>, packs: &[Arc<Pack<A>>]) -> Re
     Ok(())
 }
 
-/// The packs of two runs, one behind the other.
+/// The packs of two runs, one after the other.
 pub(crate) fn joined_packs<A: Drop>(
     alloc: Global,
     earlier: &[Arc<Pack<A>>],

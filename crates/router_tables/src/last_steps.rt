@@ -229,7 +229,7 @@ pub(crate) fn steps_with(
     Ok(steps)
 }
 
-// The last steps with those of these entries, behind others whose steps are passed over. Where there are such, these entries
+// The last steps with those of these entries, after others whose steps are passed over. Where there are such, these entries
 // have 1,024 at least.
 pub(crate) fn steps_past(
     alloc: Global,

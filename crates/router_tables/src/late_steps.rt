@@ -13,8 +13,8 @@ use std::alloc::Global;
 use std::marker::Model;
 use wire_io::{List, NoMemory};
 
-// The last steps of entries, which are made at the end: of entries that many more come behind none is ever made. Contracts
-// see the steps that are made, how many behind them are passed over, and the entries whose steps come last.
+// The last steps of entries, which are made at the end: of entries that many more come after none is ever made. Contracts
+// see the steps that are made, how many after them are passed over, and the entries whose steps come last.
 #[derive(Drop)]
 pub(crate) struct LateSteps {
     alloc: Global,

@@ -10,7 +10,7 @@
 //! them over many calls, for tables that are read only once all entries are taken, and can leave out their index by origin
 //! AS (`Indexing`).
 //!
-//! Proved: new tables stand for no entries; tables that stand for some entries stand for them with any others behind
+//! Proved: new tables stand for no entries; tables that stand for some entries stand for them with any others after
 //! them after `with`, `extend` and `apply`, and out of memory they are as before; equal tables have the same
 //! parts. That a table takes one run for all its changes is in no contract.
 //! Begin with `specs/Tables.antt` and `specs/Session.antt`, then `src/tables.rt` and `src/taken.rt`; routes are

@@ -1,5 +1,5 @@
 //! Runs the calls on tables, queries, replies and VRPs on the cases of standard input: on each line a word and what the
-//! call is given. Behind each it prints what the call answers. A line that begins with `#` tells of the cases after it,
+//! call is given. After each it prints what the call answers. A line that begins with `#` tells of the cases after it,
 //! and prints nothing. The files `stdin` and `stdout` are the cases and the answers that RFCs, captures and rows worked
 //! by hand have.
 #![tactic(auto)]

@@ -27,7 +27,7 @@ fn put_marks(file: &mut String, text: &str) -> bool {
     is_put
 }
 
-// Puts these VRPs behind a heading; false where there is no memory.
+// Puts these VRPs after a heading; false where there is no memory.
 fn put_vrps(file: &mut String, vrps: &[&str]) -> bool {
     let mut is_put = file.push_str("ASN,IP Prefix,Max Length").is_ok();
     for vrp in vrps {
@@ -53,7 +53,7 @@ fn verdict_word(table: &VrpTable, prefix: &str, origin: &str) -> &'static str {
     }
 }
 
-// The verdict on a route by one text: its prefix, and its origin behind a comma.
+// The verdict on a route by one text: its prefix, and its origin after a comma.
 fn judged(table: &VrpTable, route: &str) -> &'static str {
     match route.split_once(',') {
         Some((prefix, origin)) => verdict_word(table, prefix, origin),

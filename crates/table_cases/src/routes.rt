@@ -59,7 +59,7 @@ pub(crate) fn nlri_at(words: &[&str], place: usize, id: usize) -> Option<Nlri> {
     nlri_of(at(words, place), at(words, id))
 }
 
-// A prefix, and its path identifier where one stands behind a `#`.
+// A prefix, and its path identifier where one stands after a `#`.
 fn tagged(text: &str) -> Option<Nlri> {
     match text.split_once('#') {
         Some((prefix, id)) => nlri_of(prefix, id),

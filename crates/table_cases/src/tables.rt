@@ -96,7 +96,7 @@ fn take(alloc: Global, table: &mut RouteTable, text: &str) -> bool {
     put_change(alloc, &mut changes, text) && renew(table, &mut changes)
 }
 
-// The place before or behind a prefix, or before all.
+// The place before or after a prefix, or before all.
 fn place_by(word: &str, prefix: &str) -> Place {
     match nlri_of(prefix, "-") {
         Some(nlri) => {
@@ -228,7 +228,7 @@ fn put_both<L: Ledger>(
     put_kept(out, &kept, words);
 }
 
-// Makes the changes behind five words, and shows the table, and it before the last of them.
+// Makes the changes after five words, and shows the table, and it before the last of them.
 fn put_changes<L: Ledger>(
     out: &mut Line,
     table: &mut RouteTable,
