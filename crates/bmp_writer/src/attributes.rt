@@ -60,7 +60,7 @@ pub(crate) fn put_head(out: &mut Draft<'_>, flags: u8, code: u8, size: usize) ->
     out.extend(&[flags, code, size as u8])
 }
 
-/// Appends an attribute. Where there is no room fewer bytes stand behind those of before.
+/// Appends an attribute. Where there is no room fewer bytes stand after those of before.
 pub(crate) fn put_attribute(
     out: &mut Draft<'_>,
     flags: u8,
@@ -75,7 +75,7 @@ pub(crate) fn put_attribute(
     out.extend(value)
 }
 
-/// What is left of so many octets behind an attribute with a value of this size. None exactly where it takes more.
+/// What is left of so many octets after an attribute with a value of this size. None exactly where it takes more.
 pub(crate) fn left_by_attribute(room: usize, size: usize) -> Option<usize>
     ensures some { IfSome result (λ left. left + attribute_size size ≡ room) }
     ensures none { IfNone result (room < attribute_size size) }

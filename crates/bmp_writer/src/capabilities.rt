@@ -118,7 +118,7 @@ fn put_paths(out: &mut ByteList, paths: &[Cap]) -> Result<(), NoMemory>
 }
 
 /// Appends the capabilities: one for each family, one for the AS number, and one for all ADD-PATH entries. For want
-/// of memory fewer bytes stand behind those of before.
+/// of memory fewer bytes stand after those of before.
 pub(crate) fn put_capabilities(out: &mut ByteList, message: &Open) -> Result<(), NoMemory>
     requires { capabilities_size message.now ≤ 253 }
     ensures ok { OnOk result (Appends (AreCapabilities message.now) out.old out.new) }

@@ -7,7 +7,7 @@ use std::marker::Model;
 #[derive(Clone, Copy, Debug, PartialEq, Eq)]
 pub(crate) struct Full;
 
-/// Bytes that stand in room which is lent, one behind another. So small pieces are put together at little cost.
+/// Bytes that stand in room which is lent, one after another. So small pieces are put together at little cost.
 #[derive(Drop)]
 pub(crate) struct Draft<'a> {
     room: &'a mut [u8],

@@ -55,7 +55,7 @@ fn put_second(out: &mut Draft<'_>, attrs: &Attrs) -> Result<(), Full>
 }
 
 /// Appends them, each where the route has it; NEXT_HOP only where it is told. Where there is no room fewer bytes stand
-/// behind those of before.
+/// after those of before.
 pub(crate) fn put_origin_to_communities(
     out: &mut Draft<'_>,
     attrs: &Attrs,
@@ -71,7 +71,7 @@ pub(crate) fn put_origin_to_communities(
     put_second(out, attrs)
 }
 
-// What is left of so many octets behind AS_PATH. None exactly where it takes more.
+// What is left of so many octets after AS_PATH. None exactly where it takes more.
 fn left_by_path(room: usize, path: &Option<AsPath>) -> Option<usize>
     ensures some { IfSome result (λ left. left + optional_size segments_size path.now ≡ room) }
     ensures none { IfNone result (room < optional_size segments_size path.now) }
@@ -83,7 +83,7 @@ fn left_by_path(room: usize, path: &Option<AsPath>) -> Option<usize>
     left.checked_sub(if room - left > 255 { 4 } else { 3 })
 }
 
-// What is left of so many octets behind COMMUNITIES. None exactly where it takes more.
+// What is left of so many octets after COMMUNITIES. None exactly where it takes more.
 fn left_by_communities(room: usize, communities: &[u32]) -> Option<usize>
     ensures some { IfSome result (λ left. left + communities_size communities.now ≡ room) }
     ensures none { IfNone result (room < communities_size communities.now) }
@@ -160,7 +160,7 @@ fn size_of_short(attrs: &Attrs, plain: bool) -> usize
         + size_of_aggregator(attrs.aggregator)
 }
 
-/// What is left of so many octets behind the attributes of types 1 to 8. None exactly where they take more.
+/// What is left of so many octets after the attributes of types 1 to 8. None exactly where they take more.
 pub(crate) fn left_by_front(room: usize, attrs: &Attrs, plain: bool) -> Option<usize>
     ensures some { IfSome result (λ left. left + front_size (with_hop plain attrs.now) ≡ room) }
     ensures none { IfNone result (room < front_size (with_hop plain attrs.now)) }

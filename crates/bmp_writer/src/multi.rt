@@ -45,7 +45,7 @@ fn put_reach_value(
     put_nlris(out, list)
 }
 
-/// MP_REACH_NLRI, where there are prefixes. Where there is no room fewer bytes stand behind those of before.
+/// MP_REACH_NLRI, where there are prefixes. Where there is no room fewer bytes stand after those of before.
 pub(crate) fn put_reach(
     out: &mut Draft<'_>,
     family: Family,
@@ -74,7 +74,7 @@ fn put_unreach_value(out: &mut Draft<'_>, family: Family, list: &[Nlri]) -> Resu
     put_nlris(out, list)
 }
 
-/// MP_UNREACH_NLRI, where there are prefixes. Where there is no room fewer bytes stand behind those of before.
+/// MP_UNREACH_NLRI, where there are prefixes. Where there is no room fewer bytes stand after those of before.
 pub(crate) fn put_unreach(out: &mut Draft<'_>, family: Family, list: &[Nlri]) -> Result<(), Full>
     requires { unreach_size list.now ≤ 65535 }
     ensures ok { OnOk result (Appends (IsUnreach family list.now) out.old out.new) }
@@ -87,7 +87,7 @@ pub(crate) fn put_unreach(out: &mut Draft<'_>, family: Family, list: &[Nlri]) ->
     put_unreach_value(out, family, list)
 }
 
-// What is left of so many octets behind an attribute whose value has these prefixes behind so many octets. None exactly
+// What is left of so many octets after an attribute whose value has these prefixes after so many octets. None exactly
 // where it takes more.
 fn left_by_multi(room: usize, before: usize, list: &[Nlri]) -> Option<usize>
     ensures some { IfSome result (λ left. left + listed_size before nlris_size list.now ≡ room) }
@@ -101,7 +101,7 @@ fn left_by_multi(room: usize, before: usize, list: &[Nlri]) -> Option<usize>
     left.checked_sub(if room - left > 255 { 4 } else { 3 })
 }
 
-/// What is left of so many octets behind MP_REACH_NLRI. None exactly where it takes more.
+/// What is left of so many octets after MP_REACH_NLRI. None exactly where it takes more.
 pub(crate) fn left_by_reach(room: usize, hop: &[u8], list: &[Nlri]) -> Option<usize>
     requires { HasRoom list.now hop.now }
     ensures some { IfSome result (λ left. left + reach_size hop.now list.now ≡ room) }
@@ -113,7 +113,7 @@ pub(crate) fn left_by_reach(room: usize, hop: &[u8], list: &[Nlri]) -> Option<us
     left_by_multi(room, 5 + hop.len(), list)
 }
 
-/// What is left of so many octets behind MP_UNREACH_NLRI. None exactly where it takes more.
+/// What is left of so many octets after MP_UNREACH_NLRI. None exactly where it takes more.
 pub(crate) fn left_by_unreach(room: usize, list: &[Nlri]) -> Option<usize>
     ensures some { IfSome result (λ left. left + unreach_size list.now ≡ room) }
     ensures none { IfNone result (room < unreach_size list.now) }

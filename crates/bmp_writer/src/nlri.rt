@@ -54,7 +54,7 @@ fn put_nlri(out: &mut Draft<'_>, nlri: &Nlri) -> Result<(), Full>
     put_prefix(out, &nlri.prefix)
 }
 
-/// Appends the prefixes. Where there is no room fewer bytes stand behind those of before.
+/// Appends the prefixes. Where there is no room fewer bytes stand after those of before.
 pub(crate) fn put_nlris(out: &mut Draft<'_>, list: &[Nlri]) -> Result<(), Full>
     ensures ok { OnOk result (Appends (AreOwnNlri list.now) out.old out.new) }
     ensures err { OnErr result (Keeps out.old out.new) }
@@ -77,7 +77,7 @@ fn size_of_nlri(nlri: &Nlri) -> usize
     id + 1 + octets_for(nlri.prefix.bits())
 }
 
-/// What is left of so many octets behind the prefixes. None exactly where they take more.
+/// What is left of so many octets after the prefixes. None exactly where they take more.
 pub(crate) fn left_by_nlris(room: usize, list: &[Nlri]) -> Option<usize>
     ensures some { IfSome result (λ left. left + nlris_size list.now ≡ room) }
     ensures none { IfNone result (room < nlris_size list.now) }

@@ -75,7 +75,7 @@ fn front(version: u8, my_as: u16, hold: u16, identifier: [u8; 4], parameters: u8
     ]
 }
 
-/// Appends the message. Out of memory, fewer bytes stand behind those of before.
+/// Appends the message. Out of memory, fewer bytes stand after those of before.
 pub(crate) fn put_open(out: &mut ByteList, message: &Open) -> Result<(), NoMemory>
     requires { capabilities_size message.now ≤ 253 }
     ensures ok { OnOk result (Appends (IsOpenOf message.now) out.old out.new) }

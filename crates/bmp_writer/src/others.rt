@@ -17,7 +17,7 @@ fn put_other(out: &mut Draft<'_>, other: &Other) -> Result<(), Full>
     put_attribute(out, other.flags, other.code, other.value.as_slice())
 }
 
-/// Appends them, in their order. Where there is no room fewer bytes stand behind those of before.
+/// Appends them, in their order. Where there is no room fewer bytes stand after those of before.
 pub(crate) fn put_others(out: &mut Draft<'_>, others: &[Other]) -> Result<(), Full>
     requires { others_size others.now ≤ 65535 }
     ensures ok { OnOk result (Appends (AreOthers others.now) out.old out.new) }
@@ -29,7 +29,7 @@ pub(crate) fn put_others(out: &mut Draft<'_>, others: &[Other]) -> Result<(), Fu
     Ok(())
 }
 
-// What is left of so many octets behind one of them. None exactly where it takes more.
+// What is left of so many octets after one of them. None exactly where it takes more.
 fn left_by_other(room: usize, other: &Other) -> Option<usize>
     ensures some { IfSome result (λ left. left + attribute_size (length other.now.value) ≡ room) }
     ensures none { IfNone result (room < attribute_size (length other.now.value)) }
@@ -37,7 +37,7 @@ fn left_by_other(room: usize, other: &Other) -> Option<usize>
     left_by_attribute(room, other.value.as_slice().len())
 }
 
-/// What is left of so many octets behind them. None exactly where they take more.
+/// What is left of so many octets after them. None exactly where they take more.
 pub(crate) fn left_by_others(room: usize, others: &[Other]) -> Option<usize>
     ensures some { IfSome result (λ left. left + others_size others.now ≡ room) }
     ensures none { IfNone result (room < others_size others.now) }

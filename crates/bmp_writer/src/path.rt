@@ -51,7 +51,7 @@ fn put_segments(out: &mut Draft<'_>, path: &[Segment]) -> Result<(), Full>
     Ok(())
 }
 
-// What is left of so many octets behind a segment. None exactly where it takes more.
+// What is left of so many octets after a segment. None exactly where it takes more.
 fn left_by_segment(room: usize, segment: &Segment) -> Option<usize>
     ensures some { IfSome result (λ left. left + segment_size segment.now ≡ room) }
     ensures none { IfNone result (room < segment_size segment.now) }
@@ -64,7 +64,7 @@ fn left_by_segment(room: usize, segment: &Segment) -> Option<usize>
     Some(left - 4 * count)
 }
 
-/// What is left of so many octets behind the segments. None exactly where they take more.
+/// What is left of so many octets after the segments. None exactly where they take more.
 pub(crate) fn left_by_segments(room: usize, path: &[Segment]) -> Option<usize>
     ensures some { IfSome result (λ left. left + segments_size path.now ≡ room) }
     ensures none { IfNone result (room < segments_size path.now) }

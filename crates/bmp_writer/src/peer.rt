@@ -15,7 +15,7 @@ pub(crate) const PEER_HEADER: u32 = 42;
 /// The bytes of the longest message of a peer that has no routes and no OPENs.
 const LONGEST: usize = 80;
 
-/// "Peer Address": IPv4 in the last four bytes, behind twelve of zero.
+/// "Peer Address": IPv4 in the last four bytes, after twelve of zero.
 pub(crate) fn raw_address(address: &Addr) -> [u8; 16]
     ensures octets { result ≡ address_bytes address.now }
     ensures same { address_in address.now.family result ≡ address.now }
@@ -81,7 +81,7 @@ pub(crate) fn put_peer_header(frame: &mut [u8], at: usize, key: &PeerKey, view: 
     put(frame, at, &[0; 16])
 }
 
-/// Appends a message of the peer, with these bytes behind the Per-Peer Header.
+/// Appends a message of the peer, with these bytes after the Per-Peer Header.
 pub(crate) fn put_peer_message(
     out: &mut ByteList,
     kind: u8,

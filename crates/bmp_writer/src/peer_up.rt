@@ -101,7 +101,7 @@ fn size_of_table(table: &Option<ByteList>) -> u32
     }
 }
 
-// Appends the message. Out of memory, fewer bytes stand behind those of before.
+// Appends the message. Out of memory, fewer bytes stand after those of before.
 fn put_message(out: &mut ByteList, key: &PeerKey, info: &PeerInfo) -> Result<(), NoMemory>
     requires { CanCarry key.now info.now }
     ensures ok { OnOk result (Appends (IsUpMessage key.now info.now) out.old out.new) }

@@ -44,7 +44,7 @@ pub(crate) fn family_of(withdrawn: &[Nlri], announced: &[Nlri]) -> Family
     Family::V4
 }
 
-// The common header and the Per-Peer Header of a message with so many octets behind them.
+// The common header and the Per-Peer Header of a message with so many octets after them.
 fn put_headers(out: &mut Draft<'_>, key: &PeerKey, view: View, size: usize) -> Result<(), Full>
     requires short { size ≤ 65535 }
     requires kind { key.now.kind ≤ loc_rib }
@@ -105,29 +105,9 @@ fn put_within(
     }
 }
 
-// Appends the message, or nothing where it is longer than nearly all are.
-fn put_short(
-    out: &mut ByteList,
-    key: &PeerKey,
-    view: View,
-    withdrawn: &[Nlri],
-    announced: &[Nlri],
-    attrs: &Attrs,
-) -> Result<(), NoMemory>
-    requires { CanCarryRoutes key.now view withdrawn.now announced.now attrs.now }
-    ensures ok { OnOk result (Appends (IsRoutesMessage key.now view withdrawn.now announced.now attrs.now) out.old out.new) }
-    ensures err { OnErr result (out.new ≡ out.old) }
-{
-    let mut room = [0u8; SHORT];
-    let mut more = [0u8; SHORT];
-    put_within(
-        out, &mut room, &mut more, key, view, withdrawn, announced, attrs,
-    )
-}
-
-// Appends the message, or nothing where it is an extended one.
+// Appends the message, or nothing where it is longer than N bytes or there is no memory.
 #[inline(never)]
-fn put_usual(
+fn put_in<const N: usize>(
     out: &mut ByteList,
     key: &PeerKey,
     view: View,
@@ -135,34 +115,13 @@ fn put_usual(
     announced: &[Nlri],
     attrs: &Attrs,
 ) -> Result<(), NoMemory>
-    requires { CanCarryRoutes key.now view withdrawn.now announced.now attrs.now }
+    requires room { N ≤ 65583 }
+    requires carried { CanCarryRoutes key.now view withdrawn.now announced.now attrs.now }
     ensures ok { OnOk result (Appends (IsRoutesMessage key.now view withdrawn.now announced.now attrs.now) out.old out.new) }
     ensures err { OnErr result (out.new ≡ out.old) }
 {
-    let mut room = [0u8; USUAL];
-    let mut more = [0u8; USUAL];
-    put_within(
-        out, &mut room, &mut more, key, view, withdrawn, announced, attrs,
-    )
-}
-
-// Appends the message, however long it is.
-#[cold]
-#[inline(never)]
-fn put_long(
-    out: &mut ByteList,
-    key: &PeerKey,
-    view: View,
-    withdrawn: &[Nlri],
-    announced: &[Nlri],
-    attrs: &Attrs,
-) -> Result<(), NoMemory>
-    requires { CanCarryRoutes key.now view withdrawn.now announced.now attrs.now }
-    ensures ok { OnOk result (Appends (IsRoutesMessage key.now view withdrawn.now announced.now attrs.now) out.old out.new) }
-    ensures err { OnErr result (out.new ≡ out.old) }
-{
-    let mut room = [0u8; LONGEST];
-    let mut more = [0u8; LONGEST];
+    let mut room = [0u8; N];
+    let mut more = [0u8; N];
     put_within(
         out, &mut room, &mut more, key, view, withdrawn, announced, attrs,
     )
@@ -181,13 +140,13 @@ fn put_whole(
     ensures ok { OnOk result (Appends (IsRoutesMessage key.now view withdrawn.now announced.now attrs.now) out.old out.new) }
     ensures err { OnErr result (out.new ≡ out.old) }
 {
-    if put_short(out, key, view, withdrawn, announced, attrs).is_ok() {
+    if put_in::<SHORT>(out, key, view, withdrawn, announced, attrs).is_ok() {
         return Ok(());
     }
-    if put_usual(out, key, view, withdrawn, announced, attrs).is_ok() {
+    if put_in::<USUAL>(out, key, view, withdrawn, announced, attrs).is_ok() {
         return Ok(());
     }
-    put_long(out, key, view, withdrawn, announced, attrs)
+    put_in::<LONGEST>(out, key, view, withdrawn, announced, attrs)
 }
 
 /// Appends a Route Monitoring message with one UPDATE, which withdraws prefixes and then announces others with these

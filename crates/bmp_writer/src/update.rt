@@ -97,7 +97,7 @@ fn put_told(out: &mut Draft<'_>, attrs: &Attrs, plain: bool, announced: &[Nlri])
     put_origin_to_communities(out, attrs, plain)
 }
 
-// What is left of so many octets behind these. None exactly where they take more.
+// What is left of so many octets after these. None exactly where they take more.
 fn left_by_told(room: usize, attrs: &Attrs, plain: bool, announced: &[Nlri]) -> Option<usize>
     ensures some { IfSome result (λ left. left + front_size (told_of plain announced.now attrs.now) ≡ room) }
     ensures none { IfNone result (room < front_size (told_of plain announced.now attrs.now)) }
@@ -108,7 +108,7 @@ fn left_by_told(room: usize, attrs: &Attrs, plain: bool, announced: &[Nlri]) -> 
     left_by_front(room, attrs, plain)
 }
 
-// What is left of so many octets behind all attributes. None exactly where they take more.
+// What is left of so many octets after all attributes. None exactly where they take more.
 fn left_by_field(
     room: usize,
     family: Family,
@@ -127,7 +127,7 @@ fn left_by_field(
     left_by_others(left, told_others(announced, attrs))
 }
 
-/// What is left of 65,535 octets behind the message. None exactly where it takes more.
+/// What is left of 65,535 octets after the message. None exactly where it takes more.
 pub(crate) fn left_by_update(
     family: Family,
     withdrawn: &[Nlri],
@@ -162,7 +162,7 @@ pub(crate) fn size_of_update(
     SHORTEST + before + field + after
 }
 
-/// "Path Attributes". Where there is no room fewer bytes stand behind those of before.
+/// "Path Attributes". Where there is no room fewer bytes stand after those of before.
 pub(crate) fn put_field(
     out: &mut Draft<'_>,
     family: Family,
@@ -186,7 +186,7 @@ pub(crate) fn put_field(
     put_others(out, told_others(announced, attrs))
 }
 
-// "Path Attributes", which are these, behind their length.
+// "Path Attributes", which are these, after their length.
 fn put_counted_field(out: &mut Draft<'_>, field: &[u8]) -> Result<(), Full>
     requires { length field.now ≤ 65535 }
     ensures ok { OnOk result (out.new ≡ out.old ++ counted field.now) }
@@ -197,7 +197,7 @@ fn put_counted_field(out: &mut Draft<'_>, field: &[u8]) -> Result<(), Full>
     out.extend(field)
 }
 
-// "Withdrawn Routes" behind their length.
+// "Withdrawn Routes" after their length.
 fn put_counted_nlris(out: &mut Draft<'_>, list: &[Nlri]) -> Result<(), Full>
     requires { nlris_size list.now ≤ 65535 }
     ensures ok { OnOk result (Appends (IsCountedOf (AreOwnNlri list.now)) out.old out.new) }
@@ -219,7 +219,7 @@ fn header(size: u16) -> [u8; 19]
     ]
 }
 
-/// Appends the message, which has these attributes and this size. Where there is no room fewer bytes stand behind those of
+/// Appends the message, which has these attributes and this size. Where there is no room fewer bytes stand after those of
 /// before.
 pub(crate) fn put_update(
     out: &mut Draft<'_>,
