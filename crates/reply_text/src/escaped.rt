@@ -36,7 +36,7 @@ fn put_escaped<O: Sink>(out: &mut O, bytes: &[u8]) -> Result<(), Failed>
     Ok(())
 }
 
-// Writes the bytes of a router behind the text before them.
+// Writes the bytes of a router after the text before them.
 pub(crate) fn put_text<O: Sink>(out: &mut O, before: &[u8], bytes: &[u8]) -> Result<(), Failed>
     ensures { Writes O.faults O.told O.aside out.old (before.now ++ escaped_text bytes.now) result out.new }
 {

@@ -2,7 +2,7 @@
 //!
 //! A reply is a first line, the lines of its rows and a last line; a route line tells a route's place
 //! and its path attributes (RFC 4271, section 5), and a `rov` line its place, its origin AS and what it is
-//! judged to be. Behind the reply of a replay stands the stop line. A line is some tens of small writes:
+//! judged to be. After the reply of a replay stands the stop line. A line is some tens of small writes:
 //! lay a `BufferedSink` over a sink that is slow.
 //!
 //! Proved: each call writes exactly the line that `bmp_specs` defines, the `rov` line that of `specs/Rov.antt`,

@@ -19,6 +19,7 @@ use bmp_frames::{PeerKey, ViewText};
 use bmp_specs::{Family, SegmentKind, View};
 use ip_prefix::{Addr, Nlri, Prefix};
 use path_attrs::{Aggregator, Attrs, Other};
+use rib_model::RowKey;
 use wire_io::ByteList;
 
 // Puts the first four bytes as an IPv4 address.
@@ -123,7 +124,7 @@ pub(crate) fn aggregator(line: &mut [u8; ROOM], at: usize, aggregator: &Option<A
     }
 }
 
-// Puts numbers, each behind the mark.
+// Puts numbers, each after the mark.
 #[inline(always)]
 fn put_behind(line: &mut [u8; ROOM], at: usize, mark: u8, numbers: &[u32]) -> usize
     requires { at + 11 * length numbers.now ≤ 1024 }
@@ -166,7 +167,7 @@ fn community(line: &mut [u8; ROOM], at: usize, value: u32) -> usize
     number(line, next, value % 65536)
 }
 
-// Puts communities, each behind a comma.
+// Puts communities, each after a comma.
 #[inline(always)]
 fn further_communities(line: &mut [u8; ROOM], at: usize, values: &[u32]) -> usize
     requires { at + 22 * length values.now ≤ 1024 }
@@ -198,7 +199,7 @@ pub(crate) fn communities(line: &mut [u8; ROOM], at: usize, values: &[u32]) -> u
     }
 }
 
-// Puts the type codes of attributes, each behind a comma.
+// Puts the type codes of attributes, each after a comma.
 #[inline(always)]
 fn further_codes(line: &mut [u8; ROOM], at: usize, others: &[Other]) -> usize
     requires { at + 4 * length others.now ≤ 1024 }
@@ -449,7 +450,18 @@ pub(crate) fn fields(
     id(line, next, nlri.id)
 }
 
-// Puts what the lines of a table begin with: the word with the space behind it, the lane, the peer and the view.
+// The key of a row of a table.
+pub(crate) fn row_of(key: PeerKey, view: View, nlri: &Nlri) -> RowKey
+    ensures { result ≡ record { key = key; view = view; nlri = nlri.now } }
+{
+    RowKey {
+        key,
+        view,
+        nlri: *nlri,
+    }
+}
+
+// Puts what the lines of a table begin with: the word with the space after it, the lane, the peer and the view.
 pub(crate) fn front(
     line: &mut [u8; ROOM],
     first: &[u8],

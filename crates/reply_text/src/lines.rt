@@ -65,7 +65,7 @@ pub fn put_missed<O: Sink>(out: &mut O, steps: u64) -> Result<(), Failed>
     )
 }
 
-// Writes a lane and a number of it behind the text before them, and the end of the line.
+// Writes a lane and a number of it after the text before them, and the end of the line.
 fn put_lane_number<O: Sink>(
     out: &mut O,
     before: &[u8],

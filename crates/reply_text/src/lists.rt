@@ -10,7 +10,7 @@ use ip_prefix::ShortText;
 use path_attrs::Other;
 use wire_io::{Failed, Sink, write_all};
 
-// A number behind the text before it.
+// A number after the text before it.
 fn numbered(before: &[u8], number: u32) -> ShortText
     requires { length before.now ≤ 8 }
     ensures whole { result ≡ before.now ++ number_text number }
@@ -22,7 +22,7 @@ fn numbered(before: &[u8], number: u32) -> ShortText
     text
 }
 
-// Writes a number behind the text before it.
+// Writes a number after the text before it.
 pub(crate) fn put_number<O: Sink>(out: &mut O, before: &[u8], number: u32) -> Result<(), Failed>
     requires { length before.now ≤ 8 }
     ensures { Writes O.faults O.told O.aside out.old (before.now ++ number_text number) result out.new }
@@ -30,7 +30,7 @@ pub(crate) fn put_number<O: Sink>(out: &mut O, before: &[u8], number: u32) -> Re
     write_all(out, numbered(before, number).as_slice())
 }
 
-// Writes the numbers, each behind the mark.
+// Writes the numbers, each after the mark.
 pub(crate) fn put_behind<O: Sink>(out: &mut O, mark: u8, numbers: &[u32]) -> Result<(), Failed>
     ensures { Writes O.faults O.told O.aside out.old (behind mark (map number_text numbers.now)) result out.new }
 {
@@ -53,7 +53,7 @@ pub(crate) fn put_joined<O: Sink>(out: &mut O, mark: u8, numbers: &[u32]) -> Res
     }
 }
 
-// A community behind the text before it.
+// A community after the text before it.
 fn community_behind(before: &[u8], community: u32) -> ShortText
     requires { length before.now ≤ 8 }
     ensures { result ≡ before.now ++ community_text community }
@@ -64,7 +64,7 @@ fn community_behind(before: &[u8], community: u32) -> ShortText
     text
 }
 
-// Writes a community behind the text before it.
+// Writes a community after the text before it.
 fn put_community<O: Sink>(out: &mut O, before: &[u8], community: u32) -> Result<(), Failed>
     requires { length before.now ≤ 8 }
     ensures { Writes O.faults O.told O.aside out.old (before.now ++ community_text community) result out.new }
@@ -72,7 +72,7 @@ fn put_community<O: Sink>(out: &mut O, before: &[u8], community: u32) -> Result<
     write_all(out, community_behind(before, community).as_slice())
 }
 
-// Writes the communities, each behind a comma.
+// Writes the communities, each after a comma.
 fn put_further_communities<O: Sink>(out: &mut O, communities: &[u32]) -> Result<(), Failed>
     ensures { Writes O.faults O.told O.aside out.old (behind comma (map community_text communities.now)) result out.new }
 {
@@ -95,7 +95,7 @@ pub(crate) fn put_communities<O: Sink>(out: &mut O, communities: &[u32]) -> Resu
     }
 }
 
-// Writes the type code of an attribute behind the text before it.
+// Writes the type code of an attribute after the text before it.
 fn put_code<O: Sink>(out: &mut O, before: &[u8], other: &Other) -> Result<(), Failed>
     requires { length before.now ≤ 8 }
     ensures { Writes O.faults O.told O.aside out.old (before.now ++ number_text other.now.code) result out.new }
@@ -103,7 +103,7 @@ fn put_code<O: Sink>(out: &mut O, before: &[u8], other: &Other) -> Result<(), Fa
     put_number(out, before, other.code as u32)
 }
 
-// Writes the type codes of the attributes, each behind a comma.
+// Writes the type codes of the attributes, each after a comma.
 fn put_further_others<O: Sink>(out: &mut O, others: &[Other]) -> Result<(), Failed>
     ensures { Writes O.faults O.told O.aside out.old (behind comma (map (λ other. number_text other.code) others.now)) result out.new }
 {

@@ -26,7 +26,7 @@ fn goes_on(some: bool, segment: &Segment) -> bool
     some || has_pieces(segment)
 }
 
-// Writes the numbers of a sequence, behind `_` where a piece stands before them.
+// Writes the numbers of a sequence, after `_` where a piece stands before them.
 fn put_sequence<O: Sink>(out: &mut O, some: bool, numbers: &[u32]) -> Result<(), Failed>
     ensures { Writes O.faults O.told O.aside out.old (more_pieces some (map number_text numbers.now)) result out.new }
 {
@@ -44,7 +44,7 @@ fn link(some: bool) -> &'static [u8]
     if some { b"_" } else { b"" }
 }
 
-// Writes the numbers within two brackets, behind `_` where a piece stands before them.
+// Writes the numbers within two brackets, after `_` where a piece stands before them.
 fn put_bracketed<O: Sink>(
     out: &mut O,
     some: bool,
@@ -59,7 +59,7 @@ fn put_bracketed<O: Sink>(
     write_all(out, &[after])
 }
 
-// Writes a segment (RFC 4271, section 4.3; RFC 5065, section 3), behind `_` where a piece stands before it.
+// Writes a segment (RFC 4271, section 4.3; RFC 5065, section 3), after `_` where a piece stands before it.
 fn put_segment<O: Sink>(out: &mut O, some: bool, segment: &Segment) -> Result<(), Failed>
     ensures { Writes O.faults O.told O.aside out.old (more_pieces some (segment_pieces segment.now)) result out.new }
 {

@@ -2,14 +2,13 @@ ghost use Rattle.std.specs.Prelude.{◌≡◌, take};
 ghost use Rattle.bmp_specs.specs.RouteLine.{route_line};
 ghost use Rattle.wire_io.specs.Writes.{Writes};
 
-use crate::line::{fields, front, short_parts};
+use crate::line::{fields, front, row_of, short_parts};
 use crate::pen::ROOM;
 use crate::route::put_route;
 use bmp_frames::PeerKey;
 use bmp_specs::View;
 use ip_prefix::Nlri;
 use path_attrs::Attrs;
-use rib_model::RowKey;
 use std::marker::Model;
 use wire_io::{Failed, Sink, write_all};
 
@@ -62,11 +61,7 @@ impl RouteLines {
         ensures { Writes O.faults O.told O.aside out.old
             (route_line self.now.lane (record { row_key = record { key = self.now.key; view = self.now.view; nlri = nlri.now }; route = attrs.now })) result out.new }
     {
-        let row = RowKey {
-            key: self.key,
-            view: self.view,
-            nlri: *nlri,
-        };
+        let row = row_of(self.key, self.view, nlri);
         put_route(out, self.lane, &row, attrs)
     }
 

@@ -6,13 +6,12 @@ ghost use Rattle.reply_text.specs.Pieces.{spaced};
 ghost use Rattle.reply_text.specs.Rov.{origin_word, rov_line};
 ghost use Rattle.wire_io.specs.Writes.{Writes};
 
-use crate::line::{front, id, prefix};
+use crate::line::{front, id, prefix, row_of};
 use crate::pen::{ROOM, byte, number, word};
 use crate::rov::put_rov;
 use bmp_frames::PeerKey;
 use bmp_specs::View;
 use ip_prefix::Nlri;
-use rib_model::RowKey;
 use std::marker::Model;
 use wire_io::{Failed, Sink, write_all};
 
@@ -113,11 +112,7 @@ impl RovLines {
     ) -> Result<(), Failed>
         ensures { Writes O.faults O.told O.aside out.old (rov_line self.now.lane (record { key = self.now.key; view = self.now.view; nlri = nlri.now }) origin judged.now) result out.new }
     {
-        let row = RowKey {
-            key: self.key,
-            view: self.view,
-            nlri: *nlri,
-        };
+        let row = row_of(self.key, self.view, nlri);
         put_rov(out, self.lane, &row, origin, judged)
     }
 

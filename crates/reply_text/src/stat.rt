@@ -76,7 +76,7 @@ fn put_code<O: Sink>(out: &mut O, lane: u32, key: &PeerKey, stat: &Stat) -> Resu
     )
 }
 
-// Writes the fields of a statistic behind its code, and the end of the line.
+// Writes the fields of a statistic after its code, and the end of the line.
 fn put_value<O: Sink>(out: &mut O, stat: &Stat) -> Result<(), Failed>
     ensures { Writes O.faults O.told O.aside out.old (further (stat_fields (first_row stat.now.code statistics_types) stat.now)) result out.new }
 {
@@ -86,7 +86,7 @@ fn put_value<O: Sink>(out: &mut O, stat: &Stat) -> Result<(), Failed>
     put_named_value(out, name, family.as_slice(), stat)
 }
 
-// Writes the fields of a name, of a family behind its space, and of a value, and the end of the line.
+// Writes the fields of a name, of a family after its space, and of a value, and the end of the line.
 fn put_named_value<O: Sink>(
     out: &mut O,
     name: &[u8],
