@@ -1,9 +1,11 @@
 //! Out of memory.
 
 use std::alloc::AllocError;
+use thiserror::Error;
 
-/// There was no memory.
-#[derive(Debug, Drop)]
+/// Out of memory.
+#[derive(Debug, Drop, Error)]
+#[error("out of memory")]
 pub struct NoMemory;
 
 impl From<AllocError> for NoMemory {

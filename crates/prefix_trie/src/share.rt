@@ -5,9 +5,11 @@ ghost use Rattle.prefix_trie.specs.Sharing.{IsAlike};
 
 use crate::trie::Trie;
 use std::sync::Arc;
+use thiserror::Error;
 
 /// Out of memory.
-#[derive(Clone, Copy, Debug, PartialEq, Eq)]
+#[derive(Clone, Copy, Debug, PartialEq, Eq, Error)]
+#[error("out of memory")]
 pub struct NoMemory;
 
 /// Values that are copied without what they hold, as an `Arc` is.
