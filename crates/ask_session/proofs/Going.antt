@@ -9,7 +9,8 @@ use Rattle.ask_session.specs.declared.close.Close.TheVariants.{Ended, Full, Over
 use Rattle.ask_session.specs.Lines.{HasNoEnd, IsTooMany}
 use Rattle.ask_session.specs.Replies.{History}
 use Rattle.ask_session.specs.Dialogue.{GoesOn}
-use Rattle.ask_session.specs.Connection.{AppendsThenMore, HasWritten, IsReadNoFurther, most_heard}
+use Rattle.station_doors.specs.Doors.{most_heard}
+use Rattle.ask_session.specs.Connection.{AppendsThenMore, HasWritten, IsReadNoFurther}
 use Rattle.ask_session.specs.Hearing.{Goes}
 
 -- bytes that end no line yet

@@ -5,7 +5,7 @@ use Rattle.std.specs.Io.KnownBytes.{Appends, Keeps, IsAtEnd}
 use Rattle.bmp_specs.specs.Life.{LastRead, gave, gave_none, failed, most_taken, Given}
 use Rattle.cut_publisher.specs.History.{revision}
 use Rattle.cut_publisher.proofs.Prefixes.{begins_self}
-use Rattle.station_doors.specs.Doors.{AsPlanned}
+use Rattle.station_doors.specs.Doors.{AsPlanned, most_heard}
 use Rattle.wire_io.specs.Aside.{Aside, fresh}
 use Rattle.wire_io.specs.Faults.{Rose}
 use Rattle.wire_io.specs.declared.sink.Failed.{Failed}
@@ -15,13 +15,14 @@ use Rattle.ask_session.specs.declared.close.Close.TheVariants.{Ended, Full, Over
 use Rattle.ask_session.specs.Lines.{HasNoEnd, IsTooMany}
 use Rattle.ask_session.specs.Replies.{History}
 use Rattle.ask_session.specs.Dialogue.{Dialogue}
-use Rattle.ask_session.specs.Connection.{ReadsInput, SaysEnd, HasReadFault, Conversed, most_heard}
+use Rattle.ask_session.specs.Connection.{ReadsInput, SaysEnd, HasReadFault, Conversed}
 use Rattle.ask_session.specs.Hearing.{IsEarly, Goes, Halts, EndsSo}
 use Rattle.ask_session.specs.Taking.{Lives}
 use Rattle.ask_session.proofs.NextLine.{few_none}
 use Rattle.ask_session.proofs.Going.{no_further}
 use Rattle.ask_session.proofs.Pieces.{goes_none, goes_halts, goes_then}
-use Rattle.ask_session.proofs.Reading.{ReadsPiece, fails_some, input_begin, input_then}
+use Rattle.ask_session.proofs.Reading.{ReadsPiece, input_begin, input_then}
+use Rattle.station_doors.proofs.ReadLaws.{fails_some}
 
 goes_keeps : (lanes : ℕ) (s1 s2 : History) (from pending : List ℕ) (a b c : Option (List ℕ)) (n0 n1 n2 : ℕ) → Goes lanes s1 s2 from pending a b n0 n1 → Keeps b c → n2 ≡ n1 → Goes lanes s1 s2 from pending a c n0 n2
 goes_keeps lanes s1 s2 from pending a b c n0 n1 n2 p k e = record {

@@ -6,20 +6,10 @@ use Rattle.std.specs.Io.KnownBytes.{Consumes, Keeps}
 use Rattle.bmp_specs.specs.Life.{LastRead, gave, gave_none, failed, Given}
 use Rattle.station_doors.specs.Doors.{Reads, AsPlanned, GivesBytes, read_of, GivesMore}
 use Rattle.station_doors.proofs.Sessions.{given_more_last}
+use Rattle.station_doors.proofs.ReadLaws.{consumes_then, keeps_consumes}
 use Rattle.wire_io.specs.Aside.{Aside, Plan, fresh}
 use Rattle.wire_io.specs.declared.sink.Failed.{Failed}
 use Rattle.ask_session.specs.Connection.{GivesInput, Stays, ReadsInput}
-
-consumes_then : (a b c : Option (List ℕ)) (s t : List ℕ) → Consumes a b s → Consumes b c t → Consumes a c (s ++ t)
-consumes_then None b c s t p q = tt
-consumes_then (Some xs) None c s t p q = absurd p
-consumes_then (Some xs) (Some ys) None s t p q = absurd q
-consumes_then (Some xs) (Some ys) (Some zs) s t p q = p ∙ ap (λ (l : List ℕ). s ++ l) q ∙ sym (append_assoc s t zs)
-
-consumes_none : (a b : Option (List ℕ)) → Keeps a b → Consumes a b []
-consumes_none None b k = tt
-consumes_none (Some xs) None k = absurd k
-consumes_none (Some xs) (Some ys) k = sym k
 
 more_ok : (a b : Option (List Given)) (n : ℕ) (buf : List ℕ) → GivesBytes a b (Ok n) buf → GivesMore a b (take n buf) (read_of n)
 more_ok None b n buf p = p
@@ -64,16 +54,11 @@ piece_ok old new n buf r len = record {
 
 pub piece_err : (old new : Aside) (e : Failed) (buf : List ℕ) → Reads old new (Err e) buf → ReadsPiece old new [] failed
 piece_err old new e buf r = record {
-  rest = consumes_none old.rest new.rest r.rest;
+  rest = keeps_consumes old.rest new.rest r.rest;
   given = more_err old.given new.given e buf r.given;
   taken = λ fits. omega (arith, r.taken);
   stays = stays_of old new (Err e) buf r;
 }
-
--- the plan fails a call
-pub fails_some : (plan0 plan : Option Plan) (c d : ℕ) (e : Failed) → plan ≡ plan0 → AsPlanned plan c d (Err e) → IfSome plan0 (λ x. x.fails ≡ [] → ⊥)
-fails_some None plan c d e is p = tt
-fails_some (Some x) plan c d e is p = λ none. let q = subst (λ (o : Option Plan). AsPlanned o c d (Err e)) is p in omega (arith, q.1.1, ap length none)
 
 pub input_begin : (a : Aside) → ReadsInput a a fresh
 input_begin a = record { rest = consumes_self a.rest; given = input_fresh a.given; taken = λ none. none; stays = stays_self a }

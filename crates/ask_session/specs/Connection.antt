@@ -5,6 +5,7 @@ use Rattle.bmp_specs.specs.Life.{gave_none, failed, most_taken, Given}
 use Rattle.wire_io.specs.Aside.{Aside, fresh}
 use Rattle.wire_io.specs.Faults.{Rose}
 use Rattle.wire_io.specs.Writes.{AppendsFront}
+use Rattle.station_doors.specs.Doors.{most_heard}
 use Rattle.ask_session.specs.declared.close.Close.{Close}
 use Rattle.ask_session.specs.declared.close.Close.TheVariants.{Ended, Full, Over, ReadFault, WriteFault}
 use Rattle.ask_session.specs.Replies.{History}
@@ -57,11 +58,6 @@ HasReadFault Ended reads reads' = reads' ≡ reads
 HasReadFault Full reads reads' = reads' ≡ reads
 HasReadFault Over reads reads' = reads' ≡ reads
 HasReadFault WriteFault reads reads' = reads' ≡ reads
-
--- The most bytes that one read gives: each is asked for so many, or for what is left up to 2^46 bytes of one connection
--- (`heard_size` of `station_doors`).
-abbrev pub most_heard : ℕ
-most_heard = 512
 
 -- this was written, and then some bytes more, or none
 abbrev pub AppendsThenMore : Option (List ℕ) → Option (List ℕ) → List ℕ → Type 0

@@ -14,6 +14,9 @@ use cut_publisher::AskPass;
 use router_tables::RouterTables;
 use station_doors::Link;
 
+/// The most bytes that a link is asked for at once.
+const MOST_HEARD: usize = 512;
+
 /// Takes a piece of the input, answers each line that ends in it, and tells how the connection ended, if it did.
 fn hear<K: Link>(
     pass: &mut AskPass<RouterTables>,
@@ -79,10 +82,10 @@ pub fn converse<K: Link>(pass: &mut AskPass<RouterTables>, link: &mut K) -> Clos
         (K.aside link.old) (K.aside link.new) input (K.told link.old) (K.told link.new) (K.faults link.old) (K.faults link.new) result }
 {
     let mut line = Line::new();
-    let mut buf = [0u8; 512];
+    let mut buf = [0u8; MOST_HEARD];
     let mut taken: u64 = 0;
     while taken < MOST_TAKEN {
-        let room = (MOST_TAKEN - taken).min(512) as usize;
+        let room = (MOST_TAKEN - taken).min(MOST_HEARD as u64) as usize;
         match link.read(&mut buf[..room]) {
             Ok(0) => return hear_last(pass, link, &line, Close::Ended),
             Ok(n) => {

@@ -1,5 +1,5 @@
 -- A connection that was taken is closed.
-use Rattle.std.proofs.Common.{◌≡◌, inr, ◌+◌, ◌<◌, ◌≤◌, ◌^◌, List, [], ◌∷◌, ◌++◌, length, Result, Ok, Err, Some, None, Option, refl, sym, subst, append-nil, arith}
+use Rattle.std.proofs.Common.{◌≡◌, inl, inr, ℕ, ◌+◌, ◌<◌, ◌≤◌, ◌^◌, List, [], ◌∷◌, ◌++◌, length, Result, Ok, Err, Some, None, Option, refl, sym, subst, append-nil, arith}
 use Rattle.std.specs.Prelude.{MatchResult}
 use Rattle.bmp_specs.specs.declared.causes.Cause.{Cause}
 use Rattle.bmp_specs.specs.Life.{Given}
@@ -42,8 +42,8 @@ module _ (meaning : Meaning) (a b : Aside) (pass0 pass : Fed Entry) (cause : Cau
   }
 
   -- the closing wasn't published
-  pub concludes_unclosed : (c : Aside) (new : Fed Entry) → Closes b c → new ≡ pass → Concludes meaning (IsBegunOf meaning) a c pass0 new
-  concludes_unclosed c new shut same = record {
+  pub concludes_unclosed : (began : Option ℕ) (c : Aside) (new : Fed Entry) → Closes b c → new ≡ pass → Concludes meaning (IsBegunOf meaning began) a c pass0 new
+  concludes_unclosed began c new shut same = record {
     taken = b;
     input = t.input;
     entries = opened ∷ t.messages;
@@ -54,6 +54,7 @@ module _ (meaning : Meaning) (a b : Aside) (pass0 pass : Fed Entry) (cause : Cau
       piece = [];
       split = sym (append-nil t.input.bytes);
       short = omega arith;
+      edge = inl refl;
       life = record { messages = t.messages; offset = t.come.offset; verdict = t.come.verdict; within = t.come.within; walk = t.come.walk; is = refl };
     });
     grows = subst (λ (p : Fed Entry). Grows pass0 p (opened ∷ t.messages)) (sym same) t.grows;

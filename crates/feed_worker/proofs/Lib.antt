@@ -5,6 +5,7 @@ pub mod Ports
 pub mod Taking
 pub mod Concluding
 pub mod Serving
+pub mod Untold
 pub mod Resting
 pub mod GivenConnections
 pub mod Longer

@@ -11,6 +11,7 @@ use Rattle.bmp_specs.specs.Values.{EntryValue}
 use Rattle.rib_model.specs.declared.entry.Entry.{Entry}
 use Rattle.rib_model.specs.Entries.{entry_values}
 use Rattle.station_doors.specs.Doors.{OpensNext, untouched, IsRefusal, opened_one}
+use Rattle.station_doors.proofs.ReadLaws.{front_of}
 use Rattle.wire_io.specs.Aside.{Aside, Plan}
 use Rattle.wire_io.specs.declared.sink.Failed.{Failed}
 use Rattle.feed_worker.specs.Feed.{Connection, Refuses, Serves, Visits, lives_of}
@@ -24,10 +25,6 @@ next_one : (connections : List (List ℕ)) (after : Option (List (List ℕ))) (r
 next_one connections None rest p = absurd p
 next_one connections (Some after) None p = absurd p
 next_one connections (Some after) (Some b) p = (b, after, refl, refl, p)
-
-front_of : (b : List ℕ) (now : Option (List ℕ)) (bytes : List ℕ) → Consumes (Some b) now bytes → (rest : List ℕ) × (b ≡ bytes ++ rest) × (IsAtEnd now → rest ≡ [])
-front_of b None bytes p = absurd p
-front_of b (Some ys) bytes p = (ys, p, λ h. h)
 
 -- a connection that was served, and what is to come after it
 record IsVisited (meaning : Meaning) (plan : Plan) (connections : List (List ℕ)) (life : List EntryValue) (new : Aside) : Type 0 where

@@ -11,37 +11,9 @@ use Rattle.wire_io.specs.Aside.{Aside, Plan, fresh}
 use Rattle.wire_io.specs.Faults.{Rose}
 use Rattle.station_doors.specs.Doors.{Reads, AsPlanned, GivesBytes, given_more, read_of, GivesMore}
 use Rattle.station_doors.proofs.Sessions.{given_more_last}
+use Rattle.station_doors.proofs.ReadLaws.{consumes_then, consumes_none, keeps_consumes, given_on, given_failed, fails_some}
 use Rattle.feed_worker.specs.Connection.{EndsFresh, IsNew, TakesBytes}
 use Rattle.feed_worker.specs.FeedPort.{IsPublished, IsPublishedWhereTold, present_of}
-
-consumes_then : (a b c : Option (List ℕ)) (s t : List ℕ) → Consumes a b s → Consumes b c t → Consumes a c (s ++ t)
-consumes_then None b c s t p q = tt
-consumes_then (Some xs) None c s t p q = absurd p
-consumes_then (Some xs) (Some ys) None s t p q = absurd q
-consumes_then (Some xs) (Some ys) (Some zs) s t p q = p ∙ ap (λ (l : List ℕ). s ++ l) q ∙ sym (append_assoc s t zs)
-
-consumes_none : (a : Option (List ℕ)) → Consumes a a []
-consumes_none None = tt
-consumes_none (Some xs) = refl
-
-keeps_consumes : (a b : Option (List ℕ)) → Keeps a b → Consumes a b []
-keeps_consumes None b k = tt
-keeps_consumes (Some xs) None k = absurd k
-keeps_consumes (Some xs) (Some ys) k = sym k
-
-given_more_twice : (gs : List Given) (s t : List ℕ) (l m : LastRead) → given_more (given_more gs s l) t m ≡ given_more gs (s ++ t) m
-given_more_twice [] s t l m = refl
-given_more_twice (g ∷ []) s t l m = ap (λ (b : List ℕ). record { bytes = b; last = m } ∷ []) (append_assoc g.bytes s t)
-given_more_twice (g ∷ h ∷ []) s t l m = ap (λ (b : List ℕ). g ∷ record { bytes = b; last = m } ∷ []) (append_assoc h.bytes s t)
-given_more_twice (g ∷ h ∷ i ∷ gs) s t l m = ap (λ (k : List Given). g ∷ k) (given_more_twice (h ∷ i ∷ gs) s t l m)
-
-given_then : (a b c : Option (List Given)) (s buf : List ℕ) (n : ℕ) → GivesMore a b s gave → GivesBytes b c (Ok n) buf → GivesMore a c (s ++ take n buf) (read_of n)
-given_then None b c s buf n p q = subst (λ (o : Option (List Given)). GivesBytes o c (Ok n) buf) p q
-given_then (Some gs) b c s buf n p q = subst (λ (o : Option (List Given)). GivesBytes o c (Ok n) buf) p q ∙ ap (λ (l : List Given). Some l) (given_more_twice gs s (take n buf) gave (read_of n))
-
-given_failed : (a b c : Option (List Given)) (s buf : List ℕ) (e : Failed) → GivesMore a b s gave → GivesBytes b c (Err e) buf → GivesMore a c (s ++ []) failed
-given_failed None b c s buf e p q = subst (λ (o : Option (List Given)). GivesBytes o c (Err e) buf) p q
-given_failed (Some gs) b c s buf e p q = subst (λ (o : Option (List Given)). GivesBytes o c (Err e) buf) p q ∙ ap (λ (l : List Given). Some l) (given_more_twice gs s [] gave failed)
 
 -- a connection that was opened gave nothing yet
 given_nothing : (a : Option (List Given)) → EndsFresh a → GivesMore a a [] gave
@@ -88,7 +60,7 @@ goes_more a0 a b bytes buf n m g r some within room = record {
   plan = r.plan ∙ g.plan;
   coming = r.coming ∙ g.coming;
   rest = consumes_then a0.rest a.rest b.rest bytes (take m buf) g.rest r.rest.0;
-  given = subst (λ (l : LastRead). GivesMore a0.given b.given (bytes ++ take m buf) l) (read_some m some) (given_then a0.given a.given b.given bytes buf m g.given r.given);
+  given = subst (λ (l : LastRead). GivesMore a0.given b.given (bytes ++ take m buf) l) (read_some m some) (given_on a0.given a.given b.given bytes buf m g.given r.given);
   opened = r.opened ∙ g.opened;
   closed = r.closed ∙ g.closed;
   is_open = r.is_open ∙ g.is_open;
@@ -98,11 +70,6 @@ goes_more a0 a b bytes buf n m g r some within room = record {
   open_faults = r.calm ∙ g.open_faults;
   read_faults = r.cause.fine ∙ g.read_faults;
 }
-
--- the plan fails a call
-fails_some : (plan0 plan : Option Plan) (c d : ℕ) (e : Failed) → plan ≡ plan0 → AsPlanned plan c d (Err e) → IfSome plan0 (λ x. x.fails ≡ [] → ⊥)
-fails_some None plan c d e is p = tt
-fails_some (Some x) plan c d e is p = λ none. let q = subst (λ (o : Option Plan). AsPlanned o c d (Err e)) is p in omega (arith, q.1.1, ap length none)
 
 -- nothing more is read
 module _ (meaning : Meaning) (a0 a : Aside) (bytes : List ℕ) (n : ℕ) (g : Goes a0 a bytes n) (no_further : IsReadNoFurther meaning bytes) (room : n ≤ most_taken) where
@@ -133,7 +100,7 @@ module _ (meaning : Meaning) (a0 a : Aside) (bytes : List ℕ) (n : ℕ) (g : Go
         plan = r.plan ∙ g.plan;
         coming = r.coming ∙ g.coming;
         rest = subst (λ (l : List ℕ). Consumes a0.rest b.rest l) same (consumes_then a0.rest a.rest b.rest bytes (take 0 buf) g.rest r.rest.0);
-        given = subst (λ (l : List ℕ). GivesMore a0.given b.given l gave_none) same (given_then a0.given a.given b.given bytes buf 0 g.given r.given);
+        given = subst (λ (l : List ℕ). GivesMore a0.given b.given l gave_none) same (given_on a0.given a.given b.given bytes buf 0 g.given r.given);
         opened = r.opened ∙ g.opened;
         closed = r.closed ∙ g.closed;
         is_open = r.is_open ∙ g.is_open;

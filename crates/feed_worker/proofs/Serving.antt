@@ -1,5 +1,5 @@
 -- One connection after another.
-use Rattle.std.proofs.Common.{◌≡◌, ℕ, ◌+◌, ◌*◌, ◌<◌, ◌≤◌, ◌^◌, true, false, List, [], ◌∷◌, ◌++◌, length, Bool, refl, sym, ap, ◌∙◌, subst, append-nil, append_assoc, arith, length-append, inl, inr}
+use Rattle.std.proofs.Common.{◌≡◌, ℕ, ◌+◌, ◌*◌, ◌<◌, ◌≤◌, ◌^◌, true, false, List, [], ◌∷◌, ◌++◌, length, Bool, Option, refl, sym, ap, ◌∙◌, subst, append-nil, append_assoc, arith, length-append, inl, inr}
 use Rattle.std.specs.Prelude.{MatchBool, nat_lt}
 use Rattle.std.proofs.lemmas.Bool.Decides.{nat_tests}
 use Rattle.bmp_specs.specs.Meaning.{Meaning}
@@ -61,8 +61,8 @@ module _ (meaning : Meaning) (a b : Aside) (pass0 pass : Fed Entry) (n : ℕ) (s
         }
 
     -- and memory ran out
-    pub serves_some : (rounds : ℕ) → n < rounds → Concludes meaning (IsBegunOf meaning) c d pass new → ServesSome meaning rounds a d pass0 new
-    serves_some rounds few t = record {
+    pub serves_some : (began : Option ℕ) (rounds : ℕ) → n < rounds → Concludes meaning (IsBegunOf meaning began) c d pass new → ServesSome meaning began rounds a d pass0 new
+    serves_some began rounds few t = record {
       connections = s.connections;
       after = b;
       serves = s.serves;

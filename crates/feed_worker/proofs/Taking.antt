@@ -1,5 +1,6 @@
 -- A connection that is taken to its end and published, read by read.
-use Rattle.std.proofs.Common.{◌≡◌, ◌≢◌, inl, inr, ℕ, ◌+◌, ◌<◌, ◌≤◌, length, take, List, [], ◌∷◌, ◌++◌, Some, None, Ok, Err, refl, sym, ◌∙◌, subst, append-nil, length-take, arith}
+use Rattle.std.proofs.Common.{◌≡◌, ◌≢◌, inl, inr, ℕ, ◌+◌, ◌<◌, ◌≤◌, length, take, List, [], ◌∷◌, ◌++◌, Option, Some, None, Ok, Err, refl, sym, ◌∙◌, subst, append-nil, length-take, arith}
+use Rattle.std.specs.Prelude.{IfSome}
 use Rattle.bmp_specs.specs.declared.causes.Cause.{Cause}
 use Rattle.bmp_specs.specs.declared.causes.Cause.TheVariants.{ReadFault, Full}
 use Rattle.bmp_specs.proofs.Fronts.{read_no_further}
@@ -17,7 +18,7 @@ use Rattle.station_doors.specs.Doors.{Reads, AsPlanned}
 use Rattle.wire_io.specs.declared.sink.Failed.{Failed}
 use Rattle.wire_io.specs.Aside.{Aside}
 use Rattle.feed_worker.specs.Connection.{IsNew, TakesConnection, BreaksConnection}
-use Rattle.feed_worker.specs.FeedPort.{IsPublishedWhereTold}
+use Rattle.feed_worker.specs.FeedPort.{BeginsAfter, IsPublishedWhereTold}
 use Rattle.feed_worker.specs.Publishing.{Grows}
 use Rattle.feed_worker.specs.Walking.{HasPublished, Publishes}
 use Rattle.feed_worker.proofs.Ports.{Goes, goes_none, goes_more, takes_going, takes_end, takes_fault, published_told}
@@ -44,9 +45,14 @@ taking_none meaning state a pass0 pass walk new grows reached (place, none) = re
   };
 }
 
+-- the front that is published ends where the last read began
+began_there : (was began : Option ℕ) (taken : ℕ) (front : List ℕ) → BeginsAfter was began taken → length front ≡ taken → IfSome began (λ n. length front ≡ n)
+began_there None began taken front begins count = subst (λ (o : Option ℕ). IfSome o (λ n. length front ≡ n)) (sym begins) tt
+began_there (Some n) began taken front begins count = subst (λ (o : Option ℕ). IfSome o (λ n. length front ≡ n)) (sym begins) count
+
 -- the opening wasn't published
-pub breaks_none : (meaning : Meaning) (a : Aside) (pass0 pass : Fed Entry) → IsNew a → pass ≡ pass0 → BreaksConnection meaning a a pass0 pass
-breaks_none meaning a pass0 pass new same = record {
+pub breaks_none : (meaning : Meaning) (began : Option ℕ) (a : Aside) (pass0 pass : Fed Entry) → IsNew a → pass ≡ pass0 → BreaksConnection meaning began a a pass0 pass
+breaks_none meaning began a pass0 pass new same = record {
   input = record { bytes = []; last = gave };
   entries = [];
   took = takes_going meaning a a [] 0 (goes_none a new) (nothing_further meaning) (omega arith);
@@ -124,8 +130,8 @@ module _ {B : Type 0} (meaning : Meaning) (state : B → meaning.State) (a0 a : 
     }
 
     -- none of their messages was published
-    pub breaks : (new : Fed Entry) → new ≡ pass → BreaksConnection meaning a0 b pass0 new
-    breaks new same = record {
+    pub breaks : (new : Fed Entry) (was began : Option ℕ) → BeginsAfter was began a.taken → new ≡ pass → BreaksConnection meaning began a0 b pass0 new
+    breaks new was began begins same = record {
       input = record { bytes = t.bytes ++ take m buf; last = gave };
       entries = opened ∷ t.published.messages;
       took = takes_going meaning a0 b (t.bytes ++ take m buf) (n + m) goes no_further room;
@@ -135,6 +141,7 @@ module _ {B : Type 0} (meaning : Meaning) (state : B → meaning.State) (a0 a : 
         piece = take m buf;
         split = refl;
         short = omega (arith, size, length-take m buf);
+        edge = inr (began_there was began a.taken t.bytes begins (t.goes.count ∙ sym t.goes.taken_is));
         life = record { messages = t.published.messages; offset = walk.offset; verdict = verdict_with (rest_of walk); within = omega (arith, t.goes.count, room); walk = t.published.given.walks; is = refl };
       });
       grows = subst (λ (p : Fed Entry). Grows pass0 p (opened ∷ t.published.messages)) (sym same) t.published.grows;

@@ -9,11 +9,9 @@ use Rattle.bmp_specs.specs.Meaning.{Meaning, WalksBy}
 use Rattle.bmp_specs.specs.Values.{EntryValue, opened, closed}
 use Rattle.bmp_specs.specs.Walk.{Verdict, whole, more, terminated, broken}
 use Rattle.bmp_specs.proofs.LifeOne.{cause_one, cause_of_termination, cause_of_break, cause_of_fullness}
+use Rattle.station_doors.proofs.ReadLaws.{most_of}
 use Rattle.feed_worker.specs.Planned.{IsWholeLife}
 use Rattle.feed_worker.proofs.Longer.{IsDecided, walks_longer}
-
-most_of : (bytes rest : List ℕ) → length bytes ≤ most_taken → take most_taken (bytes ++ rest) ≡ bytes ++ take (most_taken - length bytes) rest
-most_of bytes rest within = let room : most_taken ≡ length bytes + (most_taken - length bytes) = omega (arith, within) in ap (λ (n : ℕ). take n (bytes ++ rest)) room ∙ take-append-add bytes rest (most_taken - length bytes)
 
 must_be_full : (taken : ℕ) (v : Verdict) (offset : ℕ) (cause : Cause) → IsUndecided v → IsCause taken gave v offset cause → taken ≡ most_taken
 must_be_full taken v offset Full u c = c.fits

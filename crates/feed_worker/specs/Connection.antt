@@ -51,25 +51,27 @@ pub record TakesConnection (meaning : Meaning) (old new : Aside) (pass pass' : F
   pub come : HasCome meaning input messages cause
   pub grows : Grows pass pass' (opened ∷ messages)
 
--- the opening and all messages of a front of these bytes; what stands behind that front, one read gave
-pub record IsLifeOfFront (meaning : Meaning) (bytes : List ℕ) (entries : List EntryValue) : Type 0 where
+-- The opening and all messages of these bytes as they stood where a read ended: of all, or of those before the piece
+-- that the last read gave. Where it is told after how many bytes that read began, so many stand before the piece.
+pub record IsLifeOfFront (meaning : Meaning) (began : Option ℕ) (bytes : List ℕ) (entries : List EntryValue) : Type 0 where
   pub front : List ℕ
   pub piece : List ℕ
   pub split : bytes ≡ front ++ piece
   pub short : length piece ≤ most_read
+  pub edge : (piece ≡ []) ⊎ IfSome began (λ n. length front ≡ n)
   pub life : IsOpenLife meaning front entries
 
 -- A beginning of a life: nothing, where nothing was read, or else the opening and all messages of what was read without the
 -- last read, or with it.
-abbrev pub IsBegun : Meaning → List ℕ → List EntryValue → Type 0
-IsBegun meaning bytes entries = ((bytes ≡ []) × (entries ≡ [])) ⊎ IsLifeOfFront meaning bytes entries
+abbrev pub IsBegun : Meaning → Option ℕ → List ℕ → List EntryValue → Type 0
+IsBegun meaning began bytes entries = ((bytes ≡ []) × (entries ≡ [])) ⊎ IsLifeOfFront meaning began bytes entries
 
 -- Memory ran out as the present connection was taken: a beginning of its opening and messages was published. No
--- read had failed or told the end.
-pub record BreaksConnection (meaning : Meaning) (old new : Aside) (pass pass' : Fed Entry) : Type 0 where
+-- read had failed or told the end. The last one began after so many bytes, where that is told.
+pub record BreaksConnection (meaning : Meaning) (began : Option ℕ) (old new : Aside) (pass pass' : Fed Entry) : Type 0 where
   pub input : Given
   pub entries : List EntryValue
   pub took : TakesBytes meaning old new input
   pub going : input.last ≡ gave
-  pub begun : IsBegun meaning input.bytes entries
+  pub begun : IsBegun meaning began input.bytes entries
   pub grows : Grows pass pass' entries

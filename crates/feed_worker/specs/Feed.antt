@@ -1,5 +1,5 @@
 -- The connections of a lane, one after another.
-use Rattle.std.specs.Prelude.{◌≡◌, ◌⊎◌, ℕ, ◌+◌, ◌<◌, ◌≤◌, ◌^◌, Bool, List, [], ◌∷◌, ◌++◌, length, map, MatchBool, nat_lt, Some, IfSome, OnErr, Result}
+use Rattle.std.specs.Prelude.{◌≡◌, ◌⊎◌, ℕ, ◌+◌, ◌<◌, ◌≤◌, ◌^◌, Bool, List, [], ◌∷◌, ◌++◌, length, map, MatchBool, nat_lt, Option, Some, None, IfSome, OnErr, Result}
 use Rattle.bmp_specs.specs.Life.{IsLife, Given}
 use Rattle.bmp_specs.specs.Meaning.{Meaning}
 use Rattle.bmp_specs.specs.Values.{EntryValue}
@@ -58,12 +58,12 @@ pub record Concludes (meaning : Meaning) (IsOf : Given → List EntryValue → T
   pub is_of : IsOf input entries
   pub grows : Grows pass pass' entries
 
--- the entries are the life of the connection that gave this, or a beginning of it
+-- the entries are the life of the connection that gave this, or a beginning of it, where the last read began there
 abbrev pub IsLifeOf : Meaning → Given → List EntryValue → Type 0
 IsLifeOf meaning input entries = IsLife meaning input.bytes input.last entries
 
-abbrev pub IsBegunOf : Meaning → Given → List EntryValue → Type 0
-IsBegunOf meaning input entries = IsBegun meaning input.bytes entries
+abbrev pub IsBegunOf : Meaning → Option ℕ → Given → List EntryValue → Type 0
+IsBegunOf meaning began input entries = IsBegun meaning began input.bytes entries
 
 -- the most entries of a pass with which a lane begins a round
 abbrev pub most_entries : ℕ
@@ -89,9 +89,9 @@ pub record ServesAll (meaning : Meaning) (rounds : ℕ) (old new : Aside) (pass 
   pub grows : Grows pass pass' (lives_of connections)
   pub stop : MatchBool (nat_lt (length connections) rounds) (Stops after new pass') ((length connections ≡ rounds) × (new ≡ after))
 
--- Memory ran out in the last of the connections, of whose life a beginning was published. It was closed, and no
--- further one was opened.
-pub record ServesSome (meaning : Meaning) (rounds : ℕ) (old new : Aside) (pass pass' : Fed Entry) : Type 0 where
+-- Memory ran out in the last of the connections, of whose life a beginning was published. The last read began after so
+-- many bytes, where that is told. The connection was closed, and no further one was opened.
+pub record ServesSome (meaning : Meaning) (began : Option ℕ) (rounds : ℕ) (old new : Aside) (pass pass' : Fed Entry) : Type 0 where
   pub connections : List Connection
   pub after : Aside
   pub serves : Serves meaning old after connections
@@ -99,14 +99,18 @@ pub record ServesSome (meaning : Meaning) (rounds : ℕ) (old new : Aside) (pass
   pub last : Connection
   pub room : HaveRoom (length pass.entries) (connections ++ last ∷ [])
   pub visits : Visits meaning after last
-  pub begun : IsBegun meaning last.input.bytes last.life
+  pub begun : IsBegun meaning began last.input.bytes last.life
   pub closed : new ≡ last.closed
   pub grows : Grows pass pass' (lives_of connections ++ last.life)
 
--- how the work of a lane ended
+-- how the work of a lane ended, where the last read began after so many bytes
+abbrev pub EndsFeed : Meaning → Option ℕ → ℕ → Aside → Aside → Fed Entry → Fed Entry → LaneEnd → Type 0
+EndsFeed meaning began rounds old new pass pass' Over = ServesAll meaning rounds old new pass pass'
+EndsFeed meaning began rounds old new pass pass' NoMemory = ServesSome meaning began rounds old new pass pass'
+
+-- the same where that isn't told
 abbrev pub ServesFeed : Meaning → ℕ → Aside → Aside → Fed Entry → Fed Entry → LaneEnd → Type 0
-ServesFeed meaning rounds old new pass pass' Over = ServesAll meaning rounds old new pass pass'
-ServesFeed meaning rounds old new pass pass' NoMemory = ServesSome meaning rounds old new pass pass'
+ServesFeed meaning rounds old new pass pass' end = EndsFeed meaning None rounds old new pass pass' end
 
 -- A port that tells the connections that it gave tells what was read of each that was served.
 abbrev pub PortsTellConnections : Meaning → Type 0

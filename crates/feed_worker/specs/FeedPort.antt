@@ -26,6 +26,12 @@ abbrev pub IsPublishedWhereTold : Meaning → List EntryValue → Option (List G
 IsPublishedWhereTold meaning entries None = Unit {0}
 IsPublishedWhereTold meaning entries (Some given) = IsPublished meaning entries (present_of given)
 
+-- One more read is made, after so many bytes of its connection. After how many the last read began, before that and
+-- then, where that is kept.
+abbrev pub BeginsAfter : Option ℕ → Option ℕ → ℕ → Type 0
+BeginsAfter None new taken = new ≡ None
+BeginsAfter (Some old) new taken = new ≡ Some taken
+
 -- nothing of a connection is unpublished: there is no entry, or the last one is a closing
 abbrev pub IsAtRest : List EntryValue → Type 0
 IsAtRest entries = (entries ≡ []) ⊎ ((before : List EntryValue) × (cause : Cause) × (entries ≡ before ++ closed cause ∷ []))

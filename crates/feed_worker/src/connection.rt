@@ -27,7 +27,7 @@ use wire_io::NoMemory;
 /// | `Terminated` | a Termination Message was taken (RFC 7854, section 4.5) |
 /// | `Broken` | what stands at the offset is no message, for that reason |
 /// | `Full` | 2^46 bytes were taken |
-/// | `Ended` | the input ended behind a message |
+/// | `Ended` | the input ended after a message |
 /// | `CutShort` | the input ended inside the message at the offset |
 /// | `ReadFault` | a read failed; the offset is the number of bytes taken |
 ///
@@ -45,7 +45,7 @@ pub fn take_connection<B: BodyReading + Drop, J: Naming, P: FeedPort<B, J>, R: W
     requires room { length pass.old.entries + 2 ^ 44 ≤ 2 ^ 57 }
     requires new { IsNew (P.aside port.old) }
     ensures { MatchResult result (TakesConnection B.meaning (P.aside port.old) (P.aside port.new) pass.old pass.new)
-        (λ _. BreaksConnection B.meaning (P.aside port.old) (P.aside port.new) pass.old pass.new) }
+        (λ _. BreaksConnection B.meaning (P.last_began port.new) (P.aside port.old) (P.aside port.new) pass.old pass.new) }
 {
     publish_entries(rt, alloc, publisher, pass, &[Entry::Opened])?;
     let mut walk = StreamWalk::<B>::new(alloc);
@@ -97,6 +97,7 @@ pub fn close_connection<B: BodyReading, J: Naming, P: FeedPort<B, J>, R: Wait>(
     ensures pass { MatchResult result (λ _. Grows pass.old pass.new (closed cause ∷ [])) (λ _. pass.new ≡ pass.old) }
     ensures closes { Closes (P.aside port.old) (P.aside port.new) }
     ensures calls { P.calls port.new ≡ P.calls port.old }
+    ensures began { P.last_began port.new ≡ P.last_began port.old }
 {
     port.close();
     publish_entries(rt, alloc, publisher, pass, &[Entry::Closed(cause)])

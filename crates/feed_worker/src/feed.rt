@@ -3,7 +3,7 @@ ghost use Rattle.std.specs.Prelude.{◌≡◌, ◌+◌, ◌≤◌, ◌^◌, fals
 ghost use Rattle.rib_model.specs.Entries.{entry_values};
 ghost use Rattle.station_doors.specs.Doors.{Opens, opened_one};
 ghost use Rattle.feed_worker.specs.Connection.{IsNew};
-ghost use Rattle.feed_worker.specs.Feed.{Concludes, IsBegunOf, IsLifeOf, Refuses, ServesFeed};
+ghost use Rattle.feed_worker.specs.Feed.{Concludes, EndsFeed, IsBegunOf, IsLifeOf, Refuses};
 ghost use Rattle.feed_worker.specs.FeedPort.{IsAtRest};
 
 use crate::connection::{close_connection, take_connection};
@@ -12,30 +12,23 @@ use bmp_message::BodyReading;
 use cut_publisher::{FeedPass, Naming, Publisher};
 use router_tables::RouterTables;
 use std::alloc::Global;
-use std::fmt;
 use std::sync::Wait;
+use thiserror::Error;
 use wire_io::NoMemory;
 
 /// The most entries of a pass with which a round begins, 2^56. A connection adds fewer than 2^44.
 const MOST_ENTRIES: u64 = 0x0100_0000_0000_0000;
 
 /// How the work of a lane ended.
-#[derive(Clone, Copy, Debug, PartialEq, Eq)]
+#[derive(Clone, Copy, Debug, PartialEq, Eq, Error)]
 pub enum LaneEnd {
     /// As many connections were served as it was to serve, or no further one was opened.
+    #[error("no further connection is served")]
     Over,
 
     /// Out of memory.
+    #[error("out of memory")]
     NoMemory,
-}
-
-impl fmt::Display for LaneEnd {
-    fn fmt<W: fmt::Write>(&self, f: &mut fmt::Formatter<W>) -> fmt::Result {
-        match self {
-            LaneEnd::Over => f.write_str("no further connection is served"),
-            LaneEnd::NoMemory => f.write_str("out of memory"),
-        }
-    }
 }
 
 /// Whether the next connection was opened. There may be none, or opening it may fail.
@@ -67,7 +60,7 @@ fn serve_connection<B: BodyReading + Drop, J: Naming, P: FeedPort<B, J>, R: Wait
     requires new { IsNew (P.aside port.old) }
     ensures { MatchResult result
         (λ _. Concludes B.meaning (IsLifeOf B.meaning) (P.aside port.old) (P.aside port.new) pass.old pass.new)
-        (λ _. Concludes B.meaning (IsBegunOf B.meaning) (P.aside port.old) (P.aside port.new) pass.old pass.new) }
+        (λ _. Concludes B.meaning (IsBegunOf B.meaning (P.last_began port.new)) (P.aside port.old) (P.aside port.new) pass.old pass.new) }
 {
     match take_connection::<B, J, P, R>(rt, alloc, publisher, pass, port) {
         Ok(cause) => close_connection::<B, J, P, R>(rt, alloc, publisher, pass, port, cause),
@@ -94,7 +87,7 @@ pub fn serve_feed<B: BodyReading + Drop, J: Naming, P: FeedPort<B, J>, R: Wait>(
 ) -> LaneEnd
     requires station { pass.old.station ≡ J.site }
     requires at_rest { IsAtRest (entry_values pass.old.entries) }
-    ensures { ServesFeed B.meaning rounds (P.aside port.old) (P.aside port.new) pass.old pass.new result }
+    ensures { EndsFeed B.meaning (P.last_began port.new) rounds (P.aside port.old) (P.aside port.new) pass.old pass.new result }
 {
     let mut served = 0;
     while served < rounds {

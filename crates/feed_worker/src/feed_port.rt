@@ -1,10 +1,10 @@
 //! What a lane may do with its port.
-ghost use Rattle.std.specs.Prelude.{◌≡◌, ◌<◌, ℕ, [], length, IfSome, OnErr, IsTrue};
+ghost use Rattle.std.specs.Prelude.{◌≡◌, ◌<◌, ℕ, [], length, Option, IfSome, OnErr, IsTrue};
 ghost use Rattle.std.specs.Io.{ReadsAtMost};
 ghost use Rattle.rib_model.specs.Entries.{entry_values};
 ghost use Rattle.wire_io.specs.Aside.{Aside};
 ghost use Rattle.station_doors.specs.Doors.{Opens, Reads, Closes, AsPlanned, read_size};
-ghost use Rattle.feed_worker.specs.FeedPort.{IsAtRest, IsPublishedWhereTold};
+ghost use Rattle.feed_worker.specs.FeedPort.{BeginsAfter, IsAtRest, IsPublishedWhereTold};
 
 use bmp_message::BodyReading;
 use cut_publisher::{FeedPass, Naming};
@@ -23,6 +23,10 @@ pub trait FeedPort<B: BodyReading, J: Naming> {
     /// How many of its calls were made that its plan numbers.
     ghost calls: { Self → ℕ };
 
+    /// After how many bytes of its connection the last read began, where that is kept. By this a lane's contract says
+    /// what stays published where memory runs out.
+    ghost last_began: { Self → Option ℕ };
+
     /// Opens the next connection, as a `Port` does, for the pass of a lane of this station. A lane may wait here for
     /// days. Nothing of the earlier connections is unpublished then: the pass has no entry, or the last one is a
     /// closing. Where one of them was read, its opening is among the entries, so the last one is its closing.
@@ -31,7 +35,8 @@ pub trait FeedPort<B: BodyReading, J: Naming> {
         requires at_rest { IsAtRest (entry_values pass.now.entries) }
         ensures opens { Opens (aside self.old) (aside self.new) result }
         ensures planned { IfSome (aside self.old).plan (λ plan. OnErr result (plan.fails ≡ [] → ⊥)) }
-        ensures calls { calls self.new ≡ calls self.old };
+        ensures calls { calls self.new ≡ calls self.old }
+        ensures began { last_began self.new ≡ last_began self.old };
 
     /// Gives the next bytes of the present connection, as a `Port` does, to the pass of a lane of this station. Where
     /// its bytes are told, the entries of the pass since its last opening are exactly the messages of the bytes given
@@ -44,11 +49,13 @@ pub trait FeedPort<B: BodyReading, J: Naming> {
         requires published { IsPublishedWhereTold B.meaning (entry_values pass.now.entries) (aside self.old).given }
         ensures bound { ReadsAtMost result buf.new }
         ensures reads { Reads (aside self.old) (aside self.new) result buf.new }
-        ensures planned { AsPlanned (aside self.old).plan (calls self.old) (calls self.new) result };
+        ensures planned { AsPlanned (aside self.old).plan (calls self.old) (calls self.new) result }
+        ensures began { BeginsAfter (last_began self.old) (last_began self.new) (aside self.old).taken };
 
     /// Closes the present connection, as a `Port` does.
     fn close(&mut self)
         requires { IsTrue (aside self.old).is_open }
         ensures closes { Closes (aside self.old) (aside self.new) }
-        ensures calls { calls self.new ≡ calls self.old };
+        ensures calls { calls self.new ≡ calls self.old }
+        ensures began { last_began self.new ≡ last_began self.old };
 }

@@ -1,5 +1,5 @@
 //! A port that is handed to a lane.
-ghost use Rattle.std.specs.Prelude.{◌≡◌};
+ghost use Rattle.std.specs.Prelude.{◌≡◌, None};
 
 use crate::feed_port::FeedPort;
 use bmp_message::BodyReading;
@@ -42,6 +42,8 @@ impl<P: Port, B: BodyReading, J: Naming> FeedPort<B, J> for LanePort<P> {
     ghost aside = { P.aside };
 
     ghost calls = { P.calls };
+
+    ghost last_began = { λ _. None };
 
     fn next_connection(&mut self, _pass: &FeedPass<RouterTables>) -> Result<bool, Failed> {
         self.port.next_connection()

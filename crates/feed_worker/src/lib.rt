@@ -3,7 +3,7 @@
 //! A router's BMP session is a TCP connection (RFC 7854, section 3.2), and its messages come in pieces. A lane
 //! publishes that a connection opened, then its messages, and then that it closed and why. All whole messages of one
 //! read are published in one step with the tables that they leave (`router_tables`, `cut_publisher`), before more is
-//! asked for. So what askers see is behind by less than one read.
+//! asked for. So what askers see lags by less than one read.
 //!
 //! Proved: `take_connection` publishes the opening and exactly the messages of the bytes that it took, in order, and
 //! answers the cause of the connection's end; `close_connection` publishes that cause; `serve_feed` publishes the

@@ -2,4 +2,5 @@ pub mod Sessions
 pub mod Lent
 pub mod Rests
 pub mod Planned
+pub mod ReadLaws
 pub mod DiskPaths

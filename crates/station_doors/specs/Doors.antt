@@ -156,9 +156,13 @@ Went (Some old) new result = new ≡ Some (went_so result ∷ old)
 abbrev pub read_size : ℕ → ℕ
 read_size taken = min most_read (most_taken - taken)
 
--- the same of a link
+-- the most bytes that a link is asked for at once
+abbrev pub most_heard : ℕ
+most_heard = 512
+
+-- how many bytes a link is asked for, where so many were taken of the connection
 abbrev pub heard_size : ℕ → ℕ
-heard_size taken = min 512 (most_taken - taken)
+heard_size taken = min most_heard (most_taken - taken)
 
 -- a call of a planned port fails exactly where its number is among those that do
 abbrev pub AsPlanned : Option Plan → ℕ → ℕ → Result ℕ Failed → Type 0

@@ -116,6 +116,7 @@ impl<
         ensures once { self.old.listened ≡ None → (IsOk result ↔ IsSome self.old.input) }
         ensures reader { self.old.listened ≡ None → IfOk result (λ port. self.old.input ≡ port.input) }
         ensures input { self.old.listened ≡ None → self.new.input ≡ None }
+        ensures kept { IsSome self.old.listened → self.new.input ≡ self.old.input }
         ensures lane { IsSome self.old.listened → IfOk result (λ port. (port.input ≡ None) × (slice_get self.old.feeds.items lane ≡ Some port.listener)) }
         ensures counted { CountsCall (counts_only self.old.calls self.old.listened self.old.endings) (counts_only self.new.calls self.new.listened self.new.endings) }
         ensures cause { HasCause self.old.faults self.new.faults result }

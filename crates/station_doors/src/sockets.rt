@@ -19,7 +19,7 @@ pub(crate) fn ip_of(address: &Addr) -> IpAddr {
     }
 }
 
-// The listener of this number: at the port so far behind the first one, or, where they share that port, a further handle
+// The listener of this number: at the port so far after the first one, or, where they share that port, a further handle
 // of its listener.
 fn listener_of<N: Net<Listener = TcpListener, Stream = TcpStream>>(
     net: &N,

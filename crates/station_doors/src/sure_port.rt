@@ -64,6 +64,7 @@ impl Port for SurePort {
     ghost calls = { λ p. p.reads };
 
     fn next_connection(&mut self) -> Result<bool, Failed>
+        ensures sure { IsOk result }
         ensures opens { Opens self.old.shows self.new.shows result }
         ensures planned { IfSome self.old.shows.plan (λ plan. OnErr result (plan.fails ≡ [] → ⊥)) }
         ensures same { self.new ≡ record self.old { shows = self.new.shows } }

@@ -45,7 +45,7 @@ fn pair_asks<B: BodyReading + Drop, P: Drop, K: Link + Drop>(
     }
 }
 
-// The works of the lanes, the last one first, behind those of the askers.
+// The works of the lanes, the last one first, after those of the askers.
 fn pair_lanes<B: BodyReading + Drop, P: Drop, K: Link + Drop>(
     feeds: &mut FeedList<RouterTables>,
     doors: &mut Vec<P>,

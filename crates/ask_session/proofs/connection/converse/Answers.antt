@@ -1,7 +1,7 @@
 use Rattle.std.proofs.Common.{◌≡◌, ◌<◌, ◌≤◌, ◌++◌, ℕ, length, take, drop, arith, rules, sym, ap, length-take, [], ◌≢◌, ◌∙◌}
 use Rattle.std.proofs.lemmas.List.{take-append-le}
 use Rattle.cut_publisher.specs.History.{Site}
-use Rattle.station_doors.specs.Doors.{read_of}
+use Rattle.station_doors.specs.Doors.{read_of, most_heard}
 use Rattle.ask_session.proofs.Reading.{piece_ok, piece_err, read_some}
 use Rattle.ask_session.proofs.Living.{lives_begin, lives_next, conversed_early, conversed_end, conversed_full, conversed_fault}
 use Rattle.ask_session.proofs.Serving.{sees_self, sees_then}
@@ -23,7 +23,7 @@ returns-in-Some-clause-talk g c =
     let within : c.in-Ok.n ≤ length c.read.new.buf = search rules in
     let len : length (take c.in-Ok.n c.read.new.buf) ≡ c.in-Ok.n = search rules in
     let some : c.in-Ok.n ≢ 0 = search rules in
-    let short : length (take c.in-Ok.n c.read.new.buf) ≤ 512 = search rules in
+    let short : length (take c.in-Ok.n c.read.new.buf) ≤ most_heard = search rules in
     let same : take c.in-Ok.n (c.read.new.buf ++ drop c.min-room.result c.loop-taken.buf) ≡ take c.in-Ok.n c.read.new.buf = take-append-le c.in-Ok.n c.read.new.buf (drop c.min-room.result c.loop-taken.buf) within in
     let hears = rw same at c.in-Some.ensures.hears in
     let piece = piece_ok (g.K.Sink.aside c.loop-taken.link) (g.K.Sink.aside c.read.new.self) c.in-Ok.n c.read.new.buf e.reads len in

@@ -6,8 +6,8 @@ use Rattle.feed_worker.proofs.connection.take_connection.Goals as goal
 
 pub returns-in_err-publish_entries : goal.returns-in_err-publish_entries
 returns-in_err-publish_entries g c =
-    let none : BreaksConnection g.B.BodyReading.meaning (g.P.FeedPort.aside c.args.port.now) (g.P.FeedPort.aside c.args.port.now) c.args.pass.now c.publish_entries.new.pass =
-    breaks_none g.B.BodyReading.meaning (g.P.FeedPort.aside c.args.port.now) c.args.pass.now c.publish_entries.new.pass c.requires.new c.in_err-publish_entries.ensures in
+    let none : BreaksConnection g.B.BodyReading.meaning (g.P.FeedPort.last_began c.args.port.now) (g.P.FeedPort.aside c.args.port.now) (g.P.FeedPort.aside c.args.port.now) c.args.pass.now c.publish_entries.new.pass =
+    breaks_none g.B.BodyReading.meaning (g.P.FeedPort.last_began c.args.port.now) (g.P.FeedPort.aside c.args.port.now) c.args.pass.now c.publish_entries.new.pass c.requires.new c.in_err-publish_entries.ensures in
     search rules
 
 pub loop-taken-init : goal.loop-taken-init
@@ -44,8 +44,8 @@ returns-in_err-cause-in-Ok g c =
     let within : m ≤ length buf = omega (arith, c.in-Ok.ensures.bound.0) in
     let size : m ≤ 65536 = omega (arith, within, length-take c.min-size.result l.buf) in
     let room : l.taken + m ≤ 70368744177664 = omega (arith, within, length-take c.min-size.result l.buf) in
-    let begun : BreaksConnection g.B.BodyReading.meaning (g.P.FeedPort.aside c.args.port.now) (g.P.FeedPort.aside c.read.new.self) c.args.pass.now c.publish_piece.new.pass =
-    breaks g.B.BodyReading.meaning g.B.BodyReading.state _ _ _ _ l.taken l.walk l.invariant.taking _ m buf c.in-Ok.ensures.reads c.in-Ok.count-test.1 within size room c.publish_piece.new.pass c.in_err-cause-in-Ok.ensures in
+    let begun : BreaksConnection g.B.BodyReading.meaning (g.P.FeedPort.last_began c.read.new.self) (g.P.FeedPort.aside c.args.port.now) (g.P.FeedPort.aside c.read.new.self) c.args.pass.now c.publish_piece.new.pass =
+    breaks g.B.BodyReading.meaning g.B.BodyReading.state _ _ _ _ l.taken l.walk l.invariant.taking _ m buf c.in-Ok.ensures.reads c.in-Ok.count-test.1 within size room c.publish_piece.new.pass (g.P.FeedPort.last_began l.port) (g.P.FeedPort.last_began c.read.new.self) c.in-Ok.ensures.began c.in_err-cause-in-Ok.ensures in
     search rules
 
 pub returns-in-Some : goal.returns-in-Some

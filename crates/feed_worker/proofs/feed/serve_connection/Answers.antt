@@ -8,4 +8,4 @@ pub returns-in-Ok : goal.returns-in-Ok
 returns-in-Ok g c =
     let t = c.in-Ok.ensures in
     let shut = c.close_connection.ensures.closes in
-    both_answers c.close_connection.result c.close_connection.ensures.pass (λ _ d. concludes g.B.BodyReading.meaning _ _ _ _ _ t _ _ shut d) (λ _ d. concludes_unclosed g.B.BodyReading.meaning _ _ _ _ _ t _ _ shut d)
+    both_answers c.close_connection.result c.close_connection.ensures.pass (λ _ d. concludes g.B.BodyReading.meaning _ _ _ _ _ t _ _ shut d) (λ _ d. concludes_unclosed g.B.BodyReading.meaning _ _ _ _ _ t _ _ _ shut d)

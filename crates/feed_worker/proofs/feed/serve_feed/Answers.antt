@@ -4,7 +4,7 @@ use Rattle.feed_worker.proofs.Serving.{serves_more, serves_some}
 use Rattle.feed_worker.proofs.feed.serve_feed.Goals as goal
 
 pub returns-in-Err : goal.returns-in-Err
-returns-in-Err g c = serves_some g.B.BodyReading.meaning _ _ _ _ _ c.loop-served.invariant.serves (omega (arith, c.if-count-gt-MOST_ENTRIES.false, c.count.ensures)) (g.P.FeedPort.aside c.opens.new.port) _ (c.if-not-opens.ensures.opens refl) _ _ c.loop-served-test.true c.in-Err.ensures
+returns-in-Err g c = serves_some g.B.BodyReading.meaning _ _ _ _ _ c.loop-served.invariant.serves (omega (arith, c.if-count-gt-MOST_ENTRIES.false, c.count.ensures)) (g.P.FeedPort.aside c.opens.new.port) _ (c.if-not-opens.ensures.opens refl) _ _ _ c.loop-served-test.true c.in-Err.ensures
 
 pub loop-served-preserved : goal.loop-served-preserved
 loop-served-preserved g c = record {
