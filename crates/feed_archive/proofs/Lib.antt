@@ -5,6 +5,7 @@ pub mod Appended
 pub mod Reading
 pub mod Empty
 pub mod Begun
+pub mod Created
 pub mod Steps
 pub mod Kept
 pub mod Telling

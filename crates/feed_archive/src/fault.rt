@@ -30,7 +30,7 @@ pub enum RecoverFault {
     /// The disk failed.
     Failed,
 
-    /// The file is no archive: at this offset, behind whole records, stands one that isn't whole or right, or nothing.
+    /// The file is no archive: at this offset, after whole records, stands one that isn't whole or right, or nothing.
     Damaged { offset: u64 },
 
     /// The first 2^31 bytes of the file, which has more, are no archive.

@@ -3,7 +3,7 @@
 //!
 //! An archive is a list of records and a byte other than 1, which closes it. A record is the byte 1, a length of four
 //! bytes, and so many bytes. What follows the closing byte counts for nothing. An append writes a record over the
-//! closing byte in two steps: everything behind its first byte, with a new closing byte at the end, and a sync; then the
+//! closing byte in two steps: everything after its first byte, with a new closing byte at the end, and a sync; then the
 //! 1, and a sync. So a crash at any moment leaves the archive with the record or without it, and `append` answers Ok only
 //! where every crash from then on leaves it with the record. No checksum is trusted.
 //!
