@@ -10,6 +10,7 @@ use Rattle.bmp_specs.specs.Meaning.{Meaning}
 use Rattle.bmp_specs.specs.Values.{EntryValue}
 use Rattle.bmp_specs.specs.Walk.{Verdict, whole, more, terminated, broken}
 use Rattle.bmp_specs.proofs.LifeOne.{cause_of_fullness, cause_of_end, cause_of_fault}
+use Rattle.station_doors.proofs.ReadLaws.{most_of}
 use Rattle.station_top.specs.Take.{IsEarly}
 
 -- a connection that ended isn't decided by its bytes
@@ -30,10 +31,6 @@ full_undecided taken last whole offset c = tt
 full_undecided taken last more offset c = tt
 full_undecided taken last terminated offset c = c.first Terminated (omega arith) refl
 full_undecided taken last (broken why) offset c = c.first (Broken offset why) (omega arith) (refl, refl)
-
--- the first bytes that are taken at most
-most_of : (bytes rest : List ℕ) → length bytes ≤ most_taken → take most_taken (bytes ++ rest) ≡ bytes ++ take (most_taken - length bytes) rest
-most_of bytes rest within = let room : most_taken ≡ length bytes + (most_taken - length bytes) = omega (arith, within) in ap (λ (n : ℕ). take n (bytes ++ rest)) room ∙ take-append-add bytes rest (most_taken - length bytes)
 
 -- What a connection with these bytes comes to, where no read fails: the same, whatever its pieces.
 module _ (meaning : Meaning) (b bytes rest : List ℕ) (last : LastRead) (messages : List EntryValue) (split : b ≡ bytes ++ rest) (whole' : last ≡ gave_none → rest ≡ []) (calm : last ≡ failed → ⊥) where

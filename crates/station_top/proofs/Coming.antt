@@ -13,6 +13,7 @@ use Rattle.wire_io.specs.Aside.{Aside, Plan, fresh}
 use Rattle.station_doors.specs.Doors.{Opens, GivesNext, Closes, one_more, untouched, GivesMore, CountsLast}
 use Rattle.station_doors.specs.Planned.{first_of, GoesAsPlanned, ReadsAsPlanned}
 use Rattle.station_doors.proofs.Planned.{gives_nothing, opens_first, none_left, failed_to_open}
+use Rattle.station_doors.proofs.ReadLaws.{front_of}
 use Rattle.station_doors.proofs.Sessions.{given_more_last}
 use Rattle.station_top.specs.Input.{input_of}
 use Rattle.station_top.specs.Take.{IsNew, Takes, TakesBytes, TakesInput, ToldInput, LeavesInput, WentOn, ReadsOn, HasBegun, BreaksOff, CountsOpening, Comes, last_given}
@@ -27,10 +28,6 @@ new_given (Some gs) b p = subst (λ (o : Option (List Given)). GivesMore o o [] 
 -- a connection that was opened
 pub is_new : (a b : Aside) → Opens a b (Ok true) → IsNew b
 is_new a b o = record { is_open = o.is_open; none = o.taken; fresh = new_given a.given b.given o.given }
-
-front_of : (b : List ℕ) (now : Option (List ℕ)) (bytes : List ℕ) → Consumes (Some b) now bytes → (rest : List ℕ) × (b ≡ bytes ++ rest) × (IsAtEnd now → rest ≡ [])
-front_of b None bytes p = absurd p
-front_of b (Some ys) bytes p = (ys, p, λ h. h)
 
 -- what is told of one list is told of the other
 pub some_is : {A : Type 0} (x y : A) → Some x ≡ Some y → x ≡ y

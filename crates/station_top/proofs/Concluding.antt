@@ -19,27 +19,27 @@ use Rattle.wire_io.proofs.Joins.{appends_none}
 use Rattle.bmp_message.specs.Effects.{GivesMessages}
 use Rattle.station_doors.specs.Doors.{YardValue, HandsOut, TakesBack, one_more, untouched}
 use Rattle.query_eval.specs.Replies.{PutsReply}
+use Rattle.station_words.specs.Words.{IsCall, file_in}
+use Rattle.station_words.specs.Explain.{help_text, version_line}
+use Rattle.station_words.specs.declared.drill_words.DrillWords.{DrillWords}
+use Rattle.station_words.specs.declared.serve_words.ServeWords.{ServeWords}
+use Rattle.station_words.specs.declared.words.Call.{Call}
+use Rattle.station_words.specs.declared.words.Command.{Command}
+use Rattle.station_words.specs.declared.words.Command.TheVariants.{Replay, Check, Serve, Drill, Relay, Rov, Archive, Recall, Help, Version}
+use Rattle.station_words.proofs.Commands.{archive_call, recall_call, rov_call}
 use Rattle.station_top.specs.Station.{Explains, explained, judged_by, LendsWhereTold, IsTaken, FromYard, IsReplyTo, IsStopped, TakesOneInput, Runs, refused, replied, starved, unready, called, Concludes, CallConcludes, RovConcludes, Answers, replied_to, served, drilled, relayed_to, archived_to, recalled_from, drilled_whole, drill_starved, DrillConcludes, AnswersFault}
 use Rattle.station_top.specs.ArchiveRuns.{ArchiveConcludes}
 use Rattle.station_top.specs.RecallRuns.{RecallConcludes}
 use Rattle.station_top.specs.Status.{status_of, status_served}
 use Rattle.station_top.specs.Take.{TakesInput, BreaksOff}
-use Rattle.station_top.specs.Words.{IsCall, file_in}
 use Rattle.station_top.specs.Written.{IsWritten}
-use Rattle.station_top.specs.Explain.{help_text, version_line}
 use Rattle.station_run.specs.Serve.{AnswersFault as EndsFault}
 use Rattle.station_run.specs.declared.outcome.Outcome.{Outcome}
 use Rattle.station_run.specs.declared.outcome.Outcome.TheVariants as outcome
 use Rattle.station_top.specs.Drill.{IsDrillText}
-use Rattle.station_top.specs.declared.drill_words.DrillWords.{DrillWords}
-use Rattle.station_top.specs.declared.serve_words.ServeWords.{ServeWords}
-use Rattle.station_top.specs.declared.words.Call.{Call}
-use Rattle.station_top.specs.declared.words.Command.{Command}
-use Rattle.station_top.specs.declared.words.Command.TheVariants.{Replay, Check, Serve, Drill, Relay, Rov, Archive, Recall, Help, Version}
 use Rattle.station_top.specs.declared.status.Status.{Status}
 use Rattle.station_top.specs.declared.status.Status.TheVariants.{Done, Stopped, Usage, ReadFault, WriteFault, NoMemory, YardFault, Unwritable, BadFile, BadArchive, DiskFault, ArchiveFull}
 use Rattle.station_top.specs.declared.take.Taken.{Taken}
-use Rattle.station_top.proofs.Commands.{archive_call, recall_call, rov_call}
 use Rattle.station_top.proofs.Lengths.{walk_lengths}
 
 -- the port was handed out, taken from and given back

@@ -8,14 +8,6 @@ pub mod CheckCounts
 pub mod Replaying
 pub mod Concluding
 pub mod Through
-pub mod Joining
-pub mod Commands
-pub mod Settings
-pub mod OptionWalk
-pub mod OptionMatches
-pub mod OptionTaken
-pub mod OptionServe
-pub mod ThreeNumbers
 pub mod Drilling
 pub mod DrillOne
 pub mod Relaying

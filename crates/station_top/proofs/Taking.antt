@@ -15,6 +15,7 @@ use Rattle.wire_io.specs.Faults.{Rose}
 use Rattle.station_doors.specs.Doors.{Reads, AsPlanned, Went, GivesBytes, given_more, read_of, went_so, GivesMore}
 use Rattle.station_doors.specs.Planned.{AllGave, Gives}
 use Rattle.station_doors.proofs.Planned.{read_some, gives_none, gives_then, last_gave, last_none, last_failed, all_before, all_last}
+use Rattle.station_doors.proofs.ReadLaws.{consumes_then, consumes_none, keeps_consumes, given_on, given_failed}
 use Rattle.bmp_message.proofs.Causes.{come_end, come_fault, come_full, come_early, come_early_here, undecided}
 use Rattle.bmp_message.specs.Effects.{GivesMessages}
 use Rattle.bmp_message.specs.StreamWalk.{WalkValue, HasReached, rest_of, verdict_with}
@@ -28,27 +29,6 @@ use Rattle.station_top.proofs.Lengths.{walk_lengths}
 pub on_error : {T E P : Type 0} (result : Result T E) → P → OnErr result P
 on_error (Ok value) holds = tt
 on_error (Err e) holds = holds
-
-consumes_then : (a b c : Option (List ℕ)) (s t : List ℕ) → Consumes a b s → Consumes b c t → Consumes a c (s ++ t)
-consumes_then None b c s t p q = tt
-consumes_then (Some xs) None c s t p q = absurd p
-consumes_then (Some xs) (Some ys) None s t p q = absurd q
-consumes_then (Some xs) (Some ys) (Some zs) s t p q = p ∙ ap (λ (l : List ℕ). s ++ l) q ∙ sym (append_assoc s t zs)
-
-consumes_none : (a : Option (List ℕ)) → Consumes a a []
-consumes_none None = tt
-consumes_none (Some xs) = refl
-
-keeps_consumes : (a b : Option (List ℕ)) → Keeps a b → Consumes a b []
-keeps_consumes None b k = tt
-keeps_consumes (Some xs) None k = absurd k
-keeps_consumes (Some xs) (Some ys) k = sym k
-
-given_more_twice : (gs : List Given) (s t : List ℕ) (l m : LastRead) → given_more (given_more gs s l) t m ≡ given_more gs (s ++ t) m
-given_more_twice [] s t l m = refl
-given_more_twice (g ∷ []) s t l m = ap (λ (b : List ℕ). record { bytes = b; last = m } ∷ []) (append_assoc g.bytes s t)
-given_more_twice (g ∷ h ∷ []) s t l m = ap (λ (b : List ℕ). g ∷ record { bytes = b; last = m } ∷ []) (append_assoc h.bytes s t)
-given_more_twice (g ∷ h ∷ i ∷ gs) s t l m = ap (λ (k : List Given). g ∷ k) (given_more_twice (h ∷ i ∷ gs) s t l m)
 
 -- the bytes taken so far, of a connection that goes on
 pub record Goes (first now : Aside) (calls0 calls : ℕ) (taken : ℕ) : Type 0 where
@@ -69,14 +49,6 @@ pub record Goes (first now : Aside) (calls0 calls : ℕ) (taken : ℕ) : Type 0 
 
 pub goes_none : (a : Aside) (calls : ℕ) → IsNew a → Goes a a calls calls 0
 goes_none a calls n = record { bytes = []; plan = refl; coming = refl; rest = consumes_none a.rest; given = n.fresh; opened = refl; closed = refl; is_open = n.is_open; refused = refl; taken_is = n.none; count = refl; planned = gives_none a.plan calls; open_faults = refl; read_faults = refl }
-
-given_then : (a b c : Option (List Given)) (s buf : List ℕ) (n : ℕ) → GivesMore a b s gave → GivesBytes b c (Ok n) buf → GivesMore a c (s ++ take n buf) (read_of n)
-given_then None b c s buf n p q = subst (λ (o : Option (List Given)). GivesBytes o c (Ok n) buf) p q
-given_then (Some gs) b c s buf n p q = subst (λ (o : Option (List Given)). GivesBytes o c (Ok n) buf) p q ∙ ap (λ (l : List Given). Some l) (given_more_twice gs s (take n buf) gave (read_of n))
-
-given_failed : (a b c : Option (List Given)) (s buf : List ℕ) (e : Failed) → GivesMore a b s gave → GivesBytes b c (Err e) buf → GivesMore a c (s ++ []) failed
-given_failed None b c s buf e p q = subst (λ (o : Option (List Given)). GivesBytes o c (Err e) buf) p q
-given_failed (Some gs) b c s buf e p q = subst (λ (o : Option (List Given)). GivesBytes o c (Err e) buf) p q ∙ ap (λ (l : List Given). Some l) (given_more_twice gs s [] gave failed)
 
 -- reads were made since, where that is kept, and each gave bytes
 abbrev pub GaveOn : Option (List LastRead) → Option (List LastRead) → Type 0
@@ -106,7 +78,7 @@ goes_more a0 a b calls0 c d n m buf g r p some within room size = record {
   plan = r.plan ∙ g.plan;
   coming = r.coming ∙ g.coming;
   rest = consumes_then a0.rest a.rest b.rest g.bytes (take m buf) g.rest r.rest.0;
-  given = subst (λ (l : LastRead). GivesMore a0.given b.given (g.bytes ++ take m buf) l) (read_some m some) (given_then a0.given a.given b.given g.bytes buf m g.given r.given);
+  given = subst (λ (l : LastRead). GivesMore a0.given b.given (g.bytes ++ take m buf) l) (read_some m some) (given_on a0.given a.given b.given g.bytes buf m g.given r.given);
   opened = r.opened ∙ g.opened;
   closed = r.closed ∙ g.closed;
   is_open = r.is_open ∙ g.is_open;
@@ -160,7 +132,7 @@ module _ (R : Type 0) (meaning : Meaning) (state : R → meaning.State) (gives :
           plan = r.plan ∙ g.plan;
           coming = r.coming ∙ g.coming;
           rest = subst (λ (l : List ℕ). Consumes a0.rest b.rest l) same (consumes_then a0.rest a.rest b.rest g.bytes (take 0 buf) g.rest r.rest.0);
-          given = subst (λ (l : List ℕ). GivesMore a0.given b.given l gave_none) same (given_then a0.given a.given b.given g.bytes buf 0 g.given r.given);
+          given = subst (λ (l : List ℕ). GivesMore a0.given b.given l gave_none) same (given_on a0.given a.given b.given g.bytes buf 0 g.given r.given);
           opened = r.opened ∙ g.opened;
           closed = r.closed ∙ g.closed;
           refused = r.refused ∙ g.refused;

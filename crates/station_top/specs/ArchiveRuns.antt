@@ -9,7 +9,7 @@ use Rattle.disk_doors.specs.Disk.{IsSound, Lasts, Passes}
 use Rattle.disk_doors.specs.Images.{IsImage, settled}
 use Rattle.feed_archive.specs.Appending.{Began, Refuses}
 use Rattle.feed_archive.specs.Archive.{HasContent, most_archive, most_record}
-use Rattle.feed_archive.specs.Creating.{Creates, CreateCause, CreatePlanned}
+use Rattle.feed_archive.specs.Creating.{Creates, CreateCalls, CreateCause, CreatePlanned}
 use Rattle.feed_archive.specs.Keeping.{HasFrontOf, Told}
 use Rattle.feed_archive.specs.Recovering.{FaultCause, Holds, HasOnly}
 use Rattle.feed_archive.specs.Scanning.{IsPlain}
@@ -101,10 +101,12 @@ abbrev pub RefusesPortWhereTold : List ℕ → Option YardValue → Option YardV
 RefusesPortWhereTold path None new number = new ≡ None
 RefusesPortWhereTold path (Some old) new number = RefusesPort path old new number
 
--- An archive was to be created on a disk, with this result: the disk's count of faults rose exactly where it failed, and it
--- failed only where its plan fails a call or it has no room for a byte.
+-- An archive was to be created on a disk, with this result: at most its byte 0 was written, once, and then synced, once. The
+-- disk's count of faults rose exactly where it failed, and it failed only where its plan fails a call or it has no room for
+-- a byte.
 pub record HasCreated (result : Result (Unit {0}) CreateFault) (lent made : DiskShown) : Type 0 where
   pub creates : Creates lent.value made.value result
+  pub calls : CreateCalls lent.value made.value result
   pub lasts : Lasts lent.value made.value
   pub planned : CreatePlanned lent.value result
   pub cause : CreateCause lent.faults made.faults result

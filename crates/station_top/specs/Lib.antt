@@ -5,13 +5,8 @@ pub mod Check
 pub mod Replay
 pub mod Status
 pub mod Written
-pub mod Words
 pub mod Station
-pub mod ServeWords
-pub mod ServeOptions
-pub mod DrillWords
 pub mod Drill
 pub mod Rov
 pub mod RecallRuns
 pub mod ArchiveRuns
-pub mod Explain

@@ -28,24 +28,24 @@ use Rattle.station_doors.specs.Files.{GivesFile}
 use Rattle.station_doors.specs.declared.files.FileFault.{FileFault}
 use Rattle.station_doors.specs.declared.files.FileFault.TheVariants as fault
 use Rattle.station_run.specs.declared.outcome.Outcome.{Outcome}
+use Rattle.station_words.specs.Explain.{help_text, version_line}
+use Rattle.station_words.specs.DrillWords.{MayDrill}
+use Rattle.station_words.specs.ServeWords.{MayServe}
+use Rattle.station_words.specs.Words.{IsArchiveCall, IsCall, IsRecallCall, IsRovCall, TakeMemory}
+use Rattle.station_words.specs.declared.drill_words.DrillWords.{DrillWords}
+use Rattle.station_words.specs.declared.serve_words.ServeWords.{ServeWords}
+use Rattle.station_words.specs.declared.words.Call.{Call}
+use Rattle.station_words.specs.declared.words.Command.{Command}
+use Rattle.station_words.specs.declared.words.Command.TheVariants.{Replay, Check, Serve, Drill, Relay, Rov, Archive, Recall, Help, Version}
 use Rattle.station_top.specs.ArchiveRuns.{ArchiveConcludes}
 use Rattle.station_top.specs.RecallRuns.{RecallConcludes}
 use Rattle.station_top.specs.Drill.{IsDrillText}
-use Rattle.station_top.specs.Explain.{help_text, version_line}
-use Rattle.station_top.specs.DrillWords.{MayDrill}
-use Rattle.station_top.specs.ServeWords.{MayServe}
 use Rattle.station_top.specs.Take.{BreaksOff, Comes}
 use Rattle.station_top.specs.Status.{status_of, status_served}
-use Rattle.station_top.specs.Words.{IsArchiveCall, IsCall, IsRecallCall, IsRovCall, TakeMemory}
 use Rattle.station_top.specs.Written.{IsWritten}
-use Rattle.station_top.specs.declared.drill_words.DrillWords.{DrillWords}
-use Rattle.station_top.specs.declared.serve_words.ServeWords.{ServeWords}
 use Rattle.station_top.specs.declared.status.Status.{Status}
 use Rattle.station_top.specs.declared.status.Status.TheVariants.{Done, Stopped, Usage, ReadFault, WriteFault, NoMemory, YardFault, Unwritable, BadFile, BadArchive, DiskFault, ArchiveFull}
 use Rattle.station_top.specs.declared.take.Taken.{Taken}
-use Rattle.station_top.specs.declared.words.Call.{Call}
-use Rattle.station_top.specs.declared.words.Command.{Command}
-use Rattle.station_top.specs.declared.words.Command.TheVariants.{Replay, Check, Serve, Drill, Relay, Rov, Archive, Recall, Help, Version}
 
 -- the bytes are the reply of a command on these entries
 abbrev pub IsReplyTo : Command → List EntryValue → List ℕ → Type 0

@@ -8,29 +8,25 @@ ghost use Rattle.wire_io.specs.Faults.{Rose};
 ghost use Rattle.station_doors.specs.Doors.{one_more};
 ghost use Rattle.query_eval.specs.Replies.{PutsReply};
 ghost use Rattle.station_run.specs.Serve.{AnswersFault as EndsFault, Comes};
+ghost use Rattle.station_words.specs.DrillWords.{MayDrill};
+ghost use Rattle.station_words.specs.ServeWords.{MayServe};
+ghost use Rattle.station_words.specs.Words.{IsCall, file_in};
+ghost use Rattle.station_words.specs.declared.words.Call.{Call as AnyCall};
 ghost use Rattle.station_top.specs.Status.{status_of, status_relayed, status_served};
-ghost use Rattle.station_top.specs.DrillWords.{MayDrill};
 ghost use Rattle.station_top.specs.RecallRuns.{RecallConcludes};
 ghost use Rattle.station_top.specs.Replay.{IsAsked, IsReplyOf};
-ghost use Rattle.station_top.specs.ServeWords.{MayServe};
-ghost use Rattle.station_top.specs.Words.{IsCall, file_in};
 ghost use Rattle.station_top.specs.Station.{Answers, CallConcludes, Concludes, RelayConcludes, DrillConcludes, FromYard, AnswersFault, IsStopped, IsServing, MayAsk, ServesNobody};
 ghost use Rattle.station_top.specs.Written.{IsWritten};
-ghost use Rattle.station_top.specs.declared.words.Call.{Call as AnyCall};
 
 use crate::Status;
 use crate::account::{Account, Replies};
 use crate::archive::run_archive_by;
 use crate::counts::Counts;
 use crate::drill::write_drill;
-use crate::drill_words::DrillWords;
-use crate::explain::{help, version};
 use crate::recall::run_recall_by;
 use crate::replay::{Replay, ReplayByOrigin};
 use crate::rov::run_rov;
-use crate::serve_words::ServeWords;
 use crate::take::{Taken, take_input};
-use crate::words::{Call, Command, WordsFault, file_word, read_words};
 use bmp_message::{BodyReading, LenientReading, Reading};
 use bmp_specs::Cause;
 use query_lang::Query;
@@ -38,6 +34,9 @@ use relay_out::{EmitFault, emit};
 use reply_text::put_stop;
 use station_doors::Yard;
 use station_run::{FromEnding, Outcome, drill, serve};
+use station_words::{
+    Call, Command, DrillWords, ServeWords, WordsFault, file_word, help, read_words, version,
+};
 use std::alloc::Global;
 use std::mem;
 use std::sync::Wait;
@@ -437,7 +436,7 @@ where
 /// nothing and take no memory.
 ///
 /// Other words are usage. The bodies of the messages are read by the RFCs alone, and with `--lenient`, which stands right
-/// behind `replay`, `check`, `relay`, `rov`, `archive` or `recall` or among the settings of `serve`, as routers send them
+/// after `replay`, `check`, `relay`, `rov`, `archive` or `recall` or among the settings of `serve`, as routers send them
 /// (`lenient` of `bmp_specs`).
 pub fn station<Y: Yard, O: Sink, R: Threads + Wait + Sync>(
     rt: &R,

@@ -1,9 +1,9 @@
 use Rattle.std.proofs.Common.{ℕ, List, refl, subst}
 use Rattle.bmp_specs.specs.LenientBody.{meaning_of}
+use Rattle.station_words.specs.declared.words.Command.TheVariants.{Recall}
 use Rattle.station_top.specs.ArchiveRuns.{ArchiveConcludes}
 use Rattle.station_top.specs.RecallRuns.{RecallConcludes}
 use Rattle.station_top.specs.Station.{IsReplyTo, RovConcludes}
-use Rattle.station_top.specs.declared.words.Command.TheVariants.{Recall}
 use Rattle.station_top.proofs.Concluding.{ends_write, ends_yard}
 use Rattle.station_top.proofs.top.run_call.Goals as goal
 

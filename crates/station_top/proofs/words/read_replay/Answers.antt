@@ -1,9 +1,0 @@
-use Rattle.std.proofs.Common.{◌≡◌, Err, ap}
-use Rattle.station_top.specs.declared.words.WordsFault.TheVariants.{Usage}
-use Rattle.station_top.proofs.Commands.{no_asking}
-use Rattle.station_top.proofs.words.read_replay.Goals as goal
-
-pub returns-in-Err-clause-usage : goal.returns-in-Err-clause-usage
-returns-in-Err-clause-usage c = λ usage query lenient is.
-    let fault : c.in-Err.fault ≡ Usage = cc usage in
-    no_asking _ _ _ c.split_lenient-lenient.ensures (c.in-Err.ensures.usage (ap Err fault)) query lenient is

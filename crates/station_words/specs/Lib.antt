@@ -1,0 +1,5 @@
+pub mod Words
+pub mod ServeWords
+pub mod ServeOptions
+pub mod DrillWords
+pub mod Explain
