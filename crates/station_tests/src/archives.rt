@@ -132,7 +132,7 @@ const ROWS: &[Row] = &[
         kept: &["00"],
         ..ARCHIVE
     },
-    // a read that fails at once, and behind the Initiation
+    // a read that fails at once, and after the Initiation
     Row {
         reads: &[0],
         status: 3,
@@ -389,8 +389,8 @@ fn each_call_of_a_disk_fails(rt: HostRuntime) -> Result<(), Fail> {
     Ok(())
 }
 
-// Puts the file in which a Peer Up was being kept behind an Initiation, where both were kept in these bytes: another byte
-// between the two, and so many bytes of what comes behind it.
+// Puts the file in which a Peer Up was being kept after an Initiation, where both were kept in these bytes: another byte
+// between the two, and so many bytes of what comes after it.
 fn put_torn(file: &mut ByteList, both: &[u8], gate: u8, count: usize) -> Option<()> {
     file.extend(both.get(..25)?).ok()?;
     file.extend(&[gate]).ok()?;

@@ -9,7 +9,7 @@ use std::test::Fail;
 use std::thread::Threads;
 use wire_io::ByteList;
 
-// Puts a message of 252 prefixes behind, from 10.0.0.0/24 or 10.1.0.0/24 on.
+// Appends a message of 252 prefixes, from 10.0.0.0/24 or 10.1.0.0/24 on.
 fn put_routes(alloc: Global, stream: &mut ByteList, second: u8) -> Option<()> {
     put(alloc, stream, FRONT_OF_252_ROUTES)?;
     for third in 0..252u8 {

@@ -115,6 +115,14 @@ const TWO_OCTETS: Around = Around {
     ..Around::NOTHING
 };
 
+// Two lanes with a connection of two messages each, and an asker to whom nobody comes.
+const TWO_ROUTERS: Around = Around {
+    ports: 2,
+    stream: &[INITIATION, PEER_UP],
+    links: 1,
+    ..Around::NOTHING
+};
+
 // Two lanes with a connection each, and two askers.
 const TWO_AND_TWO: Around = Around {
     ports: 2,
@@ -125,15 +133,17 @@ const TWO_AND_TWO: Around = Around {
 };
 
 const ROWS: &[Row] = &[
-    // two routers that stay for a moment, and nobody who asks
+    // two routers that stay for a moment, and nobody who asks: for one round, and for as many as come
+    Row {
+        words: "serve --feeds 2 --askers 1 --feed-port 1 --ask-port 3 --rounds 1",
+        around: TWO_ROUTERS,
+        written: "ready\ndone 8\n",
+        last: Some(8),
+        ..NONE
+    },
     Row {
         words: "serve --feeds=2 --askers=1 --feed-port=1 --ask-port=5 --rounds=forever",
-        around: Around {
-            ports: 2,
-            stream: &[INITIATION, PEER_UP],
-            links: 1,
-            ..Around::NOTHING
-        },
+        around: TWO_ROUTERS,
         written: "ready\ndone 8\n",
         last: Some(8),
         ..NONE
@@ -199,7 +209,7 @@ const ROWS: &[Row] = &[
         last: Some(6),
         ..NONE
     },
-    // a read that fails at once, inside a message, and behind it
+    // a read that fails at once, inside a message, and after it
     Row {
         words: "replay table",
         around: Around {
@@ -231,7 +241,7 @@ const ROWS: &[Row] = &[
         written: "at 2\nend 0\nstop readfault 20\n",
         ..NONE
     },
-    // no port; a write that fails; one that fails behind the last
+    // no port; a write that fails; one that fails after the last
     Row {
         words: "replay table",
         around: Around {

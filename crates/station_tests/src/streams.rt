@@ -196,7 +196,7 @@ pub(crate) fn bytes(alloc: Global, texts: &[&str]) -> Option<ByteList> {
     Some(bytes)
 }
 
-/// Puts the bytes behind.
+/// Appends the bytes.
 pub(crate) fn put(alloc: Global, bytes: &mut ByteList, text: &str) -> Option<()> {
     let piece = hex::decode(alloc, text).ok()?;
     bytes.extend(piece.as_slice()).ok()

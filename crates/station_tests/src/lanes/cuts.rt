@@ -118,7 +118,7 @@ fn every_cut_publishes_the_whole_messages(rt: HostRuntime) -> Result<(), Fail> {
     Ok(())
 }
 
-// Whether it is the end of a connection that the router ends behind a message, and else is cut short behind the last whole
+// Whether it is the end of a connection that the router ends after a message, and else is cut short after the last whole
 // one.
 fn has_ended(session: &Session, place: u64, seen: &Seen) -> bool {
     let whole = session.whole(place);

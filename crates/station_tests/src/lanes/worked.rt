@@ -1,4 +1,4 @@
-//! A worked session: its messages, and what the tables show behind each.
+//! A worked session: its messages, and what the tables show after each.
 
 use super::shown::{Shown, nothing};
 use crate::streams::{
@@ -31,7 +31,7 @@ const SESSION: [&str; MESSAGES] = [
     TERMINATION,
 ];
 
-// The bytes of the session, and the offset behind each message.
+// The bytes of the session, and the offset after each message.
 #[derive(Drop)]
 pub(crate) struct Session {
     pub(crate) bytes: ByteList,
@@ -48,7 +48,7 @@ pub(crate) fn worked_session(alloc: Global) -> Option<Session> {
     Some(Session { bytes, ends })
 }
 
-// What the session told, without its counts, behind so many of its messages.
+// What the session told, without its counts, after so many of its messages.
 fn told(messages: usize) -> Shown {
     let opened = nothing(LaneState::Live, 1);
     let texts = (4, 2);
@@ -99,7 +99,7 @@ impl Session {
         whole
     }
 
-    // The offset behind so many messages.
+    // The offset after so many messages.
     pub(crate) fn end(&self, messages: usize) -> u64 {
         match messages.checked_sub(1) {
             Some(place) => self.ends.get(place).copied().unwrap_or(0),
@@ -107,7 +107,7 @@ impl Session {
         }
     }
 
-    // What the tables show behind so many messages.
+    // What the tables show after so many messages.
     pub(crate) fn shown(&self, messages: usize) -> Shown {
         Shown {
             counts: Counts {

@@ -53,7 +53,7 @@ fn put_queries(events: &mut Vec<Event>) -> Option<()> {
     Some(())
 }
 
-// The events of the streams, and of the queries behind them.
+// The events of the streams, and of the queries after them.
 fn events(alloc: Global, streams: &[ByteList], piece: usize) -> Option<Vec<Event>> {
     let mut events = Vec::new(alloc);
     put_streams(alloc, &mut events, streams, piece)?;

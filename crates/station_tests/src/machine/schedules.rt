@@ -49,7 +49,7 @@ fn small_event(plan: Plan) -> Option<Event> {
     }
 }
 
-// Puts these events behind.
+// Appends these events.
 fn put(alloc: Global, events: &mut Vec<Event>, plans: &[Plan]) -> Option<()> {
     for plan in plans {
         events.push(event(alloc, *plan)?).ok()?;
@@ -57,7 +57,7 @@ fn put(alloc: Global, events: &mut Vec<Event>, plans: &[Plan]) -> Option<()> {
     Some(())
 }
 
-// What these events come to, one list behind the other, with so many lanes, one or two, and an asker.
+// What these events come to, one list after the other, with so many lanes, one or two, and an asker.
 fn ran(alloc: Global, lanes: u32, lists: &[&[Plan]]) -> Option<Ran> {
     let mut events = Vec::new(alloc);
     for plans in lists {
@@ -95,7 +95,7 @@ const IDLE: &[Plan] = &[
     Plan::Tell(0, 9),
 ];
 
-// Whether these events, one list behind the other, come to these replies and this revision.
+// Whether these events, one list after the other, come to these replies and this revision.
 fn come_to(
     alloc: Global,
     lanes: u32,
@@ -107,7 +107,7 @@ fn come_to(
     Some(ran.is(replies, last))
 }
 
-// What three lists of events come to with two lanes, one behind the other.
+// What three lists of events come to with two lanes, one after the other.
 fn ran_through(alloc: Global, before: &[Plan], plans: &[Plan], behind: &[Plan]) -> Option<Ran> {
     let mut events = Vec::new(alloc);
     put(alloc, &mut events, before)?;
@@ -156,7 +156,7 @@ const LATE: &[Plan] = &[
     Plan::Ask(0, "routers"),
 ];
 
-// Whether the worked schedule comes to the two cuts: alone, with what stands behind its end, and in pieces.
+// Whether the worked schedule comes to the two cuts: alone, with what stands after its end, and in pieces.
 fn is_worked(alloc: Global) -> bool {
     come_to(alloc, 2, &[WORKED], TWO_CUTS, 3) == Some(true)
         && come_to(alloc, 2, &[WORKED, WORKED, LATE], TWO_CUTS, 3) == Some(true)
@@ -216,7 +216,7 @@ const OF_LIVES: &[u8] = b"at 0\nlane 0 0\nend 1\n\
     at 3\nlane 0 3\nend 1\n\
     at 5\nrouter 0 closed readfault 0\nend 1\n";
 
-// What ends a connection behind an Initiation: the bytes that follow, whether a read failed then, and the state of the lane.
+// What ends a connection after an Initiation: the bytes that follow, whether a read failed then, and the state of the lane.
 #[derive(Clone, Copy)]
 struct Row {
     after: &'static str,
@@ -257,7 +257,7 @@ fn put_stream(alloc: Global, events: &mut Vec<Event>, after: &str) -> Option<()>
     events.push(take(alloc, 0, stream.as_slice())?).ok()
 }
 
-// Puts a connection of an Initiation and these bytes. Where it is over behind them, there is nothing left to end.
+// Puts a connection of an Initiation and these bytes. Where it is over after them, there is nothing left to end.
 fn put_row(alloc: Global, events: &mut Vec<Event>, row: &Row) -> Option<()> {
     let rest = [
         Plan::End(0, row.failed),

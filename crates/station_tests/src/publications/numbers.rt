@@ -29,7 +29,7 @@ impl Numbers {
         shared(alloc, Numbers { items })
     }
 
-    // The list with these behind.
+    // The list with these appended.
     pub fn with(&self, alloc: Global, more: &[u64]) -> Result<Arc<Numbers>, NoMemory>
         ensures { IfOk result (λ v. (arc_value v).items.items ≡ self.now.items.items ++ more.now) }
     {
@@ -39,7 +39,7 @@ impl Numbers {
     }
 }
 
-// The list behind a counter.
+// The list after a counter.
 fn shared(alloc: Global, numbers: Numbers) -> Result<Arc<Numbers>, NoMemory>
     ensures { IfOk result (λ v. arc_value v ≡ numbers) }
 {
@@ -148,7 +148,7 @@ pub fn put_askers<J: Naming>(
     put_ask::<J>(asks, second)
 }
 
-// Publishes these numbers behind those that the lane has published.
+// Publishes these numbers after those that the lane has published.
 pub fn tell<J: Naming, R: Wait>(
     rt: &R,
     alloc: Global,
