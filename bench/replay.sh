@@ -6,7 +6,8 @@
 # OTHER is a program that takes the same words and writes the same bytes, as bench/plain/target/release/plain does
 # (bench/plain/README.md). The stream is that of one peer with so many IPv4 prefixes (1,000,000), and a fifth as many
 # of IPv6 (`bench/table`). It comes with its UPDATEs in prefix order, and shuffled. The two run in turn on one
-# stream, ROUNDS times (5), from a file in the cache, with their output to /dev/null. Prints for each command the
+# stream, from a file in the cache, with their output to /dev/null. A round has each command once, and there are ROUNDS
+# (5), so that a busy minute of the host doesn't fall on one command alone. Prints for each command the
 # least processor times and the peak memories, and their ratios: below 1 ours is the better. The prefix, the
 # address and the origin that are asked for stand in the stream, in the middle of its IPv4 prefixes. The bytes
 # of the two are compared for each command, and for more of them that aren't measured. At the end come the
@@ -30,13 +31,22 @@ same() {
     cmp "$work/ours.said" "$work/other.said"
 }
 
-compare() {
+# The name under which the runs of these words are kept.
+kept() {
     local name="$order $*"
-    name=${name//[ \/]/.}
-    for _ in $(seq "$rounds"); do
-        run "$name.ours" "$@"
-        spend "$name.other" "$other" "$@"
-    done
+    echo "${name//[ \/]/.}"
+}
+
+measure() {
+    local name
+    name=$(kept "$@")
+    run "$name.ours" "$@"
+    spend "$name.other" "$other" "$@"
+}
+
+compare() {
+    local name
+    name=$(kept "$@")
     same "$@"
     awk -v w="$*" -v a="$(least "$name.ours")" -v b="$(least "$name.other")" -v m="$(peak "$name.ours")" -v n="$(peak "$name.other")" \
         'BEGIN { printf "%s: %d ms against %d, ratio %.2f; %d KiB against %d, ratio %.2f\n", w, a, b, a / b, m, n, m / n }'
@@ -58,16 +68,18 @@ for order in sorted shuffled; do
     origin=${path##*[=_]}
     echo "$order: stream of $(stat -c %s "$input") bytes"
 
-    compare check
-    compare replay count
-    compare replay table
-    compare replay cut
-    compare replay peers
-    compare replay routers
-    compare replay match "${prefix%/*}"
-    compare replay prefix "$prefix"
-    compare replay within "${prefix%%.*}.0.0.0/8"
-    compare replay origin "$origin"
+    commands=("check" "replay count" "replay table" "replay cut" "replay peers" "replay routers"
+        "replay match ${prefix%/*}" "replay prefix $prefix" "replay within ${prefix%%.*}.0.0.0/8" "replay origin $origin")
+    for _ in $(seq "$rounds"); do
+        for command in "${commands[@]}"; do
+            read -ra words <<<"$command"
+            measure "${words[@]}"
+        done
+    done
+    for command in "${commands[@]}"; do
+        read -ra words <<<"$command"
+        compare "${words[@]}"
+    done
 
     same replay marks
     same replay stats "$peer"
