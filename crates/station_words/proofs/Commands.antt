@@ -1,9 +1,9 @@
--- Which words are a query behind `replay`, a file and a prefix behind `rov`, a file behind `archive` or a file and a query behind
+-- Which words are a query after `replay`, a file and a prefix after `rov`, a file after `archive` or a file and a query after
 -- `recall`, and which are no command.
 use Rattle.std.proofs.Common.{◌≡◌, ◌≢◌, ℕ, ◌+◌, ◌-◌, ◌<◌, ◌≤◌, Bool, true, false, List, [], ◌∷◌, length, map, get_or, take, drop, codes, Option, Some, None, IfSome, IfNone, Result, Ok, Err, IfOk, refl, sym, ap, ◌∙◌, subst, arith, inl, inr}
-use Rattle.std.specs.Prelude.{IsTrue, ◌⊎◌}
+use Rattle.std.specs.Prelude.{◌⊎◌}
 use Rattle.std.specs.List.{join_with_byte}
-use Rattle.std.proofs.lemmas.List.{take_rest}
+use Rattle.std.proofs.lemmas.List.{length-map, take_rest}
 use Rattle.bmp_specs.specs.PrefixText.{IsPrefixText}
 use Rattle.bmp_specs.specs.Query.{QueryValue, quit, space, IsQuery}
 use Rattle.bmp_specs.specs.Values.{PrefixValue}
@@ -115,6 +115,12 @@ one_file text b given [] plain one = absurd (omega (arith, one))
 one_file text b given (x ∷ []) plain one = (text x, plain)
 one_file text b given (x ∷ y ∷ more) plain one = absurd (omega (arith, one))
 
+-- the words are more than a file, or none
+pub no_one_file : {X : Type 0} (text : X → List ℕ) (b : Bool) (given : List (List ℕ)) (words : List X) → IsPlain b given (map text words) → length words ≢ 1 → (d : Bool) → IsArchive d given → ⊥
+no_one_file text b given words plain many d (file, is) =
+    let same : map text words ≡ file ∷ [] = (same_plain b d given (map text words) (file ∷ []) plain is).0 in
+    many (omega (arith, ap length same, length-map words text))
+
 -- The file of a call of `archive`, and that it stands at its place among the words.
 pub archive_call : (lenient : Bool) (words : List (List ℕ)) → IsCall (record { command = Archive; lenient = lenient }) words → (file : List ℕ) × IsArchiveCall file lenient words × (file_in lenient words ≡ file)
 archive_call lenient words is =
@@ -127,7 +133,7 @@ archive_call lenient words is =
     found true path given is = ap (λ (l : List (List ℕ)). get_or l 1 []) is
     found false path given is = ap (λ (l : List (List ℕ)). get_or l 0 []) (sym is.0)
 
--- the words begin with a file, and those behind it are a query, or none
+-- the words begin with a file, and those after it are a query, or none
 pub a_file : {X : Type 0} (text : X → List ℕ) (words : List X) → 0 < length words → (file : List ℕ) × (map text words ≡ file ∷ map text (take (length words - 1) (drop 1 words)))
 a_file text [] some = absurd (omega (arith, some))
 a_file text (word ∷ words) some =
@@ -194,9 +200,6 @@ has_mark Archive lenient first given is = marked first (codes "archive") 196 is.
 has_mark (Recall query) lenient first given is = marked first (codes "recall") 213 is.0 refl
 has_mark Help lenient first given is = help_mark first is.0
 has_mark Version lenient first given is = version_mark first is.0
-
-pub untrue : (b : Bool) → b ≡ false → IsTrue b → ⊥
-untrue b is t = cc (t, is)
 
 module _ (first : List ℕ) (given : List (List ℕ)) where
   pub no_replay : first ≡ codes "replay" → ((query : QueryValue) (lenient : Bool) → IsReplay query lenient given → ⊥) → (command : Command) (lenient : Bool) → IsCommand command lenient first given → ⊥
@@ -319,20 +322,30 @@ module _ (first : List ℕ) (given : List (List ℕ)) where
       go Help is one two = absurd (omega (arith, one, two))
       go Version is one two = absurd (omega (arith, one, two))
 
+  -- `--help` and `--version` stand alone
+  no_lone : mark_of first ≤ 163 → given ≢ [] → (command : Command) (lenient : Bool) → IsCommand command lenient first given → ⊥
+  no_lone low some command lenient is = go command is (has_mark command lenient first given is)
+    where
+      go : (command : Command) → IsCommand command lenient first given → HasMark command (mark_of first) → ⊥
+      go Help is two = some is.1
+      go Version is two = some is.1
+      go (Replay query) is two = absurd (omega (arith, low, two))
+      go Check is two = absurd (omega (arith, low, two))
+      go (Serve serve) is two = absurd (omega (arith, low, two))
+      go (Drill drill) is two = absurd (omega (arith, low, two))
+      go Relay is two = absurd (omega (arith, low, two))
+      go (Rov prefix) is two = absurd (omega (arith, low, two))
+      go Archive is two = absurd (omega (arith, low, two))
+      go (Recall query) is two = absurd (omega (arith, low, two))
+
+  pub no_help : (first ≡ codes "--help") ⊎ (first ≡ codes "-h") → given ≢ [] → (command : Command) (lenient : Bool) → IsCommand command lenient first given → ⊥
+  no_help named = no_lone (help_mark first named)
+
+  pub no_version : (first ≡ codes "--version") ⊎ (first ≡ codes "-V") → given ≢ [] → (command : Command) (lenient : Bool) → IsCommand command lenient first given → ⊥
+  no_version named = no_lone (version_mark first named)
+
   -- no other command is left
   module _ (replay : first ≢ codes "replay") (serve : first ≢ codes "serve") (check : first ≢ codes "check") (drill : first ≢ codes "drill") (relay : first ≢ codes "relay") (rov : first ≢ codes "rov") (archive : first ≢ codes "archive") (recall : first ≢ codes "recall") where
-    pub no_more : given ≢ [] → (command : Command) (lenient : Bool) → IsCommand command lenient first given → ⊥
-    no_more some (Replay query) lenient is = replay is.0
-    no_more some Check lenient is = check is.0
-    no_more some (Serve words) lenient is = serve is.0
-    no_more some (Drill words) lenient is = drill is.0
-    no_more some Relay lenient is = relay is.0
-    no_more some (Rov prefix) lenient is = rov is.0
-    no_more some Archive lenient is = archive is.0
-    no_more some (Recall query) lenient is = recall is.0
-    no_more some Help lenient is = some is.1
-    no_more some Version lenient is = some is.1
-
     pub no_other : ((first ≡ codes "--help") ⊎ (first ≡ codes "-h") → ⊥) → ((first ≡ codes "--version") ⊎ (first ≡ codes "-V") → ⊥) → (command : Command) (lenient : Bool) → IsCommand command lenient first given → ⊥
     no_other help version (Replay query) lenient is = replay is.0
     no_other help version Check lenient is = check is.0

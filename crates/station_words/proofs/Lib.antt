@@ -6,3 +6,4 @@ pub mod OptionMatches
 pub mod OptionTaken
 pub mod OptionServe
 pub mod ThreeNumbers
+pub mod Readings

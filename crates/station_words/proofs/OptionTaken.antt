@@ -79,7 +79,7 @@ first_letter name (inr (inr (inr (inr (inr (inr (inr (inr (inr none))))))))) = e
 pub not_flag : IsAmongNames flag_name option_names → ⊥
 not_flag among = first_letter flag_name among refl
 
--- an option is one of the command's names behind `--`
+-- an option is one of the command's names after `--`
 abbrev Named : Text → Type 0
 Named option = (name : Text) × (option ≡ dashed name) × IsAmongNames name option_names
 

@@ -393,7 +393,7 @@ step_value ns n word value rest rows pending dashes long found among passes read
     let ss = r.1.0 in
     (both.0, ((n.0, value) ∷ ss, (rest, none, inl (among, inr (ap (λ (l : Text). l ∷ rest) (long_spelled word n.0 (Some value) long))), subst (λ (w : Walk). Uses ns ss rest (current ++ row n.0 value ∷ []) (settled (rules ns) (walk_end ns w rest)).rows) (sym next) r.1.1)))
 
--- the word behind an option that waits is its value
+-- the word after an option that waits is its value
 waits_for : (ns : List (List ℕ × Bool)) (n : List ℕ × Bool) (word : Text) (rows : List Row) → is_dashes word ≡ false → IsAmongNames n.0 ns → turn_fault (shape ns) [] (at (hold rows (Some (n.0, []))) (option n.0)) word ≡ [] →
     walked (rules ns) [] (at (hold rows (Some (n.0, []))) (option n.0)) word ≡ at (hold rows (Some (n.0, word ∷ []))) idle
 waits_for ns n word rows dashes among passes = go (long_of word) refl (short_of word) refl
@@ -469,7 +469,7 @@ opens ns word rest rows pending dashes passes = go (long_of word) refl (short_of
     go None long None short = absurd (cc (sym (idle_plain ns word rows pending dashes long short) ∙ turn))
     go None long (Some flags) short = absurd (cc (sym (idle_short ns word flags rows pending dashes long short) ∙ turn))
 
--- an option with no word behind it has no value
+-- an option with no word after it has no value
 last_waits : (ns : List (List ℕ × Bool)) (n : List ℕ × Bool) (word : Text) (rows : List Row) (pending : Option (Text × List Text)) → is_dashes word ≡ false → long_of word ≡ Some (n.0, None) → arg_by_long (rules ns) n.0 ≡ Some (ready n) → IsAmongNames n.0 ns
     → Passes ns (at (hold rows pending) idle) (word ∷ []) → ⊥
 last_waits ns n word rows pending dashes long found among passes =

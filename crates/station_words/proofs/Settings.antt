@@ -53,7 +53,7 @@ third_letter name (inr (inr (inr (inr (inr (inr (inr (inr (e))))))))) = λ is. l
 pub no_flag : (name : List ℕ) → IsOption name → name ≢ flag
 no_flag name o is = third_letter name o (ap (λ (l : List ℕ). get_or l 2 0) is)
 
--- in `name=value` the first one is behind the name
+-- in `name=value` the first one is after the name
 found_behind : (name value : List ℕ) → IsOption name → position (λ b. b == 61) (name ++ 61 ∷ value) ≡ Some (length name)
 found_behind name value is =
     let whole = name ++ 61 ∷ value in

@@ -3,3 +3,4 @@ pub mod ServeWords
 pub mod ServeOptions
 pub mod DrillWords
 pub mod Explain
+pub mod Reading

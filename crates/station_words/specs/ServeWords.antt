@@ -25,7 +25,7 @@ flag = codes "--lenient"
 abbrev pub equals_sign : ℕ
 equals_sign = 61
 
--- The setting stands in front of the words, and the others behind it.
+-- The setting stands in front of the words, and the others after it.
 pub data IsInFront (setting : Setting) (words others : List (List ℕ)) : Type 0 where
   -- `--lenient`
   flag_alone : setting ≡ (flag, []) → words ≡ flag ∷ others → IsInFront setting words others

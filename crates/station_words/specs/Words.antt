@@ -21,7 +21,7 @@ abbrev pub IsPlain : Bool → List (List ℕ) → List (List ℕ) → Type 0
 IsPlain true given plain = given ≡ codes "--lenient" ∷ plain
 IsPlain false given plain = (plain ≡ given) × ((more : List (List ℕ)) → given ≢ codes "--lenient" ∷ more)
 
--- The words behind `replay`, joined by single spaces, are the query. Only the bytes that are joined count: a word may
+-- The words after `replay`, joined by single spaces, are the query. Only the bytes that are joined count: a word may
 -- itself hold spaces, or be empty.
 abbrev pub IsReplay : QueryValue → Bool → List (List ℕ) → Type 0
 IsReplay query lenient given = (asked : List (List ℕ)) × IsPlain lenient given asked × IsAsking (join_with_byte space asked) query
@@ -38,8 +38,8 @@ pub record AsksOf (file : List ℕ) (query : QueryValue) (words : List (List ℕ
   pub spelled : words ≡ file ∷ asked
   pub is_asking : IsAsking (join_with_byte space asked) query
 
--- The words behind `rov` are this file and the prefix. Any word is a file by its place: an empty one too, or `--lenient`
--- behind `--lenient`.
+-- The words after `rov` are this file and the prefix. Any word is a file by its place: an empty one too, or `--lenient`
+-- after `--lenient`.
 abbrev pub IsRovOf : List ℕ → PrefixValue → Bool → List (List ℕ) → Type 0
 IsRovOf file prefix lenient given = (asked : List (List ℕ)) × IsPlain lenient given asked × NamesFile file prefix asked
 
@@ -47,7 +47,7 @@ IsRovOf file prefix lenient given = (asked : List (List ℕ)) × IsPlain lenient
 abbrev pub IsRov : PrefixValue → Bool → List (List ℕ) → Type 0
 IsRov prefix lenient given = (file : List ℕ) × IsRovOf file prefix lenient given
 
--- The one word behind `archive` is this file. Any word is a file by its place.
+-- The one word after `archive` is this file. Any word is a file by its place.
 abbrev pub IsArchiveOf : List ℕ → Bool → List (List ℕ) → Type 0
 IsArchiveOf file lenient given = IsPlain lenient given (file ∷ [])
 
@@ -55,7 +55,7 @@ IsArchiveOf file lenient given = IsPlain lenient given (file ∷ [])
 abbrev pub IsArchive : Bool → List (List ℕ) → Type 0
 IsArchive lenient given = (file : List ℕ) × IsArchiveOf file lenient given
 
--- The words behind `recall` are this file, and then the query, as behind `replay`. Any word is a file by its place.
+-- The words after `recall` are this file, and then the query, as after `replay`. Any word is a file by its place.
 abbrev pub IsRecallOf : List ℕ → QueryValue → Bool → List (List ℕ) → Type 0
 IsRecallOf file query lenient given = (asked : List (List ℕ)) × IsPlain lenient given asked × AsksOf file query asked
 
@@ -63,7 +63,7 @@ IsRecallOf file query lenient given = (asked : List (List ℕ)) × IsPlain lenie
 abbrev pub IsRecall : QueryValue → Bool → List (List ℕ) → Type 0
 IsRecall query lenient given = (file : List ℕ) × IsRecallOf file query lenient given
 
--- The first of the words and those behind it are this command, which is lenient or isn't: `--lenient` stands right behind
+-- The first of the words and those after it are this command, which is lenient or isn't: `--lenient` stands right after
 -- `replay`, `check`, `relay`, `rov`, `archive` or `recall`, or anywhere among the settings of `serve`.
 abbrev pub IsCommand : Command → Bool → List ℕ → List (List ℕ) → Type 0
 IsCommand (Replay query) lenient first given = (first ≡ codes "replay") × IsReplay (query_value query) lenient given
@@ -102,12 +102,12 @@ pub record IsRecallCall (file : List ℕ) (query : QueryValue) (lenient : Bool) 
   pub spelled : words ≡ codes "recall" ∷ given
   pub is_recall : IsRecallOf file query lenient given
 
--- the word behind the first, or behind `--lenient`, where the file of a call stands
+-- the word after the first, or after `--lenient`, where the file of a call stands
 abbrev pub file_in : Bool → List (List ℕ) → List ℕ
 file_in true words = get_or words 2 []
 file_in false words = get_or words 1 []
 
--- to read the words behind this one takes memory
+-- to read the words after this one takes memory
 abbrev pub TakesMemory : List ℕ → Type 0
 TakesMemory first = (first ≡ codes "replay") ⊎ (first ≡ codes "serve") ⊎ (first ≡ codes "recall")
 

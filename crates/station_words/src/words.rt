@@ -1,13 +1,13 @@
-ghost use Rattle.std.specs.Prelude.{◌≡◌, ◌≢◌, ◌↔◌, ◌⊎◌, ℕ, List, [], Bool, IsTrue, IfSome, IfNone, IfOk, Err, false, map, get_or, codes};
+ghost use Rattle.std.specs.Prelude.{◌≡◌, ◌≢◌, ◌↔◌, ℕ, List, [], IsTrue, IfSome, IfNone, IfOk, Err, false, map, get_or, codes};
 ghost use Rattle.std.specs.List.{join_with_byte};
 ghost use Rattle.std.specs.String.{string_bytes};
 ghost use Rattle.bmp_specs.specs.PrefixText.{IsPrefixText};
 ghost use Rattle.bmp_specs.specs.Query.{QueryValue, quit, space};
 ghost use Rattle.bmp_specs.specs.Values.{PrefixValue};
 ghost use Rattle.query_lang.specs.Queries.{query_value};
-ghost use Rattle.station_words.specs.Words.{AsksOf, IsArchive, IsAsking, IsCall, IsCommand, IsPlain, IsRecall, IsReplay, IsRov, NamesFile, TakeMemory, TakesMemory, file_in};
+ghost use Rattle.station_words.specs.Reading.{IsLoneReading, IsPlainReading, IsReading};
+ghost use Rattle.station_words.specs.Words.{AsksOf, IsAsking, IsCall, IsPlain, NamesFile, TakeMemory, file_in};
 ghost use Rattle.station_words.specs.declared.words.Call.{Call as AnyCall};
-ghost use Rattle.station_words.specs.declared.words.Command.{Command as AnyCommand};
 
 use crate::drill_words::{DrillWords, read_drill};
 use crate::serve_words::{ServeWords, read_serve};
@@ -116,18 +116,6 @@ fn read_asked(alloc: Global, words: &[String]) -> Result<Query, WordsFault>
     }
 }
 
-fn is_help(word: &str) -> bool
-    ensures { IsTrue result ↔ ((word.now ≡ codes "--help") ⊎ (word.now ≡ codes "-h")) }
-{
-    is_word(word, "--help") || is_word(word, "-h")
-}
-
-fn is_version(word: &str) -> bool
-    ensures { IsTrue result ↔ ((word.now ≡ codes "--version") ⊎ (word.now ≡ codes "-V")) }
-{
-    is_word(word, "--version") || is_word(word, "-V")
-}
-
 // Whether `--lenient` stands in front of the words, and the words without it.
 fn split_lenient(given: &[String]) -> (bool, &[String])
     ensures { IsPlain result.0 (map string_bytes given.now) (map string_bytes result.1.now) }
@@ -138,28 +126,43 @@ fn split_lenient(given: &[String]) -> (bool, &[String])
     }
 }
 
-// What the words after `replay` ask for.
-fn read_replay(alloc: Global, given: &[String]) -> Result<(Query, bool), WordsFault>
-    ensures ok { IfOk result (λ read. IsReplay (query_value read.0) read.1 (map string_bytes given.now)) }
-    ensures usage { result ≡ Err WordsFault.Usage → (query : QueryValue) (lenient : Bool) → IsReplay query lenient (map string_bytes given.now) → ⊥ }
+// The call of `replay` and these words.
+fn read_replay(alloc: Global, given: &[String]) -> Result<Call, WordsFault>
+    ensures { IsReading (codes "replay") (map string_bytes given.now) result }
 {
     let (lenient, asked) = split_lenient(given);
     match read_asked(alloc, asked) {
-        Ok(query) => Ok((query, lenient)),
+        Ok(query) => Ok(Call {
+            command: Command::Replay(query),
+            lenient,
+        }),
         Err(fault) => Err(fault),
     }
 }
 
-// Whether the words after `check` or `relay` are none, or `--lenient` alone, and then whether it is there.
-fn read_plain(given: &[String]) -> Option<bool>
-    ensures some { IfSome result (λ lenient. IsPlain lenient (map string_bytes given.now) []) }
-    ensures none { IfNone result ((lenient : Bool) → IsPlain lenient (map string_bytes given.now) [] → ⊥) }
+// The call of this command, which is `check` or `relay`, and these words: none, or `--lenient` alone.
+fn read_plain(command: Command, given: &[String]) -> Result<Call, WordsFault>
+    ensures { IsPlainReading command (map string_bytes given.now) result }
 {
     let (lenient, plain) = split_lenient(given);
     if plain.is_empty() {
-        Some(lenient)
+        Ok(Call { command, lenient })
     } else {
-        None
+        Err(WordsFault::Usage)
+    }
+}
+
+// The call of this command, which is `--help` or `--version`, and no words.
+fn read_lone(command: Command, given: &[String]) -> Result<Call, WordsFault>
+    ensures { IsLoneReading command (map string_bytes given.now) result }
+{
+    if given.is_empty() {
+        Ok(Call {
+            command,
+            lenient: false,
+        })
+    } else {
+        Err(WordsFault::Usage)
     }
 }
 
@@ -182,28 +185,32 @@ fn read_judged(words: &[String]) -> Option<Prefix>
     }
 }
 
-// What the words after `rov` ask for, but for the file.
-fn read_rov(given: &[String]) -> Option<(Prefix, bool)>
-    ensures some { IfSome result (λ read. IsRov read.0 read.1 (map string_bytes given.now)) }
-    ensures none { IfNone result ((prefix : PrefixValue) (lenient : Bool) → IsRov prefix lenient (map string_bytes given.now) → ⊥) }
+// The call of `rov` and these words.
+fn read_rov(given: &[String]) -> Result<Call, WordsFault>
+    ensures { IsReading (codes "rov") (map string_bytes given.now) result }
 {
     let (lenient, asked) = split_lenient(given);
     match read_judged(asked) {
-        Some(prefix) => Some((prefix, lenient)),
-        None => None,
+        Some(prefix) => Ok(Call {
+            command: Command::Rov(prefix),
+            lenient,
+        }),
+        None => Err(WordsFault::Usage),
     }
 }
 
-// Whether the words after `archive` are a file alone, or `--lenient` and a file, and then whether it is there.
-fn read_archive(given: &[String]) -> Option<bool>
-    ensures some { IfSome result (λ lenient. IsArchive lenient (map string_bytes given.now)) }
-    ensures none { IfNone result ((lenient : Bool) → IsArchive lenient (map string_bytes given.now) → ⊥) }
+// The call of `archive` and these words: a file alone, or `--lenient` and a file.
+fn read_archive(given: &[String]) -> Result<Call, WordsFault>
+    ensures { IsReading (codes "archive") (map string_bytes given.now) result }
 {
     let (lenient, asked) = split_lenient(given);
     if asked.len() == 1 {
-        Some(lenient)
+        Ok(Call {
+            command: Command::Archive,
+            lenient,
+        })
     } else {
-        None
+        Err(WordsFault::Usage)
     }
 }
 
@@ -218,112 +225,63 @@ fn read_kept(alloc: Global, words: &[String]) -> Result<Query, WordsFault>
     }
 }
 
-// What the words after `recall` ask for, but for the file.
-fn read_recall(alloc: Global, given: &[String]) -> Result<(Query, bool), WordsFault>
-    ensures ok { IfOk result (λ read. IsRecall (query_value read.0) read.1 (map string_bytes given.now)) }
-    ensures usage { result ≡ Err WordsFault.Usage → (query : QueryValue) (lenient : Bool) → IsRecall query lenient (map string_bytes given.now) → ⊥ }
+// The call of `recall` and these words.
+fn read_recall(alloc: Global, given: &[String]) -> Result<Call, WordsFault>
+    ensures { IsReading (codes "recall") (map string_bytes given.now) result }
 {
     let (lenient, asked) = split_lenient(given);
     match read_kept(alloc, asked) {
-        Ok(query) => Ok((query, lenient)),
+        Ok(query) => Ok(Call {
+            command: Command::Recall(query),
+            lenient,
+        }),
         Err(fault) => Err(fault),
+    }
+}
+
+// The call of `serve` and these words.
+fn read_served(alloc: Global, given: &[String]) -> Result<Call, WordsFault>
+    ensures { IsReading (codes "serve") (map string_bytes given.now) result }
+{
+    match read_serve(alloc, given) {
+        Ok((serve, lenient)) => Ok(Call {
+            command: Command::Serve(serve),
+            lenient,
+        }),
+        Err(fault) => Err(fault),
+    }
+}
+
+// The call of `drill` and these words.
+fn read_drilled(given: &[String]) -> Result<Call, WordsFault>
+    ensures { IsReading (codes "drill") (map string_bytes given.now) result }
+{
+    match read_drill(given) {
+        Some(drill) => Ok(Call {
+            command: Command::Drill(drill),
+            lenient: false,
+        }),
+        None => Err(WordsFault::Usage),
     }
 }
 
 // The call that a word and those after it are.
 fn read_call(alloc: Global, first: &str, given: &[String]) -> Result<Call, WordsFault>
-    ensures ok { IfOk result (λ call. IsCommand call.command call.lenient first.now (map string_bytes given.now)) }
-    ensures usage { result ≡ Err WordsFault.Usage → (command : AnyCommand) (lenient : Bool) → IsCommand command lenient first.now (map string_bytes given.now) → ⊥ }
-    ensures memory { result ≡ Err WordsFault.NoMemory → TakesMemory first.now }
+    ensures { IsReading first.now (map string_bytes given.now) result }
 {
-    if is_word(first, "replay") {
-        return match read_replay(alloc, given) {
-            Ok((query, lenient)) => Ok(Call {
-                command: Command::Replay(query),
-                lenient,
-            }),
-            Err(fault) => Err(fault),
-        };
+    match first {
+        "replay" => read_replay(alloc, given),
+        "check" => read_plain(Command::Check, given),
+        "serve" => read_served(alloc, given),
+        "drill" => read_drilled(given),
+        "relay" => read_plain(Command::Relay, given),
+        "rov" => read_rov(given),
+        "archive" => read_archive(given),
+        "recall" => read_recall(alloc, given),
+        "--help" | "-h" => read_lone(Command::Help, given),
+        "--version" | "-V" => read_lone(Command::Version, given),
+        _ => Err(WordsFault::Usage),
     }
-    if is_word(first, "serve") {
-        return match read_serve(alloc, given) {
-            Ok((serve, lenient)) => Ok(Call {
-                command: Command::Serve(serve),
-                lenient,
-            }),
-            Err(fault) => Err(fault),
-        };
-    }
-    if is_word(first, "check") {
-        return match read_plain(given) {
-            Some(lenient) => Ok(Call {
-                command: Command::Check,
-                lenient,
-            }),
-            None => Err(WordsFault::Usage),
-        };
-    }
-    if is_word(first, "relay") {
-        return match read_plain(given) {
-            Some(lenient) => Ok(Call {
-                command: Command::Relay,
-                lenient,
-            }),
-            None => Err(WordsFault::Usage),
-        };
-    }
-    if is_word(first, "rov") {
-        return match read_rov(given) {
-            Some((prefix, lenient)) => Ok(Call {
-                command: Command::Rov(prefix),
-                lenient,
-            }),
-            None => Err(WordsFault::Usage),
-        };
-    }
-    if is_word(first, "archive") {
-        return match read_archive(given) {
-            Some(lenient) => Ok(Call {
-                command: Command::Archive,
-                lenient,
-            }),
-            None => Err(WordsFault::Usage),
-        };
-    }
-    if is_word(first, "recall") {
-        return match read_recall(alloc, given) {
-            Ok((query, lenient)) => Ok(Call {
-                command: Command::Recall(query),
-                lenient,
-            }),
-            Err(fault) => Err(fault),
-        };
-    }
-    if is_word(first, "drill") {
-        return match read_drill(given) {
-            Some(drill) => Ok(Call {
-                command: Command::Drill(drill),
-                lenient: false,
-            }),
-            None => Err(WordsFault::Usage),
-        };
-    }
-    if !given.is_empty() {
-        return Err(WordsFault::Usage);
-    }
-    if is_help(first) {
-        return Ok(Call {
-            command: Command::Help,
-            lenient: false,
-        });
-    }
-    if is_version(first) {
-        return Ok(Call {
-            command: Command::Version,
-            lenient: false,
-        });
-    }
-    Err(WordsFault::Usage)
 }
 
 /// What the words of a call ask for, which don't hold the program's name. `Usage` exactly where they are no command;

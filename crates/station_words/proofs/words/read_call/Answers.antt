@@ -1,46 +1,42 @@
-use Rattle.std.proofs.Common.{◌≡◌, Err, map, ap}
+use Rattle.std.proofs.Common.{codes, map}
 use Rattle.std.specs.String.{string_bytes}
-use Rattle.station_words.specs.declared.words.WordsFault.TheVariants.{Usage}
-use Rattle.station_words.proofs.Commands.{no_archive, no_check, no_drill, no_other, no_relay, no_recall, no_replay, no_rov, no_serve, untrue}
+use Rattle.station_words.proofs.Commands.{no_other}
+use Rattle.station_words.proofs.Readings.{neither, reads_at, reads_check, reads_help, reads_none, reads_relay, reads_version}
 use Rattle.station_words.proofs.words.read_call.Goals as goal
 
-pub returns-in-Err-clause-usage : goal.returns-in-Err-clause-usage
-returns-in-Err-clause-usage c = λ usage command lenient is.
-    let fault : c.in-Err.fault ≡ Usage = cc usage in
-    no_replay c.args.first.now (map string_bytes c.args.given.now) (c.is_word.ensures.0 c.if-is_word.true) (c.in-Err.ensures.usage (ap Err fault)) command lenient is
+pub returns-in-replay : goal.returns-in-replay
+returns-in-replay c = reads_at c.args.first.now (codes "replay") (map string_bytes c.args.given.now) c.read_replay.result c.in-replay.is c.read_replay.ensures
 
-pub returns-in-Err-read_serve-clause-usage : goal.returns-in-Err-read_serve-clause-usage
-returns-in-Err-read_serve-clause-usage c = λ usage command lenient is.
-    let fault : c.in-Err-read_serve.fault ≡ Usage = cc usage in
-    no_serve c.args.first.now (map string_bytes c.args.given.now) (c.is_word-2.ensures.0 c.if-is_word-2.true) (c.in-Err-read_serve.ensures.usage (ap Err fault)) command lenient is
+pub returns-in-serve : goal.returns-in-serve
+returns-in-serve c = reads_at c.args.first.now (codes "serve") (map string_bytes c.args.given.now) c.read_served.result c.in-serve.is c.read_served.ensures
 
-pub returns-in-None-read_drill-clause-usage : goal.returns-in-None-read_drill-clause-usage
-returns-in-None-read_drill-clause-usage c = λ usage command lenient is.
-    no_drill c.args.first.now (map string_bytes c.args.given.now) (c.is_word-8.ensures.0 c.if-is_word-8.true) c.in-None-read_drill.ensures.none command lenient is
+pub returns-in-drill : goal.returns-in-drill
+returns-in-drill c = reads_at c.args.first.now (codes "drill") (map string_bytes c.args.given.now) c.read_drilled.result c.in-drill.is c.read_drilled.ensures
 
-pub returns-in-None-read_rov-clause-usage : goal.returns-in-None-read_rov-clause-usage
-returns-in-None-read_rov-clause-usage c = λ usage command lenient is.
-    no_rov c.args.first.now (map string_bytes c.args.given.now) (c.is_word-5.ensures.0 c.if-is_word-5.true) c.in-None-read_rov.ensures.none command lenient is
+pub returns-in-rov : goal.returns-in-rov
+returns-in-rov c = reads_at c.args.first.now (codes "rov") (map string_bytes c.args.given.now) c.read_rov.result c.in-rov.is c.read_rov.ensures
 
-pub returns-in-Err-read_recall-clause-usage : goal.returns-in-Err-read_recall-clause-usage
-returns-in-Err-read_recall-clause-usage c = λ usage command lenient is.
-    let fault : c.in-Err-read_recall.fault ≡ Usage = cc usage in
-    no_recall c.args.first.now (map string_bytes c.args.given.now) (c.is_word-7.ensures.0 c.if-is_word-7.true) (c.in-Err-read_recall.ensures.usage (ap Err fault)) command lenient is
+pub returns-in-archive : goal.returns-in-archive
+returns-in-archive c = reads_at c.args.first.now (codes "archive") (map string_bytes c.args.given.now) c.read_archive.result c.in-archive.is c.read_archive.ensures
 
-pub returns-in-None-read_archive-clause-usage : goal.returns-in-None-read_archive-clause-usage
-returns-in-None-read_archive-clause-usage c = λ usage command lenient is.
-    no_archive c.args.first.now (map string_bytes c.args.given.now) (c.is_word-6.ensures.0 c.if-is_word-6.true) c.in-None-read_archive.ensures.none command lenient is
+pub returns-in-recall : goal.returns-in-recall
+returns-in-recall c = reads_at c.args.first.now (codes "recall") (map string_bytes c.args.given.now) c.read_recall.result c.in-recall.is c.read_recall.ensures
 
-pub returns-in-None-clause-usage : goal.returns-in-None-clause-usage
-returns-in-None-clause-usage c = λ usage command lenient is.
-    no_check c.args.first.now (map string_bytes c.args.given.now) (c.is_word-3.ensures.0 c.if-is_word-3.true) c.in-None.ensures.none command lenient is
+pub returns-in-check : goal.returns-in-check
+returns-in-check c = reads_check c.args.first.now (map string_bytes c.args.given.now) c.in-check.is c.read_plain.result c.read_plain.ensures
 
-pub returns-in-None-read_plain-clause-usage : goal.returns-in-None-read_plain-clause-usage
-returns-in-None-read_plain-clause-usage c = λ usage command lenient is.
-    no_relay c.args.first.now (map string_bytes c.args.given.now) (c.is_word-4.ensures.0 c.if-is_word-4.true) c.in-None-read_plain.ensures.none command lenient is
+pub returns-in-relay : goal.returns-in-relay
+returns-in-relay c = reads_relay c.args.first.now (map string_bytes c.args.given.now) c.in-relay.is c.read_plain-in-relay.result c.read_plain-in-relay.ensures
 
-pub returns-clause-usage : goal.returns-clause-usage
-returns-clause-usage c = λ usage command lenient is.
-    no_other c.args.first.now (map string_bytes c.args.given.now) (λ is. untrue _ c.if-is_word.false (c.is_word.ensures.1 is)) (λ is. untrue _ c.if-is_word-2.false (c.is_word-2.ensures.1 is)) (λ is. untrue _ c.if-is_word-3.false (c.is_word-3.ensures.1 is)) (λ is. untrue _ c.if-is_word-8.false (c.is_word-8.ensures.1 is))
-    (λ is. untrue _ c.if-is_word-4.false (c.is_word-4.ensures.1 is)) (λ is. untrue _ c.if-is_word-5.false (c.is_word-5.ensures.1 is)) (λ is. untrue _ c.if-is_word-6.false (c.is_word-6.ensures.1 is)) (λ is. untrue _ c.if-is_word-7.false (c.is_word-7.ensures.1 is))
-    (λ is. untrue _ c.if-is_help.false (c.is_help.ensures.1 is)) (λ is. untrue _ c.if-is_version.false (c.is_version.ensures.1 is)) command lenient is
+pub returns-in-text : goal.returns-in-text
+returns-in-text c = reads_help c.args.first.now (map string_bytes c.args.given.now) c.in-text.is c.read_lone.result c.read_lone.ensures
+
+pub returns-in-text-2 : goal.returns-in-text-2
+returns-in-text-2 c = reads_version c.args.first.now (map string_bytes c.args.given.now) c.in-text-2.is c.read_lone-in-text-2.result c.read_lone-in-text-2.ensures
+
+pub returns-in_default : goal.returns-in_default
+returns-in_default c =
+    let given = map string_bytes c.args.given.now in
+    let no = c.in_default in
+    reads_none c.args.first.now given (no_other c.args.first.now given no.not-replay no.not-serve no.not-check no.not-drill no.not-relay no.not-rov no.not-archive no.not-recall
+    (neither no.not-text no.not-text-2) (neither no.not-text-3 no.not-text-4))
