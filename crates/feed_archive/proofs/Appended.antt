@@ -16,15 +16,15 @@ use Rattle.feed_archive.proofs.OneContent.{seen_holds}
 use Rattle.feed_archive.proofs.Records.{record_of, is_record, length-record, joined-snoc}
 use Rattle.feed_archive.proofs.Windows.{at_place, torn_front, torn_back, overwritten_is, padded_long}
 
--- what is written behind the gate
+-- what is written after the gate
 abbrev pub tail_of : List ℕ → List ℕ
 tail_of piece = big_bytes 4 (length piece) ++ piece ++ 0 ∷ []
 
--- the record, and the byte 0 behind it
+-- the record, and the byte 0 after it
 open_split : (front more piece : List ℕ) → front ++ 1 ∷ (tail_of piece ++ more) ≡ (front ++ record_of piece) ++ 0 ∷ more
 open_split front more piece = ap (λ (l : List ℕ). front ++ 1 ∷ l) (append_assoc (big_bytes 4 (length piece) ++ piece) (0 ∷ []) more) ∙ sym (append_assoc front (record_of piece) (0 ∷ more))
 
--- behind records stands a gate, and a whole record without its gate: the gate says whether it counts
+-- after records stands a gate, and a whole record without its gate: the gate says whether it counts
 pub shut_is : (front more : List ℕ) (pieces : List (List ℕ)) (gate : ℕ) → AreParts IsRecord front pieces → gate ≢ 1 → IsArchive (front ++ gate ∷ more) pieces (length front)
 shut_is front more pieces gate p c = record { front = front; gate = gate; rest = more; split = refl; records = p; closed = c; place_is = refl }
 
@@ -50,7 +50,7 @@ module _ (file : List ℕ) (pieces : List (List ℕ)) (place : ℕ) (a : IsArchi
       ap (λ (l : List ℕ). take (place + 1) l) (a.split ∙ sym (append_assoc a.front (a.gate ∷ []) a.rest))
       ∙ take_at (a.front ++ a.gate ∷ []) a.rest (place + 1) (omega (arith, length-append a.front (a.gate ∷ []), a.place_is))
 
-  -- while the record is written behind the gate, the archive stays
+  -- while the record is written after the gate, the archive stays
   pub staged_image : (size : ℕ) (c : List ℕ) → IsTorn file (place + 1) size c → IsArchive c pieces place
   staged_image size c t =
       let front : take (place + 1) c ≡ a.front ++ a.gate ∷ [] = torn_front file (place + 1) size c t (omega (arith, length_file)) ∙ front_and_gate in
@@ -71,7 +71,7 @@ module _ (file : List ℕ) (pieces : List (List ℕ)) (place : ℕ) (a : IsArchi
       let is = overwritten_is (a.front ++ a.gate ∷ []) (tail_of piece) file (omega (arith, long, length_file)) (ap (λ (n : ℕ). take n file) long ∙ front_and_gate) in
       (_, ap (λ (n : ℕ). overwritten file n (tail_of piece)) (sym long) ∙ is ∙ append_assoc a.front (a.gate ∷ []) _)
 
--- the file with a record behind a gate
+-- the file with a record after a gate
 module _ (file : List ℕ) (front : List ℕ) (gate : ℕ) (piece more : List ℕ) (pieces : List (List ℕ)) (records : AreParts IsRecord front pieces) (size : length piece ≤ most_record) (fits : length front + 6 + length piece ≤ most_archive) (is : file ≡ front ++ gate ∷ (tail_of piece ++ more)) where
   long : length file ≡ length front + 1 + length (tail_of piece) + length more
   long = omega (arith, ap length is, length-append front (gate ∷ (tail_of piece ++ more)), length-append (tail_of piece) more)

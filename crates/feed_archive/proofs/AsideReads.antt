@@ -1,5 +1,5 @@
 -- A read, as a port tells it that keeps what it gives.
-use Rattle.std.proofs.Common.{◌≡◌, ℕ, List, [], ◌∷◌, Result, Ok, Err, refl, sym, subst, arith}
+use Rattle.std.proofs.Common.{◌≡◌, ℕ, List, [], ◌∷◌, Result, Ok, Err, refl, sym, ◌∙◌, subst, arith}
 use Rattle.std.proofs.KnownBytes.{Keeps-refl}
 use mathlib.Core.Bool.{Bool, true, false}
 use Rattle.wire_io.specs.declared.sink.Failed.{Failed}
@@ -18,15 +18,19 @@ calm_reads : (i0 i1 : Aside) (r : Result ℕ Failed) (buf : List ℕ) → Reads 
 calm_reads i0 i1 r buf s = record { plan = refl; coming = s.coming; rest = s.rest; given = s.given; opened = s.opened; closed = s.closed; is_open = s.is_open; taken = s.taken; refused = s.refused; cause = s.cause; calm = s.calm; writes = s.writes; laid = s.laid }
 
 -- the port below was read, and no piece was refused
-pub reads_on : (i0 i1 base0 base1 : Aside) (es fs : List Event) (r : Result ℕ Failed) (buf : List ℕ) → is_refused es ≡ false → is_refused fs ≡ false → Reads i0 i1 r buf → Reads (keep_aside i0 base0 es) (keep_aside i1 base1 fs) r buf
-reads_on i0 i1 base0 base1 es fs r buf fine later s =
-    subst (λ (a : Aside). Reads a (keep_aside i1 base1 fs) r buf) (sym (aside_calm i0 base0 es fine))
+pub reads_on : (i0 i1 base0 base1 told : Aside) (es fs : List Event) (r : Result ℕ Failed) (buf : List ℕ) → keep_aside i0 base0 es ≡ told → is_refused es ≡ false → is_refused fs ≡ false → Reads i0 i1 r buf
+    → Reads told (keep_aside i1 base1 fs) r buf
+reads_on i0 i1 base0 base1 told es fs r buf is fine later s =
+    subst (λ (a : Aside). Reads a (keep_aside i1 base1 fs) r buf) (sym (aside_calm i0 base0 es fine) ∙ is)
     (subst (λ (a : Aside). Reads (calm i0) a r buf) (sym (aside_calm i1 base1 fs later)) (calm_reads i0 i1 r buf s))
 
 -- the piece that it gave was refused
-pub reads_lost : (i0 i1 base0 : Aside) (es : List Event) (n : ℕ) (piece buf : List ℕ) (e : Failed) → is_refused es ≡ false → Reads i0 i1 (Ok n) buf → Reads (keep_aside i0 base0 es) (keep_aside i1 i0 ((1, 0, piece) ∷ es)) (Err e) buf
-reads_lost i0 i1 base0 es n piece buf e fine s =
-    subst (λ (a : Aside). Reads a (late i1 i0 ((1, 0, piece) ∷ es)) (Err e) buf) (sym (aside_calm i0 base0 es fine)) (record {
+pub reads_lost : (i0 i1 base0 base1 told : Aside) (es fs : List Event) (n : ℕ) (piece buf : List ℕ) (e : Failed) → keep_aside i0 base0 es ≡ told → fs ≡ (1, 0, piece) ∷ es → base1 ≡ i0 → is_refused es ≡ false → Reads i0 i1 (Ok n) buf
+    → Reads told (keep_aside i1 base1 fs) (Err e) buf
+reads_lost i0 i1 base0 base1 told es fs n piece buf e is more same fine s =
+    subst (λ (l : List Event). Reads told (keep_aside i1 base1 l) (Err e) buf) (sym more)
+    (subst (λ (a : Aside). Reads told (late i1 a ((1, 0, piece) ∷ es)) (Err e) buf) (sym same)
+    (subst (λ (a : Aside). Reads a (late i1 i0 ((1, 0, piece) ∷ es)) (Err e) buf) (sym (aside_calm i0 base0 es fine) ∙ is) (record {
       plan = refl;
       coming = s.coming;
       rest = Keeps-refl i0.rest;
@@ -40,7 +44,7 @@ reads_lost i0 i1 base0 es n piece buf e fine s =
       calm = s.calm;
       writes = s.writes;
       laid = s.laid;
-    })
+    })))
 
 late_reads : (inner base : Aside) (es : List Event) (e : Failed) (buf : List ℕ) → Reads (late inner base es) (late inner base ((2, 0, []) ∷ es)) (Err e) buf
 late_reads inner base es e buf = record {
@@ -60,7 +64,8 @@ late_reads inner base es e buf = record {
 }
 
 -- a piece was refused before, and the port below wasn't asked
-pub reads_later : (inner base : Aside) (es : List Event) (e : Failed) (buf : List ℕ) → is_refused es ≡ true → Reads (keep_aside inner base es) (keep_aside inner base ((2, 0, []) ∷ es)) (Err e) buf
-reads_later inner base es e buf gone =
-    subst (λ (a : Aside). Reads a (keep_aside inner base ((2, 0, []) ∷ es)) (Err e) buf) (sym (aside_late inner base es gone))
-    (subst (λ (a : Aside). Reads (late inner base es) a (Err e) buf) (sym (aside_late inner base ((2, 0, []) ∷ es) gone)) (late_reads inner base es e buf))
+pub reads_later : (inner base told : Aside) (es fs : List Event) (e : Failed) (buf : List ℕ) → keep_aside inner base es ≡ told → fs ≡ (2, 0, []) ∷ es → is_refused es ≡ true → Reads told (keep_aside inner base fs) (Err e) buf
+reads_later inner base told es fs e buf is more gone =
+    subst (λ (l : List Event). Reads told (keep_aside inner base l) (Err e) buf) (sym more)
+    (subst (λ (a : Aside). Reads a (keep_aside inner base ((2, 0, []) ∷ es)) (Err e) buf) (sym (aside_late inner base es gone) ∙ is)
+    (subst (λ (a : Aside). Reads (late inner base es) a (Err e) buf) (sym (aside_late inner base ((2, 0, []) ∷ es) gone)) (late_reads inner base es e buf)))

@@ -1,5 +1,5 @@
 -- The port below a port that keeps what it gives: what it gives of its plan.
-use Rattle.std.proofs.Common.{◌≡◌, ◌≢◌, ℕ, ◌<◌, ◌≤◌, length, List, [], ◌∷◌, Result, Ok, Err, refl, ap, subst, arith}
+use Rattle.std.proofs.Common.{◌≡◌, ◌≢◌, ℕ, ◌<◌, ◌≤◌, length, List, [], ◌∷◌, Result, Ok, Err, refl, sym, ◌∙◌, ap, subst, arith}
 use mathlib.Core.Bool.{Bool, true, false}
 use Rattle.bmp_specs.specs.Life.{LastRead, gave as gave_some, gave_none, failed}
 use Rattle.wire_io.specs.declared.sink.Failed.{Failed}
@@ -9,6 +9,7 @@ use Rattle.station_doors.specs.Doors.{Opens, Reads, Closes, AsPlanned, read_size
 use Rattle.station_doors.specs.Planned.{Follows}
 use Rattle.station_doors.proofs.Planned.{follows_new, follows_opens, follows_gave, follows_failed, follows_closes, read_some}
 use Rattle.feed_archive.specs.Keeping.{KeepsPlan, asked, is_refused, keep_aside, told_by}
+use Rattle.feed_archive.proofs.Telling.{open_is}
 
 pub plan_new : (first : Aside) (calls : ℕ) → KeepsPlan first first calls calls []
 plan_new first calls = record { follows = follows_new first calls; same = λ e. refl }
@@ -16,6 +17,14 @@ plan_new first calls = record { follows = follows_new first calls; same = λ e. 
 -- how much was taken, where no piece was refused
 pub taken_is : (inner base : Aside) (es : List Event) → is_refused es ≡ false → (keep_aside inner base es).taken ≡ inner.taken
 taken_is inner base es fine = ap (λ (b : Bool). (told_by b inner base es).taken) fine
+
+-- what is asked of the port below
+module _ (inner base told : Aside) (es : List Event) (is : keep_aside inner base es ≡ told) where
+  pub asked_size : (size : ℕ) → is_refused es ≡ false → size ≡ read_size told.taken → size ≡ read_size inner.taken
+  asked_size size fine e = e ∙ ap (λ (a : Aside). read_size a.taken) (sym is) ∙ ap read_size (taken_is inner base es fine)
+
+  pub asked_open : told.is_open ≡ true → inner.is_open ≡ true
+  asked_open e = sym (open_is (is_refused es) inner base es) ∙ ap (λ (a : Aside). a.is_open) is ∙ e
 
 module _ (first a b : Aside) (before c d : ℕ) (es : List Event) (p : KeepsPlan first a before c es) where
   pub plan_opened : (r : Result Bool Failed) → Opens a b r → d ≡ c → KeepsPlan first b before d ((3, 0, []) ∷ es)

@@ -1,5 +1,5 @@
 -- The moments that are made where an archive is created.
-use Rattle.std.proofs.Common.{◌≡◌, ℕ, List, [], ◌∷◌, ◌∙◌, ap, subst, arith, Result, Ok, Err}
+use Rattle.std.proofs.Common.{ℕ, [], ◌∷◌, ◌∙◌, ap, subst, arith, Result, Ok, Err}
 use Rattle.wire_io.specs.declared.sink.Failed.{Failed}
 use Rattle.disk_doors.specs.Images.{Moment, AfterWrite, after_sync}
 use Rattle.disk_doors.specs.Disk.{DiskValue, moments, Sizes, WritesAt, Syncs}

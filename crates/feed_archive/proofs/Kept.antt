@@ -83,6 +83,13 @@ refused_same shows old new size Stopped a not = ap (λ (v : ArchiveValue _). (sh
 pub between_rest : (tells : Type 0) (made now : DiskValue) (es : List Event) → HasKept tells made now es → tells → (first : List ℕ) → HasOnly made.now first → Passes (HasBetween first (gave es) (gave es ++ lost es)) now now
 between_rest tells made now es h t first only = passes_none (HasBetween first (gave es) (gave es ++ lost es)) now (λ c i. between_either first (gave es) (lost es) c ((h.run t first only).present c i))
 
+-- what a crash inside a read leaves, between these notes and those
+abbrev pub InRead : Type 0 → DiskValue → List Event → List Event → DiskValue → DiskValue → Type 0
+InRead tells made es fs old new = tells → (first : List ℕ) → HasOnly made.now first → Passes (HasBetween first (gave es) (gave fs ++ lost fs)) old new
+
+pub in_rest : (k : ℕ) (tells : Type 0) (made now : DiskValue) (es fs : List Event) → HasKept tells made now es → fs ≡ (suc (suc k), 0, []) ∷ es → InRead tells made es fs now now
+in_rest k tells made now es fs h is = subst (λ (l : List Event). InRead tells made es l now now) (sym is) (between_rest tells made now es h)
+
 module _ (tells : Type 0) (made old new : DiskValue) (es : List Event) (piece : List ℕ) (h : HasKept tells made old es) (fine : is_refused es ≡ false)
     (any : tells → (w : List ℕ) → HasOnly old.now w → Passes (IsBeforeOrAfter w piece) old new) where
   module _ (t : tells) (first : List ℕ) (only : HasOnly made.now first) where
@@ -113,6 +120,12 @@ module _ (tells : Type 0) (made old new : DiskValue) (es : List Event) (piece : 
   between_gave t first only =
       let whole : (gave es ++ piece) ++ lost es ≡ gave es ++ piece = ap (λ (l : List ℕ). (gave es ++ piece) ++ l) (h.none fine) ∙ append-nil (gave es ++ piece) in
       subst (λ (x : List ℕ). Passes (HasBetween first (gave es) x) old new) (sym whole) (between_step t first only)
+
+  pub in_gave : (fs : List Event) → fs ≡ (0, 0, piece) ∷ es → InRead tells made es fs old new
+  in_gave fs is = subst (λ (l : List Event). InRead tells made es l old new) (sym is) between_gave
+
+  pub in_lost : (fs : List Event) → fs ≡ (1, 0, piece) ∷ es → InRead tells made es fs old new
+  in_lost fs is = subst (λ (l : List Event). InRead tells made es l old new) (sym is) between_step
 
   -- a piece was appended and given
   pub kept_gave : (tells → (w : List ℕ) → HasOnly old.now w → HasOnly new.now (w ++ piece)) → HasKept tells made new ((0, 0, piece) ∷ es)

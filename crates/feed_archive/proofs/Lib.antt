@@ -7,6 +7,7 @@ pub mod Empty
 pub mod Begun
 pub mod Created
 pub mod Steps
+pub mod Ending
 pub mod Kept
 pub mod Telling
 pub mod Asked

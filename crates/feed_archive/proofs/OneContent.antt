@@ -65,7 +65,7 @@ none (v ∷ ps) (w ∷ qs) f k h r s (a, a', split, is, p) (b, b', split', is', 
 pub damaged_none : (file : List ℕ) (offset : ℕ) → IsDamagedAt file offset → (content : List ℕ) → HasContent file content → ⊥
 damaged_none file offset d content h = none d.pieces h.pieces d.front h.is.front h.is.gate d.rest h.is.rest d.records h.is.records h.is.closed d.broken (sym d.split ∙ h.is.split)
 
--- an archive may have more behind it
+-- an archive may have more after it
 pub archive_longer : (n : ℕ) (file : List ℕ) (ps : List (List ℕ)) (place : ℕ) → IsArchive (take n file) ps place → IsArchive file ps place
 archive_longer n file ps place a = record {
   front = a.front;

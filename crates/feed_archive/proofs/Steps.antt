@@ -38,7 +38,7 @@ module _ (old : DiskValue) (place : ℕ) (piece : List ℕ) (size : length piece
       subst (λ (n : ℕ). IsArchive (overwritten mid.now.file n (1 ∷ [])) (closed.pieces ++ piece ∷ []) (n + 5 + length piece)) closed.is.place_is
       (opened_file mid.now.file closed.is.front closed.is.gate piece s.0 closed.pieces closed.is.records size fits_front s.1)
 
-  -- after both the archive is closed behind the record
+  -- after both the archive is closed after the record
   pub closed_again : (mid new : DiskValue) (bytes : List ℕ) (u v : Unit {0}) → bytes ≡ tail_of piece → Puts old mid (place + 1) bytes (Ok u) → Puts mid new place (1 ∷ []) (Ok v)
       → IsClosedAt new.now (place + 5 + length piece)
   closed_again mid new bytes u v is p q =
@@ -63,7 +63,7 @@ module _ (old : DiskValue) (place : ℕ) (piece : List ℕ) (size : length piece
     content_is =
         content_one (seen file) (joined closed.pieces) content (seen_holds file closed.pieces place (omega (arith, fits)) closed.is) (only file (inl refl))
 
-    -- the record is written behind the gate
+    -- the record is written after the gate
     pub first_step : (mid : DiskValue) (bytes : List ℕ) (r : Result (Unit {0}) Failed) → Puts old mid (place + 1) bytes r → Passes (IsBeforeOrAfter content piece) old mid
     first_step mid bytes r p =
         passes_weaker (IsTorn file (place + 1) (length bytes)) (IsBeforeOrAfter content piece) old mid

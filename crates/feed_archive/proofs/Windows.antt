@@ -20,7 +20,7 @@ pub torn_front : (file : List ℕ) (place size : ℕ) (c : List ℕ) → IsTorn 
 torn_front file place size c t l =
     same_window c file 0 place (omega (arith, l, t.no_shorter)) (omega (arith, l)) (λ i low high. t.same i (omega (arith, high, l)) (λ w. omega (arith, w.0, high)))
 
--- behind the range too
+-- after the range too
 pub torn_back : (file : List ℕ) (place size k : ℕ) (c : List ℕ) → IsTorn file place size c → place + size + k ≤ length file → take k (drop (place + size) c) ≡ take k (drop (place + size) file)
 torn_back file place size k c t l =
     same_window c file (place + size) k (omega (arith, l, t.no_shorter)) l (λ i low high. t.same i (omega (arith, high, l)) (λ w. omega (arith, w.1, low)))
@@ -28,7 +28,7 @@ torn_back file place size k c t l =
 pub padded_long : (file : List ℕ) (n : ℕ) → n ≤ length file → padded file n ≡ file
 padded_long file n l = let none : n - length file ≡ 0 = omega (arith, l) in ap (λ (k : ℕ). file ++ replicate k 0) none ∙ append-nil file
 
--- a file with this front, and these bytes written behind it
+-- a file with this front, and these bytes written after it
 pub overwritten_is : (front tail file : List ℕ) → length front ≤ length file → take (length front) file ≡ front
     → overwritten file (length front) tail ≡ front ++ (tail ++ drop (length front + length tail) (padded file (length front + length tail)))
 overwritten_is front tail file l is =

@@ -46,7 +46,7 @@ pub record BreaksRecord (bytes : List ℕ) : Type 0 where
   pub no_record : (piece rest : List ℕ) → HasFront IsRecord bytes piece rest → ⊥
   pub no_end : (bytes ≡ []) ⊎ (slice_index bytes 0 ≡ 1)
 
--- The file is no archive: behind some records, at this offset, stands one that isn't whole or right, or nothing.
+-- The file is no archive: after some records, at this offset, stands one that isn't whole or right, or nothing.
 pub record IsDamagedAt (file : List ℕ) (offset : ℕ) : Type 0 where
   pub front : List ℕ
   pub rest : List ℕ

@@ -236,7 +236,7 @@ KeepCause before now (Some Full) = now ≡ before
 KeepCause before now (Some Stopped) = now ≡ before
 
 -- The disk has its plan and its room still, and an append failed only where the plan fails a call or there is no room for
--- six bytes for each that the port below gave, behind the closing byte's place as it was.
+-- six bytes for each that the port below gave, after the closing byte's place as it was.
 pub record KeepsDisk (tells : Type 0) (made now : DiskValue) (place : ℕ) (es : List Event) (refused : Option AppendFault) : Type 0 where
   pub lasts : tells → Lasts made now
   pub planned : tells → refused ≡ Some DiskFailed → IsSound made (place + 6 * length (gave es ++ lost es) + 1) → ⊥

@@ -188,16 +188,17 @@ impl<P: Port, D: Disk> Port for KeepPort<P, D> {
             note(&mut self.notes, GAVE_NONE, &[]);
             return Ok(0);
         }
-        match self.archive.append(&buf[..count]) {
+        let piece = &buf[..count];
+        match self.archive.append(piece) {
             Ok(()) => {
                 // The archive has a place below 2^31 for each of them.
                 self.given += count as u64;
-                note(&mut self.notes, GAVE, &buf[..count]);
+                note(&mut self.notes, GAVE, piece);
                 Ok(count)
             }
             Err(fault) => {
                 self.refused = Some(fault);
-                note(&mut self.notes, REFUSED, &buf[..count]);
+                note(&mut self.notes, REFUSED, piece);
                 Err(Failed)
             }
         }

@@ -2,13 +2,14 @@ use Rattle.std.proofs.Common.{◌≡◌, inl, inr, length, arith}
 use Rattle.std.proofs.lemmas.Result.{err_from_is_err_and}
 use Rattle.disk_doors.proofs.Passing.{asked_rests, sizes_lasts, writes_lasts, syncs_lasts, lasts_then}
 use Rattle.feed_archive.proofs.Created.{makes_none, write_fails, writes_and_syncs}
-use Rattle.feed_archive.proofs.Empty.{created}
+use Rattle.feed_archive.proofs.Empty.{created, shut_written}
 use Rattle.feed_archive.proofs.creating.create.Goals as goal
 
+-- whichever calls came after the write
 pub returns-clause-told : goal.returns-clause-told
 returns-clause-told g c = λ t.
     let none : length (g.D.Disk.shows c.args.disk.now).now.file ≡ 0 = omega (arith, (c.in_ok-size.ensures.told t).size, c.if-branch-ne0.false) in
-    created _ _ _ _ _ _ _ none (c.in_ok-size.ensures.told t) (c.in_ok-write_at.ensures.told t) (c.in_ok-sync.ensures.told t)
+    created _ _ none (grind (arith, shut_written))
 
 pub returns-in_err-size-clause-told : goal.returns-in_err-size-clause-told
 returns-in_err-size-clause-told g c =
@@ -41,10 +42,6 @@ returns-in_err-write_at-clause-lasts g c = λ t. lasts_then _ _ _ (sizes_lasts _
 pub returns-in_err-sync-clause-lasts : goal.returns-in_err-sync-clause-lasts
 returns-in_err-sync-clause-lasts g c = λ t.
     lasts_then _ _ _ (lasts_then _ _ _ (sizes_lasts _ _ _ (c.in_ok-size.ensures.told t)) (writes_lasts _ _ _ _ _ (c.in_ok-write_at.ensures.told t))) (syncs_lasts _ _ _ (c.in_err-sync.ensures.told t))
-
-pub returns-clause-lasts : goal.returns-clause-lasts
-returns-clause-lasts g c = λ t.
-    lasts_then _ _ _ (lasts_then _ _ _ (sizes_lasts _ _ _ (c.in_ok-size.ensures.told t)) (writes_lasts _ _ _ _ _ (c.in_ok-write_at.ensures.told t))) (syncs_lasts _ _ _ (c.in_ok-sync.ensures.told t))
 
 pub returns-in_err-size-clause-calls : goal.returns-in_err-size-clause-calls
 returns-in_err-size-clause-calls g c =
