@@ -1,4 +1,4 @@
--- Lives of connections, one behind another, and how a connection goes on or ends.
+-- Lives of connections, one after another, and how a connection goes on or ends.
 use Rattle.std.proofs.Common.{◌≡◌, ◌≢◌, ℕ, zero, suc, ◌*◌, ◌^◌, ◌<◌, ◌≤◌, Bool, true, false, List, [], ◌∷◌, ◌++◌, length, inl, inr, refl, sym, ap, ◌∙◌, subst, append-nil, append_assoc, arith, length-append, if◌then◌else◌}
 use Rattle.std.proofs.Math.Dec.{eqb-suc-zero}
 use Rattle.bmp_specs.specs.declared.causes.Cause.{Cause}

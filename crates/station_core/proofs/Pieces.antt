@@ -1,7 +1,8 @@
 -- What a lane keeps, as a connection begins, as a piece of it is taken, and as it ends.
 use Rattle.std.proofs.Common.{◌≡◌, ℕ, ◌+◌, ◌-◌, ◌<◌, ◌≤◌, min, Bool, true, false, List, [], ◌∷◌, ◌++◌, length, take, Option, None, Some, inl, inr, refl, sym, ap, ◌∙◌, subst, append-nil, append_assoc, arith, length-append, length-take}
 use Rattle.std.proofs.lemmas.Bool.{cases_lt, true≢false, false≢true}
-use Rattle.std.specs.Prelude.{◌⊎◌, is_some}
+use Rattle.std.specs.Prelude.{◌⊎◌, OnOk, Result, is_some}
+use Rattle.std.proofs.lemmas.Result.{on_ok_weaker}
 use Rattle.std.proofs.lemmas.List.{map-append, take_all}
 use Rattle.std.proofs.Math.Seq.{take-append-add}
 use Rattle.bmp_specs.specs.declared.causes.Cause.{Cause}
@@ -17,10 +18,11 @@ use Rattle.rib_model.specs.declared.entry.Entry.{Entry}
 use Rattle.rib_model.specs.declared.entry.Entry.TheVariants.{Opened, Closed}
 use Rattle.rib_model.specs.Entries.{entry_value, entry_values}
 use Rattle.wire_io.specs.Aside.{fresh}
+use Rattle.wire_io.specs.declared.bytes.NoMemory.{NoMemory}
 use Rattle.station_core.specs.declared.lane.Present.{Present}
 use Rattle.station_core.specs.Machine.{AreDue, Begins, ComesTo, HasLive, with_end, with_piece}
-use Rattle.station_core.specs.Taking.{Gathers, IsIdle, IsTaken, Moves, cause_of_close}
-use Rattle.station_core.proofs.Dues.{due_more, EndsWith, ended_life, ends_early, ends_full, ends_last, life_ended, live_going}
+use Rattle.station_core.specs.Taking.{Gathers, IsIdle, IsTaken, Moves, Takes, cause_of_close}
+use Rattle.station_core.proofs.Dues.{due_more, EndsWith, ended_life, ends_early, ends_full, ends_last as last_ends, life_ended, live_going}
 
 -- how much of a piece is taken
 pub piece_taken : (bytes piece : List ℕ) (count : ℕ) → length bytes < most_taken → count ≡ min (length piece) (most_taken - length bytes) → take most_taken (bytes ++ piece) ≡ bytes ++ take count piece
@@ -86,7 +88,7 @@ module _ {B : Type 0} (meaning : Meaning) (state : B → meaning.State) where
     };
   }
 
-  -- a closing behind the messages of a connection
+  -- a closing after the messages of a connection
   closes : (earlier : List Given) (c : Given) (before messages : List EntryValue) (due : List Entry) (cause : Cause) → AreDue meaning earlier before → EndsWith meaning c messages cause
       → entry_values due ≡ before ++ opened ∷ (messages ++ closed cause ∷ []) → IsIdle meaning due (earlier ++ c ∷ [])
   closes earlier c before messages due cause are ends values = record {
@@ -110,7 +112,7 @@ module _ {B : Type 0} (meaning : Meaning) (state : B → meaning.State) where
     leads = λ connections t.
         let c : Given = with_end fault (record { bytes = t.bytes; last = gave }) in
         let now : cause_of_close fault (length t.bytes) (rest_of present.walk) present.walk.offset ≡ cause = ap (λ (n : ℕ). cause_of_close fault n (rest_of present.walk) present.walk.offset) (sym t.taken) ∙ sym is in
-        let ends : EndsWith meaning c t.messages cause = subst (EndsWith meaning c t.messages) now (ends_last meaning t.bytes t.messages present.walk.offset fault (rest_of present.walk) t.room t.given.walks) in
+        let ends : EndsWith meaning c t.messages cause = subst (EndsWith meaning c t.messages) now (last_ends meaning t.bytes t.messages present.walk.offset fault (rest_of present.walk) t.room t.given.walks) in
         record {
           new = t.earlier ++ c ∷ [];
           does = comes_on (with_end fault) due present connections t;
@@ -125,6 +127,25 @@ module _ {B : Type 0} (meaning : Meaning) (state : B → meaning.State) where
   -- another present connection on both sides
   pub moves_between : (Does : List Given → List Given → Type 0) (due due' : List Entry) (a b p q : Option (Present B)) → a ≡ p → b ≡ q → Moves meaning state Does due due' p q → Moves meaning state Does due due' a b
   moves_between Does due due' a b p q is now m = subst (λ (x : Option (Present B)). Moves meaning state Does due due' x b) (sym is) (subst (λ (y : Option (Present B)). Moves meaning state Does due due' p y) (sym now) m)
+
+  -- a lane's present connection took a piece, and goes on
+  pub takes_on : (due due' : List Entry) (now : Option (Present B)) (present present' : Present B) (piece : List ℕ) (end : Option Cause) → now ≡ Some present → end ≡ None
+      → Takes meaning state piece due due' present present' end → Moves meaning state (ComesTo meaning (with_piece piece)) due due' now (Some present')
+  takes_on due due' now present present' piece end is none t =
+      moves_between (ComesTo meaning (with_piece piece)) due due' now (Some present') (Some present) (Some present') is refl (subst (λ (o : Option Cause). Takes meaning state piece due due' present present' o) none t)
+
+  -- it ended in the piece, and its closing is due
+  pub takes_last : (due due' due2 : List Entry) (now then : Option (Present B)) (present present' : Present B) (piece : List ℕ) (end : Option Cause) (cause : Cause) (r : Result (Unit {0}) NoMemory) → now ≡ Some present → end ≡ Some cause
+      → Takes meaning state piece due due' present present' end → OnOk r ((due2 ≡ due' ++ Closed cause ∷ []) × (then ≡ None)) → OnOk r (Moves meaning state (ComesTo meaning (with_piece piece)) due due2 now then)
+  takes_last due due' due2 now then present present' piece end cause r is ends t =
+      let m : Moves meaning state (ComesTo meaning (with_piece piece)) due (due' ++ Closed cause ∷ []) (Some present) None = subst (λ (o : Option Cause). Takes meaning state piece due due' present present' o) ends t in
+      on_ok_weaker r (λ e. moves_between (ComesTo meaning (with_piece piece)) due due2 now then (Some present) None is e.1 (subst (λ (es : List Entry). Moves meaning state (ComesTo meaning (with_piece piece)) due es (Some present) None) (sym e.0) m))
+
+  -- the live connection ends, and its closing is due
+  pub ends_last : (due due' : List Entry) (now then : Option (Present B)) (present : Present B) (fault : Bool) (cause : Cause) (r : Result (Unit {0}) NoMemory) → now ≡ Some present → cause ≡ cause_of_close fault present.taken (rest_of present.walk) present.walk.offset
+      → OnOk r ((due' ≡ due ++ Closed cause ∷ []) × (then ≡ None)) → OnOk r (Moves meaning state (ComesTo meaning (with_end fault)) due due' now then)
+  ends_last due due' now then present fault cause r is by =
+      on_ok_weaker r (λ e. moves_between (ComesTo meaning (with_end fault)) due due' now then (Some present) None is e.1 (ends_live due due' present fault cause by e.0))
 
   -- a piece was fed to the walk, and its messages were gathered
   module _ (due due' : List Entry) (present : Present B) (walk next : WalkValue B) (piece : List ℕ) (count : ℕ) (count_is : count ≡ min (length piece) (most_taken - present.taken))

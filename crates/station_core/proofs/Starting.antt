@@ -74,6 +74,16 @@ module _ {B : Type 0} (meaning : Meaning) (state : B → meaning.State) where
   pub room_counts : (lanes : List (Lane B)) (shown : List (TablesValue × ℕ)) (seen : List ℕ) (finished : Bool) → HasRoom meaning state lanes shown seen finished → All (λ (x : TablesValue × ℕ). x.1 ≤ 2 ^ 57) shown
   room_counts lanes shown seen finished (v, s, few) = counts_fit meaning state lanes shown seen finished v s few
 
+  -- something is published of each lane, and there are few
+  pub room_shown : (lanes : List (Lane B)) (shown : List (TablesValue × ℕ)) (seen : List ℕ) (finished : Bool) → HasRoom meaning state lanes shown seen finished → length shown ≡ length lanes
+  room_shown lanes shown seen finished (v, s, few) = s.shown_count
+
+  pub room_some : (lanes : List (Lane B)) (shown : List (TablesValue × ℕ)) (seen : List ℕ) (finished : Bool) → HasRoom meaning state lanes shown seen finished → 0 < length shown
+  room_some lanes shown seen finished (v, s, few) = omega (arith, s.shown_count, s.some)
+
+  pub room_few : (lanes : List (Lane B)) (shown : List (TablesValue × ℕ)) (seen : List ℕ) (finished : Bool) → HasRoom meaning state lanes shown seen finished → length shown ≤ 64
+  room_few lanes shown seen finished (v, s, few) = omega (arith, s.shown_count, s.few)
+
   module _ {O : Type 0} (faults : O → ℕ) (told : O → Option (List ℕ)) (aside : O → Aside) (lanes : List (Lane B)) (shown : List (TablesValue × ℕ)) (seen : List ℕ) (v : MachineValue) where
     abbrev Stepped : Event → O → O → List (Lane B) → List (TablesValue × ℕ) → List ℕ → Bool → Result (Unit {0}) ScheduleFault → Type 0
     Stepped event = HasStepped faults told aside meaning state event v

@@ -7,11 +7,12 @@ use Rattle.bmp_specs.specs.Meaning.{Meaning}
 use Rattle.bmp_specs.specs.Values.{EntryValue, opened}
 use Rattle.bmp_message.specs.StreamWalk.{WalkValue, HasReached, HasGiven, Gives}
 use Rattle.rib_model.specs.declared.entry.Entry.{Entry}
+use Rattle.rib_model.specs.declared.entry.Entry.TheVariants.{Closed}
 use Rattle.rib_model.specs.Entries.{entry_values}
 use Rattle.station_core.specs.declared.lane.Present.{Present}
-use Rattle.station_core.specs.Machine.{AreDue, IsFree}
+use Rattle.station_core.specs.Machine.{AreDue, ComesTo, IsFree, with_piece}
 
--- all whole messages that the walk has are due now, behind what was due
+-- all whole messages that the walk has are due now, after what was due
 pub record Gathers {B : Type 0} (meaning : Meaning) (state : B → meaning.State) (old new : WalkValue B) (due due' : List Entry) (end : Option Cause) : Type 0 where
   pub made : List Entry
   pub grown : due' ≡ due ++ made
@@ -60,3 +61,8 @@ pub record Moves {B : Type 0} (meaning : Meaning) (state : B → meaning.State) 
 -- a lane stands for some connections
 abbrev pub IsSound : {B : Type 0} (meaning : Meaning) (state : B → meaning.State) → List Entry → Option (Present B) → Type 0
 IsSound meaning state due present = (connections : List Given) × Follows meaning state due present connections
+
+-- A piece of a live connection is taken: the connection goes on, or a cause of its end is there, whose closing is still to become due.
+abbrev pub Takes : {B : Type 0} (meaning : Meaning) (state : B → meaning.State) → List ℕ → List Entry → List Entry → Present B → Present B → Option Cause → Type 0
+Takes meaning state piece due due' present present' None = Moves meaning state (ComesTo meaning (with_piece piece)) due due' (Some present) (Some present')
+Takes meaning state piece due due' present present' (Some cause) = Moves meaning state (ComesTo meaning (with_piece piece)) due (due' ++ Closed cause ∷ []) (Some present) None

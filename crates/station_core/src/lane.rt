@@ -1,8 +1,9 @@
 //! One lane: its connections, one after another, and the entries that are due of them.
 ghost use Rattle.std.specs.Prelude.{◌≡◌, ◌∷◌, ◌++◌, [], IfOk, OnOk};
 ghost use Rattle.bmp_message.specs.StreamWalk.{fed_of, rest_of};
+ghost use Rattle.rib_model.specs.declared.entry.Entry.TheVariants.{Closed};
 ghost use Rattle.station_core.specs.Machine.{Begins, ComesTo, with_end, with_piece};
-ghost use Rattle.station_core.specs.Taking.{Gathers, IsSound, Moves, cause_of_close};
+ghost use Rattle.station_core.specs.Taking.{Gathers, IsSound, Moves, Takes, cause_of_close};
 
 use bmp_message::{BodyReading, Entries, Progress, StreamWalk};
 use bmp_specs::{Cause, MOST_TAKEN};
@@ -57,32 +58,25 @@ fn gather<B: BodyReading + Drop>(
     }
 }
 
-// Takes a piece of the present connection, as far as there is room. Gives the connection back if it is still live, and
-// else appends its closing.
+// Takes a piece of the present connection, as far as there is room, and tells why the connection ended, if it did.
 fn take_piece<B: BodyReading + Drop>(
     due: &mut List<Entry>,
-    present: Present<B>,
+    present: &mut Present<B>,
     piece: &[u8],
-) -> Result<Option<Present<B>>, NoMemory>
-    requires { IsSound B.meaning B.state due.old (Some present) }
-    ensures { IfOk result (Moves B.meaning B.state (ComesTo B.meaning (with_piece piece.now)) due.old due.new (Some present)) }
+) -> Result<Option<Cause>, NoMemory>
+    requires { IsSound B.meaning B.state due.old (Some present.old) }
+    ensures { IfOk result (Takes B.meaning B.state piece.now due.old due.new present.old present.new) }
 {
-    let Present { walk, taken } = present;
-    let mut walk = walk;
-    let count = (piece.len() as u64).min(MOST_TAKEN - taken);
-    walk.feed(&piece[..count as usize])?;
-    let taken = taken + count;
-    match gather(&mut walk, due)? {
-        Some(cause) => {
-            append(due, Entry::Closed(cause))?;
-            Ok(None)
-        }
+    let count = (piece.len() as u64).min(MOST_TAKEN - present.taken);
+    present.walk.feed(&piece[..count as usize])?;
+    present.taken += count;
+    match gather(&mut present.walk, due)? {
+        Some(cause) => Ok(Some(cause)),
         None => {
-            if taken < MOST_TAKEN {
-                return Ok(Some(Present { walk, taken }));
+            if present.taken < MOST_TAKEN {
+                return Ok(None);
             }
-            append(due, Entry::Closed(Cause::Full))?;
-            Ok(None)
+            Ok(Some(Cause::Full))
         }
     }
 }
@@ -136,19 +130,31 @@ impl<B: BodyReading + Drop> Lane<B> {
         requires { IsSound B.meaning B.state self.old.due self.old.present }
         ensures { OnOk result (Moves B.meaning B.state (ComesTo B.meaning (with_piece piece.now)) self.old.due self.new.due self.old.present self.new.present) }
     {
-        if let Some(present) = self.present.take() {
-            self.present = take_piece(&mut self.due, present, piece)?;
+        let Some(present) = &mut self.present else {
+            return Ok(());
+        };
+        match take_piece(&mut self.due, present, piece)? {
+            Some(cause) => self.close(cause),
+            None => Ok(()),
         }
-        Ok(())
     }
 
     /// Ends the live connection, where one is: its last read failed, or gave no byte.
     pub(crate) fn end(&mut self, failed: bool) -> Result<(), NoMemory>
         ensures { OnOk result (Moves B.meaning B.state (ComesTo B.meaning (with_end failed)) self.old.due self.new.due self.old.present self.new.present) }
     {
-        if let Some(present) = self.present.take() {
-            append(&mut self.due, Entry::Closed(cause_of_end(&present, failed)))?;
-        }
-        Ok(())
+        let Some(present) = &self.present else {
+            return Ok(());
+        };
+        let cause = cause_of_end(present, failed);
+        self.close(cause)
+    }
+
+    // Appends the closing of the connection, which is then no more.
+    fn close(&mut self, cause: Cause) -> Result<(), NoMemory>
+        ensures { OnOk result ((self.new.due ≡ self.old.due ++ Closed cause ∷ []) × (self.new.present ≡ None)) }
+    {
+        self.present = None;
+        append(&mut self.due, Entry::Closed(cause))
     }
 }

@@ -5,6 +5,27 @@ use Rattle.station_core.specs.Standing.{ShowsNext}
 use Rattle.station_core.proofs.Publishing.{shows_at, shows_none}
 use Rattle.station_core.proofs.machine.publish_on.Goals as goal
 
+pub offset_bounds-lanes-at : goal.offset_bounds-lanes-at
+offset_bounds-lanes-at g c = omega (arith, c.if-at-lanes.false)
+
+pub bounds-lanes-at : goal.bounds-lanes-at
+bounds-lanes-at g c = omega (arith, c.if-at-lanes.false)
+
+pub offset_bounds-shown-at : goal.offset_bounds-shown-at
+offset_bounds-shown-at g c = omega (arith, c.ranges.number)
+
+pub bounds-shown-at : goal.bounds-shown-at
+bounds-shown-at g c = omega (arith, c.if-at-lanes.false, c.requires.count)
+
+pub offset_bounds-shown-at-2 : goal.offset_bounds-shown-at-2
+offset_bounds-shown-at-2 g c = omega (arith, c.ranges.number)
+
+pub bounds-shown-at-2 : goal.bounds-shown-at-2
+bounds-shown-at-2 g c = omega (arith, c.if-at-lanes.false, c.requires.count)
+
+pub shown_next-requires : goal.shown_next-requires
+shown_next-requires g c = rw c.as_slice.ensures (c.requires.due c.index-lanes-at.result c.index-shown-at.result (omega (arith, c.if-at-lanes.false)))
+
 pub returns-then-at-lanes : goal.returns-then-at-lanes
 returns-then-at-lanes g c = shows_none c.args.lanes.now c.args.shown.now c.args.number (omega (arith, c.if-at-lanes.true))
 

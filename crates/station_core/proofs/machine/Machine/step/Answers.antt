@@ -1,4 +1,4 @@
-use Rattle.std.proofs.Common.{◌≡◌, ◌++◌, ℕ, Bool, List, arith, drop, false, length, subst, take}
+use Rattle.std.proofs.Common.{◌≡◌, ◌++◌, ℕ, Bool, List, arith, drop, false, length, subst, take, true}
 use Rattle.std.specs.Prelude.{OnOk}
 use Rattle.std.proofs.lemmas.List.{take_at}
 use Rattle.query_lang.specs.Queries.{query_value}
@@ -6,7 +6,7 @@ use Rattle.router_tables.specs.Tables.{TablesValue}
 use Rattle.station_core.specs.declared.lane.Lane.{Lane}
 use Rattle.station_core.specs.Machine.{Begins, ComesTo, with_end, with_piece}
 use Rattle.station_core.specs.Standing.{AsksOn, MovesLane, ShowsLane, Stands, TellsOn}
-use Rattle.station_core.proofs.Starting.{answered, begun, ended, finished_now, published, room_counts, shown_due, sound_at, taken, told_of}
+use Rattle.station_core.proofs.Starting.{answered, begun, ended, finished_now, over, published, room_counts, room_few, room_shown, room_some, shown_due, sound_at, taken, told_of}
 use Rattle.station_core.proofs.machine.Machine.step.Goals as goal
 
 -- what is written back to a vector is all of it
@@ -18,20 +18,48 @@ take_on-requires g c =
     let m = c.args.self.now in
     rw c.deref_mut-in-Take.ensures.value (sound_at g.B.BodyReading.meaning g.B.BodyReading.state m.lanes.items m.shown.items m.seen.items m.finished c.requires c.in-Take.lane)
 
+pub publish_on-requires-clause-count : goal.publish_on-requires-clause-count
+publish_on-requires-clause-count g c =
+    let m = c.args.self.now in
+    rw (c.deref.ensures.value, c.deref_mut-in-Publish.ensures.value) (room_shown g.B.BodyReading.meaning g.B.BodyReading.state m.lanes.items m.shown.items m.seen.items m.finished c.requires)
+
 pub publish_on-requires-clause-due : goal.publish_on-requires-clause-due
 publish_on-requires-clause-due g c =
     let m = c.args.self.now in
     rw (c.deref.ensures.value, c.deref_mut-in-Publish.ensures.value) (shown_due g.B.BodyReading.meaning g.B.BodyReading.state m.lanes.items m.shown.items m.seen.items m.finished c.requires c.in-Publish.lane)
+
+pub tell_on-requires-clause-lanes : goal.tell_on-requires-clause-lanes
+tell_on-requires-clause-lanes g c =
+    let m = c.args.self.now in
+    rw c.deref-in-Tell.ensures.value (room_few g.B.BodyReading.meaning g.B.BodyReading.state m.lanes.items m.shown.items m.seen.items m.finished c.requires)
 
 pub tell_on-requires-clause-counts : goal.tell_on-requires-clause-counts
 tell_on-requires-clause-counts g c =
     let m = c.args.self.now in
     rw c.deref-in-Tell.ensures.value (room_counts g.B.BodyReading.meaning g.B.BodyReading.state m.lanes.items m.shown.items m.seen.items m.finished c.requires)
 
+pub ask_on-requires-clause-some : goal.ask_on-requires-clause-some
+ask_on-requires-clause-some g c =
+    let m = c.args.self.now in
+    rw c.deref-in-Ask.ensures.value (room_some g.B.BodyReading.meaning g.B.BodyReading.state m.lanes.items m.shown.items m.seen.items m.finished c.requires)
+
+pub ask_on-requires-clause-lanes : goal.ask_on-requires-clause-lanes
+ask_on-requires-clause-lanes g c =
+    let m = c.args.self.now in
+    rw c.deref-in-Ask.ensures.value (room_few g.B.BodyReading.meaning g.B.BodyReading.state m.lanes.items m.shown.items m.seen.items m.finished c.requires)
+
 pub ask_on-requires-clause-counts : goal.ask_on-requires-clause-counts
 ask_on-requires-clause-counts g c =
     let m = c.args.self.now in
     rw c.deref-in-Ask.ensures.value (room_counts g.B.BodyReading.meaning g.B.BodyReading.state m.lanes.items m.shown.items m.seen.items m.finished c.requires)
+
+pub returns-then-self : goal.returns-then-self
+returns-then-self g c v s few =
+    let m = c.args.self.now in
+    let meaning = g.B.BodyReading.meaning in
+    let state = g.B.BodyReading.state in
+    let done : Stands meaning state m.lanes.items m.shown.items m.seen.items true v = subst (λ (b : Bool). Stands meaning state m.lanes.items m.shown.items m.seen.items b v) c.if-self.true s in
+    rw c.if-self.true (over meaning state g.O.Sink.faults g.O.Sink.told g.O.Sink.aside m.lanes.items m.shown.items m.seen.items v done c.args.event.now c.args.out.now tt)
 
 pub returns-in-Begin : goal.returns-in-Begin
 returns-in-Begin g c v s few =
