@@ -5,7 +5,7 @@ use Rattle.cut_publisher.specs.History.{Begins, Fed, IsUnmarked}
 use Rattle.rib_model.specs.declared.entry.Entry.{Entry}
 use Rattle.rib_model.specs.Entries.{entry_values}
 
--- The pass published entries with these values, in order, behind those that it had published. The history that it has
+-- The pass published entries with these values, in order, after those that it had published. The history that it has
 -- seen only grew; no mark came into it.
 pub record Grows (old new : Fed Entry) (values : List EntryValue) : Type 0 where
   pub station : new.station ≡ old.station
