@@ -53,7 +53,7 @@ pub record Dialogue (lanes : ℕ) (close : Close) (ended : Bool) (history : Hist
   pub turns : List Turn
   pub talks : Talks lanes close ended history least bytes turns text
 
--- The same of bytes after which the connection goes on: no line among them ends it, and what stands behind the last one
+-- The same of bytes after which the connection goes on: no line among them ends it, and what stands after the last one
 -- may become a line yet. It is the dialogue of a connection of which the next read fails.
 abbrev pub GoesOn : ℕ → History → ℕ → List ℕ → List ℕ → Type 0
 GoesOn lanes history least bytes text = Dialogue lanes ReadFault false history least bytes text

@@ -35,6 +35,6 @@ pub record TellsParameters (bytes : List ℕ) (a : Announced) : Type 0 where
   pub are : AreParts IsParameter bytes lists
   pub tells : Tells (flat_map (λ cs. cs) lists) a
 
--- it is what the rest of the body announces, behind the stated length
+-- it is what the rest of the body announces, after the stated length
 abbrev pub TellsRest : ℕ → List ℕ → Announced → Type 0
 TellsRest stated rest a = MatchBool (has_extended_length stated rest) (Tells [] a) ((length rest ≡ stated) × TellsParameters rest a)

@@ -17,7 +17,7 @@ use Rattle.bmp_message.specs.declared.types.MessageType.TheVariants.{OfPeer, Ini
 pub record PeerMeaning : Type 1 where
   -- what is known of a stream from its messages so far
   pub State : Type 0
-  -- under the state a message of this type and peer, with these bytes behind its Per-Peer Header, has these effects, and
+  -- under the state a message of this type and peer, with these bytes after its Per-Peer Header, has these effects, and
   -- leaves this state
   pub Means : MessageType → State → HeaderValue → KeyValue → List ℕ → List EffectValue → State → Type 0
 

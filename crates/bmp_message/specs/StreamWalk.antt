@@ -37,7 +37,7 @@ pub record HasRead (meaning : Meaning) (fed : List ℕ) (given : List EntryValue
   pub place : offset ≡ length front
   pub walked : HasWalked meaning.Means meaning.start state front given
 
--- a message of this type stands behind what was read, and then what is pending
+-- a message of this type stands after what was read, and then what is pending
 pub record HasCutNext {R : Type 0} (meaning : Meaning) (state : R → meaning.State) (fed : List ℕ) (given : List EntryValue) (w : WalkValue R) (kind : ℕ) : Type 0 where
   pub frame : List ℕ
   pub is_frame : IsFrame frame kind w.cutter.body
@@ -112,6 +112,6 @@ pub record FitsWalk (offset : ℕ) (cutter : CutterValue) (at : Stage) : Type 0 
   pub within : offset ≤ cutter.offset
   pub here : FitsStage offset cutter at
 
--- where a walk stands behind a message of this type
+-- where a walk stands after a message of this type
 abbrev pub next_stage : ℕ → Stage
 next_stage kind = if kind == termination then stage.Terminated else stage.Between

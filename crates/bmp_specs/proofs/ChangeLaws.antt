@@ -6,7 +6,7 @@ use Rattle.bmp_specs.specs.Changes.{ChangeValue, IsChange, AreChanges, IsLaterCh
 use Rattle.bmp_specs.specs.Steps.{steps_in, steps_of}
 use Rattle.bmp_specs.specs.Values.{EntryValue, PrefixValue, StepValue}
 
--- what stands behind the first of two lists
+-- what stands after the first of two lists
 behind : {X : Type 0} (xs ys : List X) (k i : ℕ) → k ≡ length xs + i → slice_get (xs ++ ys) k ≡ slice_get ys i
 behind [] ys k i e = let same : k ≡ i = omega arith in ap (slice_get ys) same
 behind (x ∷ xs) ys zero i e = absurd (omega arith)

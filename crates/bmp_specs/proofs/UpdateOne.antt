@@ -27,7 +27,7 @@ counted_one a b x y v w p q e =
     let same : a ≡ b = same_front a b x y lengths e in
     (same, sym p.value_is ∙ ap (λ (l : List ℕ). drop 2 l) same ∙ q.value_is)
 
--- no field behind its length begins another
+-- no field after its length begins another
 pub counted_code : IsCode IsCounted
 counted_code = record { some = λ v p. omega (arith, p.header); one = counted_one }
 

@@ -1,4 +1,4 @@
--- A field behind its length in two octets, as the Withdrawn Routes and the Path Attributes of an UPDATE message (RFC
+-- A field after its length in two octets, as the Withdrawn Routes and the Path Attributes of an UPDATE message (RFC
 -- 4271, section 4.3).
 use Rattle.std.specs.Prelude.{◌≡◌, ℕ, ◌+◌, ◌≤◌, List, length, drop}
 use Rattle.byteorder.specs.Endian.{big_number}

@@ -6,7 +6,7 @@ use Rattle.bmp_specs.specs.declared.causes.Why.{Why}
 use Rattle.bmp_specs.specs.declared.causes.Why.TheVariants.{Version, Length, Body}
 use Rattle.bmp_specs.specs.NumberText.{number_text}
 
--- further fields, each behind a space, and the end of the line
+-- further fields, each after a space, and the end of the line
 abbrev pub further : List (List ℕ) → List ℕ
 further [] = codes "\n"
 further (field ∷ fields) = 32 ∷ field ++ further fields

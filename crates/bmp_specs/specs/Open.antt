@@ -63,7 +63,7 @@ pub record HasParameters (rest : List ℕ) (o : OpenValue) : Type 0 where
 abbrev pub has_extended_length : ℕ → List ℕ → Bool
 has_extended_length stated rest = stated == 255 && slice_index rest 0 == 255
 
--- the parameters in the rest of the body, behind their stated length
+-- the parameters in the rest of the body, after their stated length
 abbrev pub AreParameters : ℕ → List ℕ → OpenValue → Type 0
 AreParameters stated rest o = MatchBool (has_extended_length stated rest)
     ((o.extended ≡ true) × Announces [] o)

@@ -117,7 +117,7 @@ family_fields (Exact count) stat = []
 family_fields (Multiple count) stat = []
 family_fields Free stat = []
 
--- the fields of a statistic behind its code: its name, its family where it has one, and its value
+-- the fields of a statistic after its code: its name, its family where it has one, and its value
 abbrev pub stat_fields : Option CodeRowValue → StatValue → List (List ℕ)
 stat_fields row stat = name_or_other row ∷ (option_map_or (λ r. family_fields r.shape stat) row [] ++ number_text stat.value ∷ [])
 

@@ -47,7 +47,7 @@ abbrev pub IsFamilyText : List ℕ → Family → Type 0
 IsFamilyText text V4 = text ≡ codes "4"
 IsFamilyText text V6 = text ≡ codes "6"
 
--- the words name this value behind this word, or there are none and it isn't named
+-- the words name this value after this word, or there are none and it isn't named
 abbrev pub IsSelector : {A : Type 0} → List ℕ → (List ℕ → A → Type 0) → Option A → List (List ℕ) → Type 0
 IsSelector word IsText None words = words ≡ []
 IsSelector word IsText (Some value) words = (text : List ℕ) × IsText text value × (words ≡ word ∷ text ∷ [])

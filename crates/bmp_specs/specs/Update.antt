@@ -41,7 +41,7 @@ end_of_rib withdrawn read nlri =
     then (if read.count == 0 then Some V4 else (if read.count == 1 then empty_family read.unreach else None))
     else None
 
--- "Withdrawn Routes", "Path Attributes" and "Network Layer Reachability Information", the first two behind their lengths
+-- "Withdrawn Routes", "Path Attributes" and "Network Layer Reachability Information", the first two after their lengths
 pub record IsUpdate (width : Width) (ids : IdUse) (body : List ℕ) (u : UpdateValue) : Type 0 where
   pub withdrawn_routes : List ℕ
   pub path_attributes : List ℕ

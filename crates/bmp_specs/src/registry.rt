@@ -1,4 +1,4 @@
-/// What the value behind a code of a registry looks like.
+/// What the value after a code of a registry looks like.
 #[derive(Clone, Copy, Debug, PartialEq, Eq)]
 pub enum Shape {
     /// A counter of 4 bytes (RFC 7854, section 4.8: "32-bit Counter").

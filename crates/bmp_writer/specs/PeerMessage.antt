@@ -42,7 +42,7 @@ pub record IsPlain (h : HeaderValue) : Type 0 where
   pub no_seconds : h.seconds ≡ 0
   pub no_micros : h.micros ≡ 0
 
--- a header of this kind stands behind the common header
+-- a header of this kind stands after the common header
 pub record HasPlainHeader (bytes : List ℕ) : Type 0 where
   pub header : HeaderValue
   pub is : IsHeader (take header_size (drop least bytes)) header
@@ -69,7 +69,7 @@ mark_update V6 = marker ++ (0 ∷ 29 ∷ 2 ∷ 0 ∷ 0 ∷ 0 ∷ 6 ∷ 0x80 ∷ 
 abbrev pub first_view : ℕ → View
 first_view kind = if kind == loc_rib then Loc else InPre
 
--- a whole message of this type with such a header, and with these bytes behind it
+-- a whole message of this type with such a header, and with these bytes after it
 pub record IsPeerMessage (kind : ℕ) (key : KeyValue) (view : View) (rest bytes : List ℕ) : Type 0 where
   pub head : List ℕ
   pub is : IsFrame bytes kind (head ++ rest)

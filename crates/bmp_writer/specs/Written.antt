@@ -22,11 +22,11 @@ peer_up_type = 3
 abbrev pub initiation_type : ℕ
 initiation_type = 4
 
--- a piece of this form was put behind the bytes
+-- a piece of this form was put after the bytes
 abbrev pub Appends : (List ℕ → Type 0) → List ℕ → List ℕ → Type 0
 Appends Is old new = (piece : List ℕ) × (new ≡ old ++ piece) × Is piece
 
--- what stood there stands there still, and behind it perhaps more
+-- what stood there stands there still, and after it perhaps more
 abbrev pub Keeps : List ℕ → List ℕ → Type 0
 Keeps old new = take (length old) new ≡ old
 

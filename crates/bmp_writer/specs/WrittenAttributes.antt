@@ -174,7 +174,7 @@ abbrev pub atomic_size : Bool → ℕ
 atomic_size true = 3
 atomic_size false = 0
 
--- how many bytes an attribute takes that is there where a list has items, each of so many bytes, behind so many others
+-- how many bytes an attribute takes that is there where a list has items, each of so many bytes, after so many others
 abbrev pub listed_size : {V : Type 0} → ℕ → (List V → ℕ) → List V → ℕ
 listed_size before size [] = 0
 listed_size before size (v ∷ vs) = attribute_size (before + size (v ∷ vs))

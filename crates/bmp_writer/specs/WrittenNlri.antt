@@ -27,7 +27,7 @@ abbrev pub id_size : Option ℕ → ℕ
 id_size None = 0
 id_size (Some id) = 4
 
--- one prefix of its own family, behind an identifier where it has one
+-- one prefix of its own family, after an identifier where it has one
 pub record IsOwnNlri (bytes : List ℕ) (n : NlriValue) : Type 0 where
   pub is : IsNlri n.prefix.address.family (is_some n.id) bytes n
   pub exact : drop (id_size n.id) bytes ≡ prefix_bytes n.prefix

@@ -130,7 +130,7 @@ side_of_view Loc = Local
 abbrev pub HasUpWith : KeyValue → View → Family → Bool → ReadingState → Type 0
 HasUpWith key view family ids state = (opens : OpensValue) × (state key ≡ Some opens) × (uses_path_ids opens.sent opens.received family (side_of_view view) ≡ ids)
 
--- the common header and the Per-Peer Header of a message with so many bytes behind them
+-- the common header and the Per-Peer Header of a message with so many bytes after them
 pub record IsHeadersOf (key : KeyValue) (view : View) (size : ℕ) (bytes : List ℕ) : Type 0 where
   pub head : List ℕ
   pub is : bytes ≡ (3 ∷ (big_bytes 4 (48 + size) ++ route_monitoring_type ∷ [])) ++ head

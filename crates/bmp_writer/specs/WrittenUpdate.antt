@@ -109,11 +109,11 @@ pub record CanPlace (p : PlacesValue) : Type 0 where
 abbrev pub IsField : Family → PlacesValue → List ℕ → Type 0
 IsField family p bytes = Joined (IsFront p.told) (Joined (IsReach family p.hop p.multi) (Joined (IsUnreach family p.unreachable) (AreOthers p.others))) bytes
 
--- a field behind its length
+-- a field after its length
 abbrev pub counted : List ℕ → List ℕ
 counted field = big_bytes 2 (length field) ++ field
 
--- a field of some form behind its length
+-- a field of some form after its length
 pub record IsCountedOf (Is : List ℕ → Type 0) (bytes : List ℕ) : Type 0 where
   pub field : List ℕ
   pub joined : bytes ≡ counted field

@@ -10,7 +10,7 @@ pub record IsFollowed {S E : Type 0} (pass : Fed E) (c : List (S × ℕ)) (h : L
   pub earlier : Begins pass.seen h
   pub same : part pass.lane h ≡ pass.entries
 
--- the entries were appended as the lane's, in one step, behind all that the pass had seen and all that others had
+-- the entries were appended as the lane's, in one step, after all that the pass had seen and all that others had
 -- published, and no mark is there; the note has that history
 pub record Published {E : Type 0} (old : Fed E) (es : List E) (new : Fed E) (note : Saw E) : Type 0 where
   pub station : new.station ≡ old.station

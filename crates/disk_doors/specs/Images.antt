@@ -42,7 +42,7 @@ settled file = record { file = file; kept = file; ranges = [] }
 abbrev pub padded : List ℕ → ℕ → List ℕ
 padded file size = file ++ replicate (size - length file) 0
 
--- the file with these bytes at this place, behind zeros where it ended before
+-- the file with these bytes at this place, after zeros where it ended before
 abbrev pub overwritten : List ℕ → ℕ → List ℕ → List ℕ
 overwritten file place piece = take place (padded file (place + length piece)) ++ piece ++ drop (place + length piece) (padded file (place + length piece))
 

@@ -56,7 +56,7 @@ in_first n b bs few bytes =
     let whole : x - x % 2 ^ (8 * suc (length bs) - n) ≡ (b - b % 2 ^ p) * 2 ^ k = ap (λ (t : ℕ). x - t) (last ∙ rest) ∙ off in
     omega (arith, whole, none, same)
 
--- the last bits are all behind the first byte
+-- the last bits are all after the first byte
 behind_first : (n b : ℕ) (bs : List ℕ) → 8 ≤ n → n ≤ 8 * suc (length bs) → AreBytes (b ∷ bs) → spelled bs - spelled bs % 2 ^ (8 * length bs - (n - 8)) ≡ spelled (first_bits (n - 8) bs)
     → spelled (b ∷ bs) - spelled (b ∷ bs) % 2 ^ (8 * suc (length bs) - n) ≡ high_bits n b * 2 ^ (8 * length (first_bits (n - 8) bs)) + spelled (first_bits (n - 8) bs)
 behind_first n b bs many within bytes others =
@@ -100,7 +100,7 @@ first_of_four n w bs four bytes within is =
     be_bytes_4 (first_bits n bs) (w - w % 2 ^ (32 - n)) long_first (first_bits_below n bs bytes)
     (same ∙ spelled_first n bs bytes (omega arith) ∙ spelled_four (first_bits n bs) long_first)
 
--- zeros behind bytes stay zeros
+-- zeros after bytes stay zeros
 first_then_zeros : (n k : ℕ) (bs : List ℕ) → first_bits n (bs ++ replicate k 0) ≡ first_bits n bs ++ replicate k 0
 first_then_zeros n k [] = zeros_stay n k
 first_then_zeros n k (b ∷ bs) = ap (λ (l : List ℕ). high_bits n b ∷ l) (first_then_zeros (n - 8) k bs)

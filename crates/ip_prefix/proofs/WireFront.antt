@@ -53,7 +53,7 @@ bytes_padded xs p = bytes_join xs (replicate (16 - length xs) 0) p (bytes_zeros 
 length-padded : (xs : List ℕ) → length xs ≤ 16 → length (padded xs) ≡ 16
 length-padded xs few = length-append xs (replicate (16 - length xs) 0) ∙ ap (λ (k : ℕ). length xs + k) (length-replicate {A = ℕ} (16 - length xs) 0) ∙ omega arith
 
--- the prefix of the four bytes behind the length octet is the one that stands there
+-- the prefix of the four bytes after the length octet is the one that stands there
 pub four_here : (input four : List ℕ) (size : ℕ) (p q : PrefixValue) → StandsAtFront V4 input p size → AreBytes input → four ≡ take 4 (drop 1 input ++ replicate 4 0) → q ≡ prefix_of V4 (get_or input 0 0) four
     → StandsAtFront V4 input q size
 four_here input four size p q stands bytes is e =

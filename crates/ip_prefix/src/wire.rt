@@ -6,10 +6,10 @@ use crate::address::{Addr, width};
 use crate::prefixes::Prefix;
 use bmp_specs::Family;
 
-// The four bytes behind the first one; zeros where the bytes end. Taken as they stand they cost less than a copy of a
+// The four bytes after the first one; zeros where the bytes end. Taken as they stand they cost less than a copy of a
 // length that varies: the last ones may belong to whatever follows an IPv4 prefix, and are cleared.
 #[inline(always)]
-fn four_behind(input: &[u8]) -> [u8; 4]
+fn four_after(input: &[u8]) -> [u8; 4]
     ensures { result ≡ take 4 (drop 1 input.now ++ replicate 4 0) }
 {
     match input {
@@ -77,6 +77,6 @@ impl Prefix {
         let Some(size) = Prefix::wire_size(Family::V4, input) else {
             return None;
         };
-        Some((Prefix::v4(four_behind(input), input[0]), size))
+        Some((Prefix::v4(four_after(input), input[0]), size))
     }
 }

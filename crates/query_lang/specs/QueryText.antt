@@ -41,7 +41,7 @@ query_words (stats key) = codes "stats" ∷ key_text key ∷ []
 query_words (changes lane from prefix) = codes "changes" ∷ number_text lane ∷ number_text from ∷ prefix_text prefix ∷ []
 query_words quit = codes "quit" ∷ []
 
--- words, each behind a space
+-- words, each after a space
 abbrev pub spaced : List (List ℕ) → List ℕ
 spaced words = flat_map (λ word. space ∷ word) words
 

@@ -11,6 +11,6 @@ pub record TableValue : Type 0 where
   pub key : KeyValue
   pub view : View
 
--- the word with the space behind it, the lane, the peer and the view, and the space behind them
+-- the word with the space after it, the lane, the peer and the view, and the space after them
 abbrev pub front_text : List ℕ → TableValue → List ℕ
 front_text word table = word ++ (number_text table.lane ++ (32 ∷ (key_text table.key ++ (32 ∷ (view_text table.view ++ (32 ∷ []))))))

@@ -11,11 +11,11 @@ use Rattle.bmp_specs.specs.PeerText.{key_text}
 use Rattle.bmp_specs.specs.RouteLine.{underscore, text_or_absent, hop_text, origin_text, path_text, yes_or_no, aggregator_text, comma_list, community_text, others_text}
 use Rattle.bmp_specs.specs.Values.{AttrsValue, KeyValue, PeerInfoValue}
 
--- pieces, each behind the mark
+-- pieces, each after the mark
 abbrev pub behind : ℕ → List (List ℕ) → List ℕ
 behind mark pieces = flat_map (λ piece. mark ∷ piece) pieces
 
--- fields, each behind a space
+-- fields, each after a space
 abbrev pub spaced : List (List ℕ) → List ℕ
 spaced fields = behind 32 fields
 
@@ -24,7 +24,7 @@ abbrev pub has_piece : List (List ℕ) → Bool
 has_piece [] = false
 has_piece (piece ∷ pieces) = true
 
--- the pieces of a path from a place on, behind `_` where a piece stands before them
+-- the pieces of a path from a place on, after `_` where a piece stands before them
 abbrev pub more_pieces : Bool → List (List ℕ) → List ℕ
 more_pieces true pieces = behind underscore pieces
 more_pieces false pieces = join_with_byte underscore pieces

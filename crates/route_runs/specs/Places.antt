@@ -65,7 +65,7 @@ lesser_of cmp None b = b
 lesser_of cmp (Some a) None = Some a
 lesser_of cmp (Some a) (Some b) = if is_lt (cmp b a) then Some b else Some a
 
--- no live key is between a place and another one behind it
+-- no live key is between a place and another one after it
 pub record IsPassed {K A : Type 0} (cmp : K → K → Ordering) (value : K → Option (Option A)) (place at : Option K) : Type 0 where
   pub passed : (q : K) → is_after cmp place q ≡ true → is_after cmp at q ≡ false → seen (value q) ≡ None
   pub further : (q : K) → is_after cmp at q ≡ true → is_after cmp place q ≡ true

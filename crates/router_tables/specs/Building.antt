@@ -7,13 +7,13 @@ use Rattle.recent_ring.specs.Recent.{RecentValue, recent}
 use Rattle.router_tables.specs.Pending.{RowsValue, StandsForRows}
 use Rattle.router_tables.specs.Session.{SessionValue, StandsForSession}
 
--- the last steps that are made, how many behind them are passed over, and the entries behind those
+-- the last steps that are made, how many after them are passed over, and the entries after those
 pub record LateValue : Type 0 where
   pub made : RecentValue StepValue
   pub passed : ℕ
   pub last : List EntryValue
 
--- steps were made of the first of these entries; those of the ones behind are passed over, which have none where the last
+-- steps were made of the first of these entries; those of the ones after are passed over, which have none where the last
 -- entries have fewer than 1,024
 pub record AreLate (late : LateValue) (entries : List EntryValue) : Type 0 where
   pub told : List EntryValue

@@ -193,7 +193,7 @@ pub record DiskShown : Type 0 where
   pub faults : ℕ
 
 -- What a port was made over that keeps on a disk what another gives, as they were then: that port, and how many of its
--- calls were made that its plan numbers; the disk; the place of the byte that more is kept behind, and whether the keeping
+-- calls were made that its plan numbers; the disk; the place of the byte that more is kept after, and whether the keeping
 -- had stopped.
 pub record MadeOver : Type 0 where
   pub shows : Aside

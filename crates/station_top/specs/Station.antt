@@ -162,7 +162,7 @@ pub data Runs (meaning : Meaning) (Replies : List EntryValue → List ℕ → Ty
 
 -- What a relay of what these effects left wrote, by its status. The stream that left it stopped for this cause.
 pub data Relayed (effects : List EffectValue) (cause : Cause) (told0 told1 : Option (List ℕ)) : Status → Type 0 where
-  -- the whole stream, which is read back, and nothing behind it
+  -- the whole stream, which is read back, and nothing after it
   wrote : AreWritable effects → (bytes : List ℕ) → IsRelayStream effects bytes → ReadsBack effects bytes → Appends told0 told1 bytes → Relayed effects cause told0 told1 (status_of cause)
   -- nothing: it can't be relayed
   unwritable : ¬ (AreWritable effects) → told1 ≡ told0 → Relayed effects cause told0 told1 Unwritable

@@ -1,6 +1,6 @@
 //! The registries of BMP and BGP that the station knows.
 //!
-//! A table has a row for each code: the code, the shape of the value behind it, and the name that
+//! A table has a row for each code: the code, the shape of the value after it, and the name that
 //! replies have for it. Replies take names from a table. The reader of statistics and that of path attributes take
 //! from one which types they read, and the shapes of the values; the latter from its rows, by `attribute_rows`, with
 //! no search. The codes that a reader tells apart stand with the reader. The rows are those of

@@ -14,7 +14,7 @@ pub trait Row {
     fn code(&self) -> u16
         ensures { result ≡ (value self.now).code };
 
-    /// The shape of the value behind the code.
+    /// The shape of the value after the code.
     fn shape(&self) -> Shape
         ensures { result ≡ (value self.now).shape };
 
@@ -29,7 +29,7 @@ pub struct CodeRow {
     /// The code.
     pub code: u16,
 
-    /// The shape of the value behind the code.
+    /// The shape of the value after the code.
     pub shape: Shape,
 
     /// The name that replies have for the code.
