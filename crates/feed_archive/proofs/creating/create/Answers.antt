@@ -1,15 +1,16 @@
-use Rattle.std.proofs.Common.{◌≡◌, inl, inr, length, arith}
+use Rattle.std.proofs.Common.{◌≡◌, inl, inr, length, ap, ◌∙◌, arith}
 use Rattle.std.proofs.lemmas.Result.{err_from_is_err_and}
+use Rattle.disk_doors.specs.Disk.{DiskValue}
 use Rattle.disk_doors.proofs.Passing.{asked_rests, sizes_lasts, writes_lasts, syncs_lasts, lasts_then}
 use Rattle.feed_archive.proofs.Created.{makes_none, write_fails, writes_and_syncs}
-use Rattle.feed_archive.proofs.Empty.{created, shut_written}
+use Rattle.feed_archive.proofs.Empty.{created, shut_kept}
 use Rattle.feed_archive.proofs.creating.create.Goals as goal
 
 -- whichever calls came after the write
 pub returns-clause-told : goal.returns-clause-told
 returns-clause-told g c = λ t.
     let none : length (g.D.Disk.shows c.args.disk.now).now.file ≡ 0 = omega (arith, (c.in_ok-size.ensures.told t).size, c.if-branch-ne0.false) in
-    created _ _ none (grind (arith, shut_written))
+    created _ _ none (shut_kept _ _ _ _ _ (ap (λ (d : DiskValue). length d.now.file) (c.in_ok-size.ensures.told t).next ∙ none) (c.in_ok-write_at.ensures.told t) (c.in_ok-sync.ensures.told t))
 
 pub returns-in_err-size-clause-told : goal.returns-in_err-size-clause-told
 returns-in_err-size-clause-told g c =
