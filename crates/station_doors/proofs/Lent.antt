@@ -1,12 +1,16 @@
 -- The numbers under which ports were handed out.
-use Rattle.std.proofs.Common.{◌≡◌, ℕ, zero, suc, ◌<◌, length, get_or, List, [], ◌∷◌, Some, map, true, false, refl, ap, sym, ◌∙◌, arith, nat_eq, if◌then◌else◌}
-use Rattle.std.specs.List.{remove, position, All}
+use Rattle.std.proofs.Common.{◌≡◌, ℕ, zero, suc, ◌<◌, length, get_or, List, [], ◌∷◌, ◌++◌, Some, map, true, false, refl, ap, sym, ◌∙◌, arith, nat_eq, if◌then◌else◌}
+use Rattle.std.specs.List.{remove, position, All, Contains}
+use Rattle.std.proofs.lemmas.List.{map-append}
 use Rattle.std.proofs.lemmas.List.Quantifiers.{position-Some}
 use Rattle.std.proofs.lemmas.Bool.{ne_eqb}
-use Rattle.station_doors.specs.Doors.{without}
+use Rattle.station_doors.specs.Doors.{without, Returned, TakesBackTold}
 use Rattle.station_doors.specs.MemPort.{MemPortValue}
 use Rattle.station_doors.specs.MemLink.{MemLinkValue}
-use Rattle.station_doors.specs.MemYard.{plan_of, link_plan_of, returned_link_of, written_by, IsUntouched, IsIdle}
+use Rattle.station_doors.specs.MemYard.{plan_of, link_plan_of, returned_of, returned_link_of, tells_of, written_by, IsUntouched, IsIdle}
+use Rattle.station_doors.specs.declared.files.MemFile.{MemFile}
+use Rattle.station_doors.specs.declared.slots.Slot.{Slot}
+use Rattle.station_doors.specs.declared.mem_yard.Back.{Back}
 use Rattle.station_doors.specs.declared.mem_yard.LinkBack.{LinkBack}
 
 without_at : (n : ℕ) (xs : List ℕ) (i : ℕ) → i < length xs → nat_eq (get_or xs i 0) n ≡ true → ((k : ℕ) → k < i → nat_eq (get_or xs k 0) n ≡ false) → remove xs i ≡ without n xs
@@ -44,3 +48,13 @@ wrote_none n (x ∷ xs) h = wrote_none n xs (λ i d k. h (suc i) d (omega arith)
   where
     other : (a b : ℕ) → (a ≡ b → ⊥) → nat_eq a b ≡ false
     other a b d = ne_eqb a b d
+
+-- a port is given back under a number that was handed out
+pub took_back : (ports : List MemPortValue) (links : List MemLinkValue) (fails out outs links_out : List ℕ) (back backs : List Back) (links_back : List LinkBack) (files : List MemFile) (disks : List Slot) (lane : ℕ) (port : MemPortValue)
+    → Contains out lane → outs ≡ without lane out → backs ≡ back ++ record { lane = lane; port = port } ∷ []
+    → TakesBackTold lane port.shows (tells_of ports links fails out links_out back links_back files disks) (Some (tells_of ports links fails outs links_out backs links_back files disks))
+took_back ports links fails out outs links_out back backs links_back files disks lane port stood left put = record {
+  lent = λ _. ap (λ (l : List ℕ). Some (tells_of ports links fails l links_out backs links_back files disks)) left
+      ∙ ap (λ (l : List Returned). Some (record (tells_of ports links fails (without lane out) links_out back links_back files disks) { back = l })) (ap (λ (l : List Back). map returned_of l) put ∙ map-append returned_of back (record { lane = lane; port = port } ∷ []));
+  dropped = λ no. absurd (no stood);
+}

@@ -1,6 +1,6 @@
-ghost use Rattle.std.specs.Prelude.{◌≡◌, map};
+ghost use Rattle.std.specs.Prelude.{◌≡◌, ◌<◌, ◌≤◌, true, false, length, map};
 ghost use Rattle.std.specs.Option.{option_map};
-ghost use Rattle.station_doors.specs.Files.{ReadsWhole, file_at};
+ghost use Rattle.station_doors.specs.Files.{ReadsWhole, file_at, most_file};
 ghost use Rattle.station_doors.specs.MemYard.{file_value};
 
 use std::alloc::Global;
@@ -8,7 +8,7 @@ use std::io::Read;
 use wire_io::ByteList;
 
 /// The most bytes of a file that a yard gives: 2^26.
-pub(crate) const MOST_FILE: usize = 67_108_864;
+const MOST_FILE: usize = 67_108_864;
 
 /// Why a yard gave no file.
 #[derive(Clone, Copy, Debug, PartialEq, Eq)]
@@ -42,6 +42,14 @@ pub(crate) fn content<'a>(files: &'a [MemFile], path: &[u8]) -> Option<&'a ByteL
     None
 }
 
+// Whether these are more bytes than a file may have.
+pub(crate) fn is_too_long(bytes: &[u8]) -> bool
+    ensures more { result ≡ true → most_file < length bytes.now }
+    ensures fits { result ≡ false → length bytes.now ≤ most_file }
+{
+    bytes.len() > MOST_FILE
+}
+
 // Reads all that the input has, or up to 65,536 bytes past the most that a file may have.
 pub(crate) fn read_whole<R: Read>(alloc: Global, input: &mut R) -> Result<ByteList, FileFault>
     ensures { ReadsWhole (R.remaining input.old) result }
@@ -58,7 +66,7 @@ pub(crate) fn read_whole<R: Read>(alloc: Global, input: &mut R) -> Result<ByteLi
         let Ok(()) = bytes.extend(&buf[..count]) else {
             return Err(FileFault::NoMemory);
         };
-        if bytes.as_slice().len() > MOST_FILE {
+        if is_too_long(bytes.as_slice()) {
             return Err(FileFault::TooLong);
         }
     }

@@ -1,11 +1,12 @@
-ghost use Rattle.std.specs.Prelude.{◌≡◌, ◌≤◌, ◌<◌, ◌+◌, [], ◌∷◌, None, Some, map, length, vec_len, All, Contains, IsTrue, ◌↔◌, IfOk, IfSome, IfNone, OnOk, OnErr, position, ◌==◌, slice_index};
+ghost use Rattle.std.specs.Prelude.{◌≡◌, ℕ, ◌≤◌, ◌<◌, ◌+◌, [], ◌∷◌, None, Some, map, length, vec_len, All, Contains, IsTrue, true, false, ◌↔◌, IfOk, IfSome, IfNone, OnOk, OnErr, position, ◌==◌, slice_index};
 ghost use Rattle.std.specs.Bool.{OnTrue, OnFalse};
 ghost use Rattle.std.specs.Vec.{vec_capacity};
-ghost use Rattle.station_doors.specs.Doors.{without};
+ghost use Rattle.station_doors.specs.Doors.{YardValue, without};
 ghost use Rattle.station_doors.specs.Disks.{disk_at, file_of, put_at};
-ghost use Rattle.station_doors.specs.MemYard.{shown_of};
+ghost use Rattle.station_doors.specs.Files.{GivesFile};
+ghost use Rattle.station_doors.specs.MemYard.{file_value, shown_of};
 
-use crate::files::{MOST_FILE, MemFile, content};
+use crate::files::{MemFile, content, is_too_long};
 use crate::slots::{self, Slot};
 use crate::{FileFault, Listening, MemLink, MemPort, Port, Yard};
 use disk_doors::MemDisk;
@@ -173,6 +174,33 @@ impl<E> MemYard<E> {
     }
 }
 
+// Whether the plan fails the call of this number.
+fn is_among(fails: &[u64], call: u64) -> bool
+    ensures planned { result ≡ true → Contains fails.now call }
+    ensures unplanned { result ≡ false → Contains fails.now call → ⊥ }
+{
+    fails.contains(&call)
+}
+
+// Copies the first file of this path, in a call that the plan fails or not.
+fn copy_at(files: &[MemFile], path: &[u8], is_planned: bool) -> Result<ByteList, FileFault>
+    ensures { (y : YardValue) → (call : ℕ) → (is_planned ≡ true → Contains y.fails call) → (is_planned ≡ false → Contains y.fails call → ⊥) → y.files ≡ map file_value files.now → GivesFile path.now call (Some y) (Some y) result }
+{
+    if is_planned {
+        return Err(FileFault::Failed);
+    }
+    let Some(bytes) = content(files, path) else {
+        return Err(FileFault::Failed);
+    };
+    if is_too_long(bytes.as_slice()) {
+        return Err(FileFault::TooLong);
+    }
+    match bytes.copy() {
+        Ok(copy) => Ok(copy),
+        Err(_) => Err(FileFault::NoMemory),
+    }
+}
+
 // The first place of this number among those given back.
 fn place_by(back: &[LinkBack], number: u32) -> Option<usize>
     ensures place { result ≡ position (λ b. b.number == number) back.now }
@@ -273,22 +301,12 @@ impl<E: Drop> Yard for MemYard<E> {
     fn file(&mut self, _alloc: Global, path: &str) -> Result<ByteList, FileFault> {
         let call = self.calls;
         self.calls = call.saturating_add(1);
-        let is_planned = self.fails.contains(&call);
-        if is_planned {
+        let is_planned = is_among(self.fails.as_slice(), call);
+        let found = copy_at(self.files.as_slice(), path.as_bytes(), is_planned);
+        if let Err(FileFault::Failed) = &found {
             self.faults = self.faults.saturating_add(1);
-            return Err(FileFault::Failed);
         }
-        let Some(bytes) = content(self.files.as_slice(), path.as_bytes()) else {
-            self.faults = self.faults.saturating_add(1);
-            return Err(FileFault::Failed);
-        };
-        if bytes.as_slice().len() > MOST_FILE {
-            return Err(FileFault::TooLong);
-        }
-        match bytes.copy() {
-            Ok(copy) => Ok(copy),
-            Err(_) => Err(FileFault::NoMemory),
-        }
+        found
     }
 
     fn disk(&mut self, path: &str) -> Result<MemDisk, Failed> {
