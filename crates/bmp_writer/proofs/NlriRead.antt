@@ -1,13 +1,18 @@
 -- Prefixes that are written are read as they were.
 use Rattle.std.proofs.Common.{◌≡◌, ℕ, zero, suc, ◌+◌, ◌-◌, ◌<◌, ◌≤◌, List, [], ◌∷◌, ◌++◌, length, take, drop, replicate, get_or, Option, Some, None, refl, sym, ap, subst, ◌∙◌, append_assoc, arith, length-append, length-drop, length-take}
+use Rattle.std.proofs.lemmas.List.{drop_at}
 use Rattle.std.proofs.lemmas.List.Sums.{sum_by-cons}
+use Rattle.byteorder.specs.Endian.{big_number}
 use Rattle.bmp_specs.specs.Address.{IsAddressPrefix}
 use Rattle.bmp_specs.specs.declared.wire.Family.{Family}
+use Rattle.bmp_specs.specs.Number.{IsNumber}
 use Rattle.bmp_specs.specs.Prefix.{IsPrefix, bytes_for, first_bits, high_bits, padded}
 use Rattle.bmp_specs.specs.Values.{NlriValue, PrefixValue}
 use Rattle.bmp_specs.proofs.FirstBits.{AreBytes, no_first}
 use Rattle.bmp_specs.proofs.Widths.{width_within}
-use Rattle.bmp_writer.specs.WrittenNlri.{AreOwnNlri, IsOwnNlri, IsOwnPrefix, id_size, nlri_size, nlris_size}
+use Rattle.bmp_writer.specs.Written.{Appends}
+use Rattle.bmp_writer.specs.WrittenNlri.{AreOwnNlri, IsId, IsOwnNlri, IsOwnPrefix, id_size, nlri_size, nlris_size}
+use Rattle.bmp_writer.proofs.Still.{two_pieces}
 
 zeros : (r k : ℕ) → get_or (replicate r 0) k 0 < 256
 zeros zero k = omega arith
@@ -48,6 +53,33 @@ prefix_put p bits octets old mid new valid b o e f =
     let joined : new ≡ old ++ bits ∷ octets = f ∙ ap (λ (l : List ℕ). l ++ octets) e ∙ append_assoc old (bits ∷ []) octets in
     let same : bits ∷ octets ≡ p.bits ∷ take (bytes_for p.bits) p.address.octets = ap (λ (n : ℕ). n ∷ octets) b ∙ ap (λ (l : List ℕ). p.bits ∷ l) o in
     (bits ∷ octets, joined, subst (λ (l : List ℕ). IsOwnPrefix p l) (sym same) (prefix_here p valid))
+
+first_number : (front bytes : List ℕ) (id : ℕ) → IsNumber 4 front id → big_number 4 (front ++ bytes) ≡ id
+first_number (a ∷ b ∷ c ∷ d ∷ []) bytes id n = n.value_is
+first_number (a ∷ b ∷ c ∷ d ∷ x ∷ l) bytes id n = absurd (omega (arith, n.len))
+first_number (a ∷ b ∷ c ∷ []) bytes id n = absurd (omega (arith, n.len))
+first_number (a ∷ b ∷ []) bytes id n = absurd (omega (arith, n.len))
+first_number (a ∷ []) bytes id n = absurd (omega (arith, n.len))
+first_number [] bytes id n = absurd (omega (arith, n.len))
+
+-- the prefix stands behind its identifier
+nlri_here : (p : PrefixValue) (id : Option ℕ) (front bytes : List ℕ) → IsId id front → IsOwnPrefix p bytes → IsOwnNlri (front ++ bytes) (record { prefix = p; id = id })
+nlri_here p None front bytes none own =
+    subst (λ (l : List ℕ). IsOwnNlri (l ++ bytes) (record { prefix = p; id = None })) (sym none) (record { is = record { prefix_is = own.is; id_is = refl }; exact = own.exact })
+nlri_here p (Some id) front bytes number own =
+    let behind : drop 4 (front ++ bytes) ≡ bytes = drop_at front bytes 4 number.len in
+    record {
+      is = record {
+        header = omega (arith, length-append front bytes, number.len);
+        id_is = ap (λ (k : ℕ). Some k) (sym (first_number front bytes id number));
+        prefix_is = subst (λ (l : List ℕ). IsPrefix p.address.family l p) (sym behind) own.is;
+      };
+      exact = behind ∙ own.exact;
+    }
+
+pub nlri_put : (i n : NlriValue) → i ≡ n → (old mid new : List ℕ) → Appends (IsId i.id) old mid → Appends (IsOwnPrefix i.prefix) mid new → Appends (λ bytes. IsOwnNlri bytes n) old new
+nlri_put i n same old mid new (front, e, id) (bytes, f, own) =
+    (front ++ bytes, two_pieces old mid new front bytes e f, subst (λ (m : NlriValue). IsOwnNlri (front ++ bytes) m) same (nlri_here i.prefix i.id front bytes id own))
 
 prefix_length : (family : Family) (bytes : List ℕ) (p : PrefixValue) → IsPrefix family bytes p → length bytes ≡ 1 + bytes_for p.bits
 prefix_length family [] p is = absurd is

@@ -1,5 +1,5 @@
 -- What a message with a Per-Peer Header of a peer means.
-use Rattle.std.proofs.Common.{length, ◌≡◌, ℕ, ◌==◌, List, [], ◌∷◌, ◌++◌, take, drop, Option, Some, None, MatchOption, refl, sym, ap, subst, arith, ◌∙◌, length-append, ◌+◌}
+use Rattle.std.proofs.Common.{length, ◌≡◌, ℕ, ◌==◌, List, [], ◌∷◌, ◌++◌, take, drop, Option, Some, None, MatchOption, refl, sym, ap, subst, arith, ◌∙◌, length-append, append_assoc, ◌+◌, ◌≤◌}
 use Rattle.std.specs.List.{IsDistinct}
 use Rattle.std.proofs.lemmas.List.{take_at, drop_at}
 use Rattle.bmp_specs.specs.declared.peers.Detail.TheVariants.{Unread}
@@ -12,6 +12,7 @@ use Rattle.bmp_specs.specs.declared.wire.Width.TheVariants.{Two, Four}
 use Rattle.bmp_specs.specs.Attributes.{AreAttributes}
 use Rattle.bmp_specs.specs.FourOctetAs.{AsAttributes, Chooses}
 use Rattle.bmp_specs.specs.BgpMessage.{IsBgpMessage}
+use Rattle.bmp_specs.specs.Frame.{IsFrame}
 use Rattle.bmp_specs.specs.MessageBody.{HasPeer, IsRouteMonitoring, MessageType, OfPeer, ReadingState, id_use, width_of}
 use Rattle.bmp_specs.specs.MessageBody.{route_monitoring, peer_down_notification}
 use Rattle.bmp_specs.specs.PeerDownNotification.{IsPeerDown}
@@ -21,7 +22,7 @@ use Rattle.bmp_specs.specs.Update.{IsUpdate}
 use Rattle.bmp_specs.specs.Values.{AttrsReadValue, DownInfoValue, KeyValue, MessageValue, MpValue, OpensValue, OtherValue, UpdateValue, down, mark, message, of_unknown_peer, of_unknown_type, peer_down, routes}
 use Rattle.bmp_writer.specs.PeerMessage.{HasPlainHeader, IsHeaderOf, IsPeerMessage, mark_update}
 use Rattle.bmp_writer.specs.Written.{Always, Appends, HasUp, IsWritten, mark_size, peer_down_type, route_monitoring_type, unchanged, without}
-use Rattle.bmp_writer.proofs.Frames.{frame_length}
+use Rattle.bmp_writer.proofs.Frames.{frame_here, frame_length, header_bytes}
 
 -- the meaning of a body, by what stands behind its header
 pub has_peer : (kind : MessageType) (state next : ReadingState) (key : KeyValue) (view : View) (head rest : List ℕ) (m : MessageValue) (is : IsHeaderOf key view head)
@@ -35,6 +36,14 @@ has_peer kind state next key view head rest m is means =
       is = subst (λ (l : List ℕ). IsHeader l is.header) (sym front) is.is;
       means = subst (λ (o : Option KeyValue). MatchOption o ((m ≡ of_unknown_type) × (next ≡ state)) (λ k. OfPeer kind state is.header k (drop header_size (head ++ rest)) m next)) (sym is.key_is) found;
     }
+
+-- a common header, the Per-Peer Header and what follows it
+pub peer_message_put : (kind n : ℕ) (key : KeyValue) (view : View) (head rest bytes : List ℕ) → IsHeaderOf key view head → bytes ≡ (header_bytes kind n ++ head) ++ rest → n ≡ 48 + length rest → length rest ≤ 32
+    → IsPeerMessage kind key view rest bytes
+peer_message_put kind n key view head rest bytes is joined size short =
+    let whole : bytes ≡ header_bytes kind n ++ (head ++ rest) = joined ∙ append_assoc (header_bytes kind n) head rest in
+    let frame : IsFrame (header_bytes kind n ++ (head ++ rest)) kind (head ++ rest) = frame_here kind n (head ++ rest) (omega (arith, size, is.len, length-append head rest)) (omega (arith, size, short)) in
+    record { head = head; is = subst (λ (b : List ℕ). IsFrame b kind (head ++ rest)) (sym whole) frame; head_is = is }
 
 -- no data is neither a NOTIFICATION nor an event
 no_data : (reason : ℕ) → IsPeerDown (reason ∷ []) (record { reason = reason; detail = Unread })
@@ -231,6 +240,10 @@ mark_written key view family bytes p =
 pub peer_down_appended : (key : KeyValue) (view : View) (reason : ℕ) (old new : List ℕ) → Appends (IsPeerMessage 2 key view (reason ∷ [])) old new
     → Appends (IsWritten peer_down_type Always (down key (record { reason = reason; detail = Unread }) ∷ []) (without key)) old new
 peer_down_appended key view reason old new (bytes, joined, p) = (bytes, joined, peer_down_written key view reason bytes p)
+
+-- the mark of the family that was given
+pub mark_put : (key : KeyValue) (view : View) (family given : Family) → given ≡ family → (old new : List ℕ) → Appends (IsPeerMessage 0 key view (mark_update family)) old new → Appends (IsPeerMessage 0 key view (mark_update given)) old new
+mark_put key view family given same old new p = subst (λ (f : Family). Appends (IsPeerMessage 0 key view (mark_update f)) old new) (sym same) p
 
 pub mark_appended : (key : KeyValue) (view : View) (family given : Family) → given ≡ family → (old new : List ℕ) → Appends (IsPeerMessage 0 key view (mark_update family)) old new
     → Appends (IsWritten route_monitoring_type (HasUp key) (mark key view given ∷ []) unchanged) old new

@@ -1,5 +1,5 @@
 -- What stood in a list of bytes stands there still.
-use Rattle.std.proofs.Common.{◌≡◌, ℕ, List, [], ◌∷◌, ◌++◌, length, take, drop, get_or, ◌+◌, ◌<◌, refl, sym, ap, subst, ◌∙◌, append_assoc}
+use Rattle.std.proofs.Common.{◌≡◌, ℕ, List, [], ◌∷◌, ◌++◌, length, take, drop, get_or, ◌+◌, ◌<◌, refl, sym, ap, subst, ◌∙◌, append_assoc, append-nil}
 use Rattle.std.proofs.lemmas.List.{take_at, take-append-drop, take_more}
 use Rattle.std.specs.Prelude.{Result, Ok, Err, OnErr}
 use Rattle.bmp_specs.specs.Parts.{AreParts}
@@ -8,6 +8,9 @@ use Rattle.bmp_writer.specs.Written.{Appends, Keeps}
 
 pub keeps_piece : (old piece new : List ℕ) → new ≡ old ++ piece → Keeps old new
 keeps_piece old piece new e = ap (λ (l : List ℕ). take (length old) l) e ∙ take_at old piece (length old) refl
+
+pub keeps_same : (old new : List ℕ) → new ≡ old → Keeps old new
+keeps_same old new e = keeps_piece old [] new (e ∙ sym (append-nil old))
 
 pub keeps_then : (old mid new : List ℕ) → Keeps old mid → Keeps mid new → Keeps old new
 keeps_then old mid new k l =

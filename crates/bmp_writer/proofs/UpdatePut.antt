@@ -119,6 +119,10 @@ counted_put Is size octets old mid new len o e (field, f, is) = (
 pub nlris_put : (ns : List NlriValue) (size : ℕ) (octets old mid new : List ℕ) → size ≡ nlris_size ns → octets ≡ big_bytes 2 size → mid ≡ old ++ octets → Appends (AreOwnNlri ns) mid new → Appends (IsCountedOf (AreOwnNlri ns)) old new
 nlris_put ns size octets old mid new s o e p = counted_put (AreOwnNlri ns) size octets old mid new (λ field is. nlris_length ns field is ∙ sym s) o e p
 
+-- "Withdrawn Routes" have room where the message has
+pub withdrawn_fits : (p : PlacesValue) → update_size p ≤ 65535 → nlris_size p.withdrawn ≤ 65535
+withdrawn_fits p fits = omega (arith, fits)
+
 -- "Path Attributes" in so many bytes have room where the message has
 pub field_fits : (family : Family) (p : PlacesValue) (field : List ℕ) → IsFieldOf family p field → update_size p ≤ 65535 → length field ≤ 65535
 field_fits family p field is fits = omega (arith, field_length family p field is, fits)

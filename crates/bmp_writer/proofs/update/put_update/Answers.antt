@@ -1,13 +1,16 @@
-use Rattle.std.proofs.Common.{◌≡◌, ap, subst, List, ◌∙◌, arith, Bool}
+use Rattle.std.proofs.Common.{◌≡◌, ◌≤◌, ap, subst, sym, List, ◌∙◌, arith, Bool}
 use Rattle.std.proofs.lemmas.Result.{on_ok_weaker, on_err_weaker}
 use Rattle.bmp_specs.specs.Values.{AttrsValue}
 use Rattle.bmp_specs.specs.Values.{NlriValue}
 use Rattle.bmp_writer.specs.Written.{Appends, Keeps}
-use Rattle.bmp_writer.specs.WrittenNlri.{AreOwnNlri}
+use Rattle.bmp_writer.specs.WrittenNlri.{AreOwnNlri, nlris_size}
 use Rattle.bmp_writer.specs.WrittenUpdate.{IsCountedOf, IsField, is_plain, places, where_so}
-use Rattle.bmp_writer.proofs.UpdatePut.{field_fits, field_put, update_put}
+use Rattle.bmp_writer.proofs.UpdatePut.{field_fits, field_put, update_put, withdrawn_fits}
 use Rattle.bmp_writer.proofs.Still.{keeps_appends, keeps_piece, keeps_then, on_err}
 use Rattle.bmp_writer.proofs.update.put_update.Goals as goal
+
+pub put_counted_nlris-requires : goal.put_counted_nlris-requires
+put_counted_nlris-requires c = subst (λ (l : List NlriValue). nlris_size l ≤ 65535) (sym c.of_v4.ensures) (withdrawn_fits (places c.args.family c.args.withdrawn.now c.args.announced.now c.args.attrs.now) c.requires.can.fits)
 
 pub put_counted_field-requires : goal.put_counted_field-requires
 put_counted_field-requires c = field_fits c.args.family (places c.args.family c.args.withdrawn.now c.args.announced.now c.args.attrs.now) c.args.field.now c.requires.field c.requires.can.fits
