@@ -28,6 +28,24 @@ fn put_tlv(frame: &mut [u8], at: usize, kind: u16, value: &[u8]) -> usize
     put(frame, at, value)
 }
 
+// Appends the message. It is put together in room for the longest.
+fn put_in<const N: usize>(out: &mut ByteList, name: &[u8], descr: &[u8]) -> Result<(), NoMemory>
+    requires room { N ≡ 131084 }
+    requires name { length name.now ≤ 65535 }
+    requires descr { length descr.now ≤ 65535 }
+    ensures ok { OnOk result (Appends (IsWritten initiation_type Always (named name.now ∷ described descr.now ∷ []) unchanged) out.old out.new) }
+    ensures bytes { OnOk result (Appends (IsToldMessage name.now descr.now) out.old out.new) }
+    ensures tlvs { OnOk result (Appends (HasTold name.now descr.now) out.old out.new) }
+    ensures err { OnErr result (out.new ≡ out.old) }
+{
+    let mut frame = [0u8; N];
+    let length = COMMON_HEADER + 8 + descr.len() as u32 + name.len() as u32;
+    let at = put(&mut frame, 0, &common_header(INITIATION, length));
+    let at = put_tlv(&mut frame, at, SYS_DESCR, descr);
+    let at = put_tlv(&mut frame, at, SYS_NAME, name);
+    out.extend(&frame[..at])
+}
+
 /// Appends an Initiation Message with a sysDescr and then a sysName (RFC 7854, section 4.3), each of at
 /// most 65,535 bytes. After `NoMemory` the list is as before.
 #[inline(never)]
@@ -39,10 +57,5 @@ pub fn put_initiation(out: &mut ByteList, name: &[u8], descr: &[u8]) -> Result<(
     ensures tlvs { OnOk result (Appends (HasTold name.now descr.now) out.old out.new) }
     ensures err { OnErr result (out.new ≡ out.old) }
 {
-    let mut frame = [0u8; LONGEST];
-    let length = COMMON_HEADER + 8 + descr.len() as u32 + name.len() as u32;
-    let at = put(&mut frame, 0, &common_header(INITIATION, length));
-    let at = put_tlv(&mut frame, at, SYS_DESCR, descr);
-    let at = put_tlv(&mut frame, at, SYS_NAME, name);
-    out.extend(&frame[..at])
+    put_in::<LONGEST>(out, name, descr)
 }

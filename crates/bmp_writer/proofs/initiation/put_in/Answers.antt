@@ -1,10 +1,10 @@
 use Rattle.std.proofs.Common.{ℕ, List, ◌++◌, ap, ◌∙◌, arith}
 use Rattle.std.proofs.lemmas.Result.{on_ok_weaker}
 use Rattle.bmp_writer.proofs.Tlvs.{initiation_written, told_written}
-use Rattle.bmp_writer.proofs.initiation.put_initiation.Goals as goal
+use Rattle.bmp_writer.proofs.initiation.put_in.Goals as goal
 
 pub returns-clause-ok : goal.returns-clause-ok
-returns-clause-ok c =
+returns-clause-ok g c =
     let (one, first, is) = c.put_tlv-at.ensures.front in
     let (two, second, is_too) = c.put_tlv-at-2.ensures.front in
     let head = c.put-at.ensures.front ∙ c.common_header.ensures in
@@ -13,7 +13,7 @@ returns-clause-ok c =
     on_ok_weaker c.extend.result (λ e. (_, e, written)) c.extend.ensures.ok
 
 pub returns-clause-tlvs : goal.returns-clause-tlvs
-returns-clause-tlvs c =
+returns-clause-tlvs g c =
     let (one, first, is) = c.put_tlv-at.ensures.front in
     let (two, second, is_too) = c.put_tlv-at-2.ensures.front in
     let head = c.put-at.ensures.front ∙ c.common_header.ensures in
@@ -21,7 +21,7 @@ returns-clause-tlvs c =
     on_ok_weaker c.extend.result (λ e. (_, e, told_written c.args.name.now c.args.descr.now one two _ _ is is_too joined)) c.extend.ensures.ok
 
 pub returns-clause-bytes : goal.returns-clause-bytes
-returns-clause-bytes c =
+returns-clause-bytes g c =
     let (one, first, is) = c.put_tlv-at.ensures.front in
     let (two, second, is_too) = c.put_tlv-at-2.ensures.front in
     let head = c.put-at.ensures.front ∙ c.common_header.ensures in
