@@ -34,6 +34,14 @@ all_part : (P : NlriValue → Type 0) (ns ms : List NlriValue) → AllByRecursio
 all_part P [] ms a = (tt, a)
 all_part P (n ∷ ns) ms (p, a) = let (front, back) = all_part P ns ms a in ((p, front), back)
 
+-- what holds of the items before one and of it
+pub all_more : {V : Type 0} (P : V → Type 0) (vs : List V) (i : ℕ) (d v : V) → i < length vs → v ≡ get_or vs i d → AllByRecursion P (take i vs) → P v → AllByRecursion P (take (i + 1) vs)
+all_more P [] i d v lt e a p = absurd (omega (arith, lt))
+all_more P (x ∷ vs) zero d v lt e a p = (subst P e p, tt)
+all_more P (x ∷ vs) (suc i) d v lt e (q, a) p =
+    let next : suc (i + 1) ≡ suc i + 1 = omega arith in
+    subst (λ (k : ℕ). AllByRecursion P (take k (x ∷ vs))) next (q, all_more P vs i d v (omega (arith, lt)) e a p)
+
 pub alike_join : (family : Family) (ids : Bool) (ns ms : List NlriValue) → family ≡ family_of (ns ++ ms) → ids ≡ ids_of (ns ++ ms) → AllByRecursion (IsAlike family ids) ns → AllByRecursion (IsAlike family ids) ms → AreAlike (ns ++ ms)
 alike_join family ids ns ms f i a b =
     subst (λ (g : Family). AllByRecursion (IsAlike g (ids_of (ns ++ ms))) (ns ++ ms)) f (subst (λ (x : Bool). AllByRecursion (IsAlike family x) (ns ++ ms)) i (all_join (IsAlike family ids) ns ms a b))

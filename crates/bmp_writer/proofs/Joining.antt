@@ -27,9 +27,12 @@ use Rattle.bmp_writer.proofs.Still.{keeps_appends, keeps_then, two_pieces}
 pub appends_joined : (Is Js : List ℕ → Type 0) (old mid new : List ℕ) → Appends Is old mid → Appends Js mid new → Appends (Joined Is Js) old new
 appends_joined Is Js old mid new (a, e, p) (b, f, q) = (a ++ b, two_pieces old mid new a b e f, (a, b, record { joined = refl }, p, q))
 
--- what stood there stands there still behind three calls
+-- what stood there stands there still behind two calls, and behind three
+pub keeps_two : {P Q : List ℕ → Type 0} (old m1 m2 : List ℕ) → Appends P old m1 → Appends Q m1 m2 → Keeps old m2
+keeps_two old m1 m2 p q = keeps_then old m1 m2 (keeps_appends old m1 p) (keeps_appends m1 m2 q)
+
 pub keeps_three : {P Q R : List ℕ → Type 0} (old m1 m2 m3 : List ℕ) → Appends P old m1 → Appends Q m1 m2 → Appends R m2 m3 → Keeps old m3
-keeps_three old m1 m2 m3 p q r = keeps_then old m2 m3 (keeps_then old m1 m2 (keeps_appends old m1 p) (keeps_appends m1 m2 q)) (keeps_appends m2 m3 r)
+keeps_three old m1 m2 m3 p q r = keeps_then old m2 m3 (keeps_two old m1 m2 p q) (keeps_appends m2 m3 r)
 
 abbrev pub hop_told : Bool → AttrsValue → Option (List ℕ)
 hop_told plain attrs = (with_hop plain attrs).hop

@@ -304,3 +304,11 @@ message_put i info is key n common old m1 m2 m3 m4 m5 new can size c e1 head loc
           two_pieces old m1 new common body e1 joined ∙ ap (λ (x : List ℕ). old ++ (x ++ body)) c,
           record { head = h; local = l; sent = s; received = r; table = t; is = frame; head_is = head_is; local_is = local_is; sent_is = sent_is; received_is = received_is; table_is = table_is },
         )
+
+-- a table name that a message can carry has room in a TLV
+pub name_fits : (key : KeyValue) (info : PeerInfoValue) → CanCarry key info → name_size info.table ≤ 65535
+name_fits key info can = named (key.kind == loc_rib) can.instance
+  where
+    named : (b : Bool) → MatchBool b ((key.address.family ≡ V4) × (name_size info.table ≤ 65535)) ((info.filtered ≡ false) × (info.table ≡ None)) → name_size info.table ≤ 65535
+    named true p = p.1
+    named false p = subst (λ (t : Option (List ℕ)). name_size t ≤ 65535) (sym p.1) (omega arith)

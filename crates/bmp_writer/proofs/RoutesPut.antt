@@ -1,12 +1,14 @@
 -- Headers and an UPDATE message are a Route Monitoring message.
-use Rattle.std.proofs.Common.{◌≡◌, ℕ, ◌+◌, ◌≤◌, List, [], ◌++◌, length, sym, ap, subst, ◌∙◌, append_assoc, arith, length-append}
+use Rattle.std.proofs.Common.{◌≡◌, ℕ, ◌+◌, ◌≤◌, ◌==◌, eqb-true, Bool, true, false, if◌then◌else◌, List, [], ◌∷◌, ◌++◌, length, Option, Some, None, refl, sym, ap, subst, ◌∙◌, append_assoc, arith, length-append}
 use Rattle.bmp_specs.specs.declared.peers.View.{View}
 use Rattle.bmp_specs.specs.declared.wire.Family.{Family}
+use Rattle.bmp_specs.specs.declared.wire.Family.TheVariants.{V4, V6}
 use Rattle.bmp_specs.specs.Values.{AttrsValue, KeyValue, NlriValue}
 use Rattle.bmp_writer.specs.PeerMessage.{HasPlainHeader}
 use Rattle.bmp_writer.specs.Written.{Appends}
 use Rattle.bmp_writer.specs.WrittenRoutes.{CanCarryRoutes, IsHeadersOf, IsRoutesMessage, family_of, routes_size}
-use Rattle.bmp_writer.specs.WrittenUpdate.{IsField, IsUpdateOf, PlacesValue, places, update_size}
+use Rattle.bmp_writer.specs.WrittenAttributes.{HasHop}
+use Rattle.bmp_writer.specs.WrittenUpdate.{AreShort, CanPlace, IsField, IsUpdateOf, PlacesValue, is_plain, places, told_of, update_size}
 use Rattle.bmp_writer.proofs.Frames.{frame_here, frame_length, header_bytes}
 use Rattle.bmp_writer.proofs.Peers.{plain_appended}
 use Rattle.bmp_writer.proofs.Still.{two_pieces}
@@ -14,6 +16,33 @@ use Rattle.bmp_writer.proofs.Still.{two_pieces}
 -- what was put into an empty room is the field
 pub whole_field : (family : Family) (p : PlacesValue) (empty mid field : List ℕ) → empty ≡ [] → field ≡ mid → Appends (IsField family p) empty mid → IsField family p field
 whole_field family p empty mid field none same (piece, joined, is) = subst (λ (l : List ℕ). IsField family p l) (sym (same ∙ joined ∙ ap (λ (l : List ℕ). l ++ piece) none)) is
+
+-- path segments are short where they are told
+told_short : (plain : Bool) (announced : List NlriValue) (attrs : AttrsValue) → AreShort attrs.path → AreShort (told_of plain announced attrs).path
+told_short plain [] attrs short = tt
+told_short plain (n ∷ ns) attrs short = short
+
+-- a next hop that is told has four bytes
+hop_fits : (b : Bool) (hop : List ℕ) → (length hop == 4) ≡ b → HasHop (if b then Some hop else None)
+hop_fits true hop e = eqb-true (length hop) 4 e
+hop_fits false hop e = tt
+
+plain_hop : (family : Family) (hop : Option (List ℕ)) → HasHop (if is_plain family hop then hop else None)
+plain_hop V4 None = tt
+plain_hop V4 (Some hop) = hop_fits (length hop == 4) hop refl
+plain_hop V6 hop = tt
+
+told_hop : (family : Family) (announced : List NlriValue) (attrs : AttrsValue) → HasHop (told_of (is_plain family attrs.hop) announced attrs).hop
+told_hop family [] attrs = tt
+told_hop family (n ∷ ns) attrs = plain_hop family attrs.hop
+
+-- an UPDATE message has room for what a Route Monitoring message can carry
+pub can_place : (key : KeyValue) (view : View) (withdrawn announced : List NlriValue) (attrs : AttrsValue) (family : Family) → CanCarryRoutes key view withdrawn announced attrs → family ≡ family_of (withdrawn ++ announced)
+    → CanPlace (places family withdrawn announced attrs)
+can_place key view withdrawn announced attrs family can same =
+    let first = family_of (withdrawn ++ announced) in
+    let here : CanPlace (places first withdrawn announced attrs) = record { segments = told_short (is_plain first attrs.hop) announced attrs can.segments; next_hop = told_hop first announced attrs; hop = can.hop; fits = can.fits } in
+    subst (λ (f : Family). CanPlace (places f withdrawn announced attrs)) (sym same) here
 
 pub message_put : (key : KeyValue) (view : View) (withdrawn announced : List NlriValue) (attrs : AttrsValue) (family : Family) (size : ℕ) (old mid new : List ℕ) → CanCarryRoutes key view withdrawn announced attrs → family ≡ family_of (withdrawn ++ announced)
     → size ≡ update_size (places family withdrawn announced attrs) → Appends (IsHeadersOf key view size) old mid → Appends (IsUpdateOf family (places family withdrawn announced attrs)) mid new

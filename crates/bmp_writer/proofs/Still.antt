@@ -20,6 +20,9 @@ keeps_then old mid new k l =
     let second : new ≡ mid ++ rest = sym (take-append-drop (length mid) new) ∙ ap (λ (x : List ℕ). x ++ rest) l in
     keeps_piece old (d ++ rest) new (second ∙ ap (λ (x : List ℕ). x ++ rest) first ∙ append_assoc old d rest)
 
+pub keeps_still : (old mid new : List ℕ) → Keeps old mid → new ≡ mid → Keeps old new
+keeps_still old mid new k e = ap (λ (l : List ℕ). take (length old) l) e ∙ k
+
 pub keeps_appends : {Is : List ℕ → Type 0} (old new : List ℕ) → Appends Is old new → Keeps old new
 keeps_appends old new (piece, joined, is) = keeps_piece old piece new joined
 

@@ -1,8 +1,23 @@
+use Rattle.std.proofs.Common.{arith}
 use Rattle.std.proofs.lemmas.Result.{on_ok_weaker}
 use Rattle.bmp_writer.specs.WrittenUpdate.{places}
-use Rattle.bmp_writer.proofs.RoutesPut.{message_put, whole_field}
+use Rattle.bmp_writer.proofs.RoutesPut.{can_place, message_put, whole_field}
 use Rattle.bmp_writer.proofs.UpdatePut.{field_length}
 use Rattle.bmp_writer.proofs.routes.put_message.Goals as goal
+
+pub put_field-requires : goal.put_field-requires
+put_field-requires c = can_place c.args.key.now c.args.view c.args.withdrawn.now c.args.announced.now c.args.attrs.now c.family_of-family.result c.requires c.family_of-family.ensures
+
+pub size_of_update-size-requires-clause-can : goal.size_of_update-size-requires-clause-can
+size_of_update-size-requires-clause-can c = can_place c.args.key.now c.args.view c.args.withdrawn.now c.args.announced.now c.args.attrs.now c.family_of-family.result c.requires c.family_of-family.ensures
+
+pub put_update-requires-clause-can : goal.put_update-requires-clause-can
+put_update-requires-clause-can c = can_place c.args.key.now c.args.view c.args.withdrawn.now c.args.announced.now c.args.attrs.now c.family_of-family.result c.requires c.family_of-family.ensures
+
+pub put_headers-requires-clause-short : goal.put_headers-requires-clause-short
+put_headers-requires-clause-short c =
+    let can = can_place c.args.key.now c.args.view c.args.withdrawn.now c.args.announced.now c.args.attrs.now c.family_of-family.result c.requires c.family_of-family.ensures in
+    omega (arith, c.size_of_update-size.ensures, can.fits)
 
 pub size_of_update-size-requires-clause-field : goal.size_of_update-size-requires-clause-field
 size_of_update-size-requires-clause-field c =

@@ -1,9 +1,14 @@
+use Rattle.std.proofs.Common.{sym}
 use Rattle.std.proofs.lemmas.Result.{on_ok_weaker}
 use Rattle.bmp_writer.specs.Written.{Appends}
 use Rattle.bmp_writer.specs.WrittenRoutes.{IsRoutesMessage}
+use Rattle.bmp_writer.proofs.Carrying.{carry_moved}
 use Rattle.bmp_writer.proofs.RoutesPut.{routes_fill, routes_moved, routes_plain}
 use Rattle.bmp_writer.proofs.RoutesWritten.{routes_appended}
 use Rattle.bmp_writer.proofs.routes.put_routes.Goals as goal
+
+pub put_whole-requires : goal.put_whole-requires
+put_whole-requires c = carry_moved c.args.key.now c.args.view c.args.withdrawn.now c.as_slice.result.now c.args.announced.now c.as_slice-2.result.now c.args.attrs.now (sym c.as_slice.ensures) (sym c.as_slice-2.ensures) c.requires
 
 pub returns-clause-ok : goal.returns-clause-ok
 returns-clause-ok c =

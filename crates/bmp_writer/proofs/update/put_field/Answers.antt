@@ -1,7 +1,8 @@
 use Rattle.std.proofs.lemmas.Result.{on_ok_weaker, on_err_weaker}
 use Rattle.bmp_specs.specs.Values.{AttrsValue}
-use Rattle.bmp_writer.proofs.Joining.{field_joined, keeps_three}
-use Rattle.bmp_writer.proofs.Still.{keeps_then}
+use Rattle.bmp_writer.specs.Written.{Keeps}
+use Rattle.bmp_writer.proofs.Joining.{field_joined, keeps_three, keeps_two}
+use Rattle.bmp_writer.proofs.Still.{keeps_appends, keeps_then, on_err}
 use Rattle.bmp_writer.proofs.update.put_field.Goals as goal
 
 pub returns-clause-ok : goal.returns-clause-ok
@@ -12,3 +13,9 @@ returns-clause-ok c =
 
 pub returns-clause-err : goal.returns-clause-err
 returns-clause-err c = on_err_weaker c.put_others.result (keeps_then c.args.out.now c.put_unreach.new.out c.put_others.new.out (keeps_three c.args.out.now c.put_told.new.out c.put_reach.new.out c.put_unreach.new.out c.in_ok-put_told.ensures.ok c.in_ok-put_reach.ensures.ok c.in_ok-put_unreach.ensures.ok)) c.put_others.ensures.err
+
+pub returns-in_err-put_reach-clause-err : goal.returns-in_err-put_reach-clause-err
+returns-in_err-put_reach-clause-err c = on_err c.from_residual-in_err-put_reach.result (Keeps c.args.out.now c.put_reach.new.out) (keeps_then c.args.out.now c.put_told.new.out c.put_reach.new.out (keeps_appends c.args.out.now c.put_told.new.out c.in_ok-put_told.ensures.ok) c.in_err-put_reach.ensures.err)
+
+pub returns-in_err-put_unreach-clause-err : goal.returns-in_err-put_unreach-clause-err
+returns-in_err-put_unreach-clause-err c = on_err c.from_residual-in_err-put_unreach.result (Keeps c.args.out.now c.put_unreach.new.out) (keeps_then c.args.out.now c.put_reach.new.out c.put_unreach.new.out (keeps_two c.args.out.now c.put_told.new.out c.put_reach.new.out c.in_ok-put_told.ensures.ok c.in_ok-put_reach.ensures.ok) c.in_err-put_unreach.ensures.err)

@@ -6,7 +6,7 @@ use Rattle.bmp_writer.specs.Written.{Appends, Keeps}
 use Rattle.bmp_writer.specs.WrittenNlri.{AreOwnNlri, nlris_size}
 use Rattle.bmp_writer.specs.WrittenUpdate.{IsCountedOf, IsField, is_plain, places, where_so}
 use Rattle.bmp_writer.proofs.UpdatePut.{field_fits, field_put, update_put, withdrawn_fits}
-use Rattle.bmp_writer.proofs.Still.{keeps_appends, keeps_piece, keeps_then, on_err}
+use Rattle.bmp_writer.proofs.Still.{keeps_appends, keeps_piece, keeps_same, keeps_then, on_err}
 use Rattle.bmp_writer.proofs.update.put_update.Goals as goal
 
 pub put_counted_nlris-requires : goal.put_counted_nlris-requires
@@ -50,3 +50,8 @@ returns-clause-ok c =
     update_put c.args.family p c.args.size c.header.result c.args.out.now c.extend.new.self c.put_counted_nlris.new.out c.put_counted_field.new.out c.put_nlris.new.out c.requires.size (omega (arith, c.requires.size, c.requires.can.fits)) c.header.ensures c.in_ok-extend.ensures.ok out field
     (subst (λ (l : List NlriValue). Appends (AreOwnNlri l) c.put_counted_field.new.out c.put_nlris.new.out) there q))
     c.put_nlris.ensures.ok
+
+pub returns-in_err-extend-clause-err : goal.returns-in_err-extend-clause-err
+returns-in_err-extend-clause-err c =
+    let old = c.args.out.now in
+    on_err c.from_residual.result (Keeps old c.extend.new.self) (keeps_same old c.extend.new.self c.in_err-extend.ensures.err)
