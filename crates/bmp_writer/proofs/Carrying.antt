@@ -34,6 +34,9 @@ all_part : (P : NlriValue → Type 0) (ns ms : List NlriValue) → AllByRecursio
 all_part P [] ms a = (tt, a)
 all_part P (n ∷ ns) ms (p, a) = let (front, back) = all_part P ns ms a in ((p, front), back)
 
+pub not_true : false ≡ true → ⊥
+not_true e = absurd cc
+
 -- what holds of the items before one and of it
 pub all_more : {V : Type 0} (P : V → Type 0) (vs : List V) (i : ℕ) (d v : V) → i < length vs → v ≡ get_or vs i d → AllByRecursion P (take i vs) → P v → AllByRecursion P (take (i + 1) vs)
 all_more P [] i d v lt e a p = absurd (omega (arith, lt))
