@@ -1,8 +1,12 @@
 ghost use Rattle.std.specs.Prelude.{◌≡◌, ◌++◌, true, IfOk, OnOk, IfSome, IfNone, IsErrOf};
 ghost use Rattle.std.specs.Arc.{arc_value};
+ghost use Rattle.bmp_specs.specs.declared.wire.Family.TheVariants.{V4, V6};
+ghost use Rattle.bmp_specs.specs.FramedUpdate.{FitsFamily};
 ghost use Rattle.bmp_specs.specs.LenientBody.{IsLenientUpdate};
+ghost use Rattle.bmp_specs.specs.TreatAsWithdraw.{IsTreatedAsWithdraw};
 ghost use Rattle.bmp_specs.specs.UpdateForms.{FormsValue};
 ghost use Rattle.bmp_specs.specs.Values.{UpdateValue};
+ghost use Rattle.bgp_update.specs.Framed.{framed_value};
 ghost use Rattle.bmp_message.specs.BodyForms.{IsBodyInForms, IsReadAsLast};
 ghost use Rattle.bmp_message.specs.Lenient.{up_if};
 ghost use Rattle.bmp_message.specs.State.{opens_of};
@@ -12,7 +16,9 @@ use crate::effects::add;
 use crate::forms::{Forms, choose_family, choose_width, departs, width_in};
 use crate::routes::{id_use, update_body, width_of};
 use bgp_open::PeerInfo;
-use bgp_update::{Update, UpdateReader, frame_update, judge_update, treat_as_withdraw};
+use bgp_update::{
+    FramedUpdate, IdUse, Update, UpdateReader, frame_update, judge_update, treat_as_withdraw,
+};
 use bmp_frames::{PeerHeader, PeerKey};
 use bmp_specs::Family;
 use rib_model::{Effect, EffectList};
@@ -47,6 +53,22 @@ fn read_as_last(
         Err(BodyFault::Broken) => Ok(None),
         Err(BodyFault::NoMemory) => Err(NoMemory),
     }
+}
+
+// Withdraws the routes of an UPDATE message whose path attributes have a value in no width (RFC 7606, section 2).
+fn withdraw_taken(
+    alloc: Global,
+    framed: &FramedUpdate<'_>,
+    ids: IdUse,
+    taken: Forms,
+) -> Result<InForms, BodyFault>
+    requires v4 { FitsFamily (framed_value framed.now) V4 ids.v4 }
+    requires v6 { FitsFamily (framed_value framed.now) V6 ids.v6 }
+    ensures ok { IfOk result (λ r. (r.taken ≡ taken) × IsTreatedAsWithdraw ids (framed_value framed.now) r.update) }
+    ensures broken { IsErrOf result BodyFault.Broken → ⊥ }
+{
+    let update = treat_as_withdraw(alloc, framed, ids)?;
+    Ok(InForms { update, taken })
 }
 
 // Reads the body of an UPDATE message in the forms that fit: of each aspect the last one, and else the other. Where the
@@ -89,8 +111,7 @@ fn read_fitting(
                 bare_v6,
                 two_octets: last.two_octets,
             };
-            let update = treat_as_withdraw(alloc, &framed, taken.ids(agreed))?;
-            Ok(InForms { update, taken })
+            withdraw_taken(alloc, &framed, taken.ids(agreed), taken)
         }
     }
 }

@@ -1,5 +1,5 @@
 use Rattle.std.proofs.Common.{sym, subst}
-use Rattle.std.proofs.lemmas.Result.{err_from_is_err_and}
+use Rattle.std.proofs.lemmas.Result.{IfOk-weaker, err_from_is_err_and}
 use Rattle.bmp_specs.specs.declared.wire.Family.TheVariants.{V4, V6}
 use Rattle.bmp_specs.specs.declared.wire.IdUse.{IdUse}
 use Rattle.bmp_specs.specs.FramedUpdate.{FitsFamily}
@@ -33,11 +33,11 @@ returns-in_err-update-in-Some-choose_width-clause-broken c =
     c.in-Some-choose_family.ensures.some c.in-Some-choose_family-2.ensures.some _ c.in-Some-choose_width.ensures.some _ _ c.width_in-width.ensures c.ids.ensures
     (c.in_err-update-in-Some-choose_width.ensures.broken (broken_below _ broken))))
 
-pub treat_as_withdraw-requires-clause-v4 : goal.treat_as_withdraw-requires-clause-v4
-treat_as_withdraw-requires-clause-v4 c = subst (λ (x : IdUse). FitsFamily (framed_value c.in-Some.framed) V4 x.v4) (sym c.ids-in-None.ensures) c.in-Some-choose_family.ensures.some.fits
+pub withdraw_taken-requires-clause-v4 : goal.withdraw_taken-requires-clause-v4
+withdraw_taken-requires-clause-v4 c = subst (λ (x : IdUse). FitsFamily (framed_value c.in-Some.framed) V4 x.v4) (sym c.ids-in-None.ensures) c.in-Some-choose_family.ensures.some.fits
 
-pub treat_as_withdraw-requires-clause-v6 : goal.treat_as_withdraw-requires-clause-v6
-treat_as_withdraw-requires-clause-v6 c = subst (λ (x : IdUse). FitsFamily (framed_value c.in-Some.framed) V6 x.v6) (sym c.ids-in-None.ensures) c.in-Some-choose_family-2.ensures.some.fits
+pub withdraw_taken-requires-clause-v6 : goal.withdraw_taken-requires-clause-v6
+withdraw_taken-requires-clause-v6 c = subst (λ (x : IdUse). FitsFamily (framed_value c.in-Some.framed) V6 x.v6) (sym c.ids-in-None.ensures) c.in-Some-choose_family-2.ensures.some.fits
 
 pub returns-in_ok-update-in-Some-choose_width-clause-ok : goal.returns-in_ok-update-in-Some-choose_width-clause-ok
 returns-in_ok-update-in-Some-choose_width-clause-ok c =
@@ -45,8 +45,14 @@ returns-in_ok-update-in-Some-choose_width-clause-ok c =
     (in_fitting (opens_of c.args.peer.now) c.args.head.now c.args.body.now (the_view c.last.inside) (framed_value c.in-Some.framed) c.in-Some.ensures.some c.id_use-agreed.result c.id_use-agreed.ensures _ _
     c.in-Some-choose_family.ensures.some c.in-Some-choose_family-2.ensures.some _ c.in-Some-choose_width.ensures.some _ _ c.width_in-width.ensures c.ids.ensures _ c.in_ok-update-in-Some-choose_width.ensures.ok)
 
-pub returns-in_ok-update-in-None-clause-ok : goal.returns-in_ok-update-in-None-clause-ok
-returns-in_ok-update-in-None-clause-ok c =
-    subst (λ (x : FormsValue). IsBodyInForms (opens_of c.args.peer.now) c.args.head.now c.args.body.now x (record { bare_v4 = c.in-Some-choose_family.bare_v4; bare_v6 = c.in-Some-choose_family-2.bare_v6; two_octets = c.last.inside.two_octets }) c.in_ok-update-in-None.update) c.last.view_is
+pub returns-in-None-clause-ok : goal.returns-in-None-clause-ok
+returns-in-None-clause-ok c =
+    IfOk-weaker c.withdraw_taken.result _ _
+    (λ r p. subst (λ (x : FormsValue). IsBodyInForms (opens_of c.args.peer.now) c.args.head.now c.args.body.now x r.taken r.update) c.last.view_is
+    (subst (λ (x : FormsValue). IsBodyInForms (opens_of c.args.peer.now) c.args.head.now c.args.body.now (the_view c.last.inside) x r.update) (sym p.0)
     (malformed (opens_of c.args.peer.now) c.args.head.now c.args.body.now (the_view c.last.inside) (framed_value c.in-Some.framed) c.in-Some.ensures.some c.id_use-agreed.result c.id_use-agreed.ensures _ _
-    c.in-Some-choose_family.ensures.some c.in-Some-choose_family-2.ensures.some c.in-None.ensures.none _ c.ids-in-None.ensures _ c.in_ok-update-in-None.ensures)
+    c.in-Some-choose_family.ensures.some c.in-Some-choose_family-2.ensures.some c.in-None.ensures.none _ c.ids-in-None.ensures _ p.1)))
+    c.withdraw_taken.ensures.ok
+
+pub returns-in-None-clause-broken : goal.returns-in-None-clause-broken
+returns-in-None-clause-broken c broken = absurd (c.withdraw_taken.ensures.broken broken)
