@@ -1,7 +1,7 @@
 use Rattle.std.proofs.Common.{ℕ, List, refl, sym, ap, ◌∙◌, subst}
 use Rattle.bmp_specs.specs.declared.causes.Why.TheVariants.{Body}
 use Rattle.bmp_specs.specs.Values.{EntryValue}
-use Rattle.bmp_message.specs.StreamWalk.{WalkValue, HasReached}
+use Rattle.bmp_message.specs.StreamWalk.{WalkValue, HasReached, fed_of}
 use Rattle.bmp_message.proofs.Reaching.{reached_entry, reached_end, ends_body}
 use Rattle.bmp_message.proofs.walk.StreamWalk.read.Goals as goal
 
@@ -28,3 +28,6 @@ returns-in-Err-Broken-clause-run g c fed given r =
     let nothing = subst (λ (b : List ℕ). (e : EntryValue) (next : meaning.State) → meaning.Means (state i.reading) c.args.kind b e next → ⊥) c.body.ensures (none refl) in
     let ends = ends_body _ meaning state old fed given reached c.args.kind at nothing in
     (reached_end _ meaning state old fed given reached Body c.read.new.reading ends, ends)
+
+pub returns-in-Err-Broken-clause-advances : goal.returns-in-Err-Broken-clause-advances
+returns-in-Err-Broken-clause-advances g c = (ap (λ (w : WalkValue _). fed_of w) c.self.view_is, ap (λ (w : WalkValue _). w.offset) c.self.view_is, refl)
