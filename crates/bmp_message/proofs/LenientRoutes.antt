@@ -16,7 +16,7 @@ use Rattle.bmp_message.specs.Effects.{ReadsNothing}
 use Rattle.bmp_message.specs.Lenient.{KnownPeers, UpPeerValue, forms_at, known_at, lenient_state, nothing_shown, opens_known, shown_known, told_known, up_if, with_forms}
 use Rattle.bmp_message.specs.State.{opens_of}
 use Rattle.bmp_message.proofs.KnownStates.{Kept, begins}
-use Rattle.bmp_message.proofs.LenientTells.{no_report, no_report_of, no_routes_of, tells_first, unreadable_first, unreadable_known}
+use Rattle.bmp_message.proofs.LenientTells.{no_report, no_report_of, no_routes_of, orphan_report, orphan_routes, tells_first, unreadable_first, unreadable_known}
 
 module _ (peers : KnownPeers) (h : HeaderValue) (key : KeyValue) (rest : List ℕ) where
   -- no form in which an UPDATE message is read
@@ -34,6 +34,13 @@ module _ (peers : KnownPeers) (h : HeaderValue) (key : KeyValue) (rest : List �
 
     untold_as : (b : Bool) → eqb key.kind loc_rib ≡ b → is_untold (lenient_state peers) key ≡ b
     untold_as b e = ap (λ (k : Kept). not (told_known k) && eqb key.kind loc_rib) nothing ∙ e
+
+    pub first_report : OfPeerLeniently statistics_report (lenient_state peers) h key rest (orphan ∷ []) (lenient_state peers)
+    first_report = orphan_report (lenient_state peers) h key rest down
+
+    -- and it is no Loc-RIB
+    pub first_of_other : eqb key.kind loc_rib ≡ false → OfPeerLeniently route_monitoring (lenient_state peers) h key rest (orphan ∷ []) (lenient_state peers)
+    first_of_other is_not = orphan_routes (lenient_state peers) h key rest down (untold_as false is_not)
 
     module _ (is_loc : eqb key.kind loc_rib ≡ true) (info : PeerInfoValue) (is_info : info ≡ implied_info h) (last : FormsValue) (agreed : last ≡ as_agreed) where
       moved : (taken : FormsValue) (u : UpdateValue) → IsLenientUpdate (opens_of info) h rest last taken u → IsLenientUpdate (implied_opens h) h rest ((lenient_state peers).shown key (view_of h)) taken u
@@ -56,6 +63,13 @@ module _ (peers : KnownPeers) (h : HeaderValue) (key : KeyValue) (rest : List �
           after ∙ ap (λ (v : View). with_shown (lenient_state peers) key v (opens_of info) taken) is_view ∙ ap (λ (i : PeerInfoValue). with_shown (lenient_state peers) key (view_of h) (opens_of i) taken) is_info in
           subst (λ (i : PeerInfoValue). OfPeerLeniently route_monitoring (lenient_state peers) h key rest (up_if true key i ++ effects_of (routes key (view_of h) u)) (lenient_state new)) (sym is_info)
           (tells_first (lenient_state peers) h key rest (lenient_state new) down (untold_as true is_loc) taken u (moved taken u is) there)
+
+  -- the peer is down
+  pub down_report : known_at peers key ≡ Some None → OfPeerLeniently statistics_report (lenient_state peers) h key rest (orphan ∷ []) (lenient_state peers)
+  down_report there = orphan_report (lenient_state peers) h key rest (ap opens_known there)
+
+  pub down_orphan : known_at peers key ≡ Some None → OfPeerLeniently route_monitoring (lenient_state peers) h key rest (orphan ∷ []) (lenient_state peers)
+  down_orphan there = orphan_routes (lenient_state peers) h key rest (ap opens_known there) (ap (λ (k : Kept). not (told_known k) && eqb key.kind loc_rib) there)
 
   -- the peer is up
 

@@ -33,6 +33,13 @@ module _ (s : LenientState) where
     untold_opens : s.opens key ≡ None → is_untold s key ≡ true → opens_for s h key ≡ Some (implied_opens h)
     untold_opens none untold = ap (λ (o : Option OpensValue). option_or o (cond (is_untold s key) (Some (implied_opens h)) None)) none ∙ ap (λ (b : Bool). cond b (Some (implied_opens h)) None) untold
 
+    no_opens : s.opens key ≡ None → is_untold s key ≡ false → opens_for s h key ≡ None
+    no_opens none told = ap (λ (o : Option OpensValue). option_or o (cond (is_untold s key) (Some (implied_opens h)) None)) none ∙ ap (λ (b : Bool). cond b (Some (implied_opens h)) None) told
+
+    -- of a peer that isn't up
+    pub orphan_routes : s.opens key ≡ None → is_untold s key ≡ false → OfPeerLeniently route_monitoring s h key rest (orphan ∷ []) s
+    orphan_routes none told = subst (λ (found : Option OpensValue). RoutesUnder (orphan ∷ []) s found) (sym (no_opens none told)) orphaned
+
     -- of a Loc-RIB of which nothing was known
     pub tells_first : (next : LenientState) → s.opens key ≡ None → is_untold s key ≡ true → (taken : FormsValue) (u : UpdateValue) → IsLenientUpdate (implied_opens h) h rest (s.shown key (view_of h)) taken u
         → next ≡ with_shown s key (view_of h) (implied_opens h) taken → OfPeerLeniently route_monitoring s h key rest (up key (implied_info h) ∷ effects_of (routes key (view_of h) u)) next
@@ -73,6 +80,9 @@ module _ (s : LenientState) where
 
     abbrev StatisticsUnder : List EffectValue → LenientState → Option OpensValue → Type 0
     StatisticsUnder effects next found = MatchOption found (IsOrphan s effects next) (λ opens. TellsStatistics s key rest effects next ⊎ IsNoReport s key rest effects next)
+
+    pub orphan_report : s.opens key ≡ None → OfPeerLeniently statistics_report s h key rest (orphan ∷ []) s
+    orphan_report none = subst (λ (o : Option OpensValue). StatisticsUnder (orphan ∷ []) s o) (sym none) orphaned
 
     pub no_report : (opens : OpensValue) → s.opens key ≡ Some opens → is_untold s key ≡ true → ((r : StatisticsValue) → IsStatistics rest r → ⊥) → OfPeerLeniently statistics_report s h key rest (orphan ∷ []) s
     no_report opens is_up untold none = subst (λ (o : Option OpensValue). StatisticsUnder (orphan ∷ []) s o) (sym is_up) (inr (record { untold = untold; none = none; orphaned = orphaned }))

@@ -113,11 +113,11 @@ pub(crate) fn of_type<R: PeerReading, M: Makes>(
             let head = PeerHeader::read(front);
             match head.key() {
                 Some(key) => of_peer::<R, M>(reading, kind, &head, &key, rest),
-                None => Ok(M::passed(reading.alloc())?),
+                None => M::passed(reading.alloc()),
             }
         }
         MessageType::Initiation => made_of::<M>(events::initiation(reading.alloc(), body)),
         MessageType::Termination => made_of::<M>(events::termination(reading.alloc(), body)),
-        MessageType::Unknown => Ok(M::passed(reading.alloc())?),
+        MessageType::Unknown => M::passed(reading.alloc()),
     }
 }

@@ -18,16 +18,15 @@ mod judge;
 mod known;
 
 use crate::dispatch::PeerReading;
-use crate::effects::only;
 use crate::forms::Forms;
-use crate::makes::Makes;
+use crate::makes::{Makes, WithEffects};
 use crate::{BodyReading, events};
 use bgp_update::UpdateReader;
 use bmp_frames::{LOC_RIB, PeerHeader, PeerKey, View};
 use implied::implied_info;
 use known::{UpPeer, show_in};
 use peer_events::read_peer_up;
-use rib_model::{Effect, EffectList, Entry};
+use rib_model::{EffectList, Entry};
 use std::alloc::Global;
 use std::collections::BTreeMap;
 use std::marker::Model;
@@ -118,7 +117,7 @@ impl LenientReading {
         ensures unchanged { OnErr result (self.new ≡ self.old) }
     {
         if !is_loc_rib(key) {
-            return Ok(M::orphan(self.alloc)?);
+            return M::orphan(self.alloc);
         }
         let info = Arc::new(self.alloc, implied_info(self.alloc, head))?;
         let last = Forms::as_agreed();
@@ -138,7 +137,7 @@ impl LenientReading {
                 self.peers.insert(*key, Some(peer))?;
                 Ok(made)
             }
-            Err(BodyFault::Broken) => Ok(M::orphan(self.alloc)?),
+            Err(BodyFault::Broken) => M::orphan(self.alloc),
             Err(BodyFault::NoMemory) => Err(BodyFault::NoMemory),
         }
     }
@@ -193,7 +192,7 @@ impl PeerReading for LenientReading {
             return self.first_routes::<M>(head, key, rest);
         };
         let Some(peer) = known else {
-            return Ok(M::orphan(self.alloc)?);
+            return M::orphan(self.alloc);
         };
         let view = head.view();
         let last = peer.shown(view);
@@ -213,7 +212,7 @@ impl PeerReading for LenientReading {
             }
             Err(BodyFault::Broken) => {
                 if is_untold(key, peer) {
-                    return Ok(M::orphan(self.alloc)?);
+                    return M::orphan(self.alloc);
                 }
                 Err(BodyFault::Broken)
             }
@@ -224,16 +223,16 @@ impl PeerReading for LenientReading {
     // Of a peer that isn't up nothing is read, and what is none of a Loc-RIB that no Peer Up told of is an orphan.
     fn statistics(&self, key: &PeerKey, rest: &[u8]) -> Result<EffectList, BodyFault> {
         let Some(known) = self.peers.get(key) else {
-            return Ok(only(self.alloc, Effect::Orphan)?);
+            return WithEffects::orphan(self.alloc);
         };
         let Some(peer) = known else {
-            return Ok(only(self.alloc, Effect::Orphan)?);
+            return WithEffects::orphan(self.alloc);
         };
         match events::statistics(self.alloc, key, rest) {
             Ok(effects) => Ok(effects),
             Err(BodyFault::Broken) => {
                 if is_untold(key, peer) {
-                    return Ok(only(self.alloc, Effect::Orphan)?);
+                    return WithEffects::orphan(self.alloc);
                 }
                 Err(BodyFault::Broken)
             }

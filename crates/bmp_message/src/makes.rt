@@ -1,4 +1,4 @@
-ghost use Rattle.std.specs.Prelude.{◌≡◌, ⊤, List, [], ◌∷◌, ◌++◌, IfOk, IsErr, IsErrOf, IsOkAnd, MatchResult, Err};
+ghost use Rattle.std.specs.Prelude.{◌≡◌, ⊤, List, [], ◌∷◌, ◌++◌, IfOk, IsErrOf, IsOkAnd, MatchResult, Err};
 ghost use Rattle.std.specs.Arc.{arc_value};
 ghost use Rattle.bmp_specs.specs.LenientBody.{IsLenientUpdate};
 ghost use Rattle.bmp_specs.specs.MessageBody.{IsRouteMonitoring};
@@ -35,14 +35,16 @@ pub(crate) trait Makes {
     ghost wants: { Type 0 };
 
     // Makes it of a message of a peer that isn't up.
-    fn orphan(alloc: Global) -> Result<Self::Made, NoMemory>
+    fn orphan(alloc: Global) -> Result<Self::Made, BodyFault>
         ensures ok { IfOk result (λ made. is_of made (orphan_value ∷ [])) }
-        ensures wants { IsErr result → wants };
+        ensures broken { IsErrOf result BodyFault.Broken → ⊥ }
+        ensures wants { IsErrOf result BodyFault.NoMemory → wants };
 
     // Makes it of a message that is passed over.
-    fn passed(alloc: Global) -> Result<Self::Made, NoMemory>
+    fn passed(alloc: Global) -> Result<Self::Made, BodyFault>
         ensures ok { IfOk result (λ made. is_of made (passed_value ∷ [])) }
-        ensures wants { IsErr result → wants };
+        ensures broken { IsErrOf result BodyFault.Broken → ⊥ }
+        ensures wants { IsErrOf result BodyFault.NoMemory → wants };
 
     // Makes it of the list of the effects.
     fn of(effects: EffectList) -> Self::Made
@@ -117,12 +119,12 @@ impl Makes for WithEffects {
 
     ghost wants = { ⊤ };
 
-    fn orphan(alloc: Global) -> Result<EffectList, NoMemory> {
-        only(alloc, Effect::Orphan)
+    fn orphan(alloc: Global) -> Result<EffectList, BodyFault> {
+        Ok(only(alloc, Effect::Orphan)?)
     }
 
-    fn passed(alloc: Global) -> Result<EffectList, NoMemory> {
-        only(alloc, Effect::Passed)
+    fn passed(alloc: Global) -> Result<EffectList, BodyFault> {
+        Ok(only(alloc, Effect::Passed)?)
     }
 
     fn of(effects: EffectList) -> EffectList {
@@ -174,11 +176,11 @@ impl Makes for WithoutEffects {
 
     ghost wants = { ⊥ };
 
-    fn orphan(_alloc: Global) -> Result<(), NoMemory> {
+    fn orphan(_alloc: Global) -> Result<(), BodyFault> {
         Ok(())
     }
 
-    fn passed(_alloc: Global) -> Result<(), NoMemory> {
+    fn passed(_alloc: Global) -> Result<(), BodyFault> {
         Ok(())
     }
 

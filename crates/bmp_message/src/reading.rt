@@ -11,7 +11,6 @@ ghost use Rattle.rib_model.specs.Entries.{entry_value};
 mod judge;
 
 use crate::dispatch::{PeerReading, of_type};
-use crate::effects::only;
 use crate::makes::{Makes, WithEffects};
 use crate::types::MessageType;
 use crate::{BodyReading, events};
@@ -19,7 +18,7 @@ use bgp_open::PeerInfo;
 use bgp_update::UpdateReader;
 use bmp_frames::{COMMON_HEADER, PeerHeader, PeerKey};
 use peer_events::read_peer_up;
-use rib_model::{Effect, EffectList, Entry};
+use rib_model::{EffectList, Entry};
 use std::alloc::Global;
 use std::collections::BTreeMap;
 use std::marker::Model;
@@ -115,14 +114,14 @@ impl PeerReading for Reading {
     ) -> Result<M::Made, BodyFault> {
         match self.peers.get(key) {
             Some(peer) => M::routes(self.alloc, &mut self.reader, peer, head, key, rest),
-            None => Ok(M::orphan(self.alloc)?),
+            None => M::orphan(self.alloc),
         }
     }
 
     // Where the peer isn't up nothing of it is read.
     fn statistics(&self, key: &PeerKey, rest: &[u8]) -> Result<EffectList, BodyFault> {
         if !self.is_up(key) {
-            return Ok(only(self.alloc, Effect::Orphan)?);
+            return WithEffects::orphan(self.alloc);
         }
         events::statistics(self.alloc, key, rest)
     }

@@ -33,13 +33,16 @@ returns-in-Some-key-clause-broken g c =
     (λ broken. no_meaning r.meaning (message_type_of c.in-OfPeer.kind) (r.state c.args.reading.now) c.args.body.now c.in-Some.front.now c.in-Some.rest.now c.read-head.result cut.0 c.read-head.ensures cut.1 c.in-Some-key.key c.in-Some-key.ensures
     (c.of_peer.ensures.broken broken))
 
-pub returns-in_ok-passed-in-None-clause-ok : goal.returns-in_ok-passed-in-None-clause-ok
-returns-in_ok-passed-in-None-clause-ok g c =
-    rw c.in-OfPeer.is (
+pub returns-in-None-clause-ok : goal.returns-in-None-clause-ok
+returns-in-None-clause-ok g c =
+    rw c.in-OfPeer.is
+    (IfOk-weaker c.passed.result _ _
+    (λ made is. (
       passed ∷ [],
-      c.in_ok-passed-in-None.ensures.ok,
+      is,
       of_unknown g.R.PeerReading.meaning (message_type_of c.in-OfPeer.kind) (g.R.PeerReading.state c.args.reading.now) c.args.body.now c.in-Some.front.now c.in-Some.rest.now c.read-head.result c.in-Some.ensures.cases.0 c.read-head.ensures c.in-None.ensures,
-    )
+    ))
+    c.passed.ensures.ok)
 
 pub returns-in-Initiation-clause-ok : goal.returns-in-Initiation-clause-ok
 returns-in-Initiation-clause-ok g c =
@@ -63,5 +66,5 @@ pub returns-in-Termination-clause-broken : goal.returns-in-Termination-clause-br
 returns-in-Termination-clause-broken g c =
     rw c.in-Termination.is (made_broken g.M.Makes.is_of c.termination.result c.made_of-in-Termination.result c.made_of-in-Termination.ensures (λ broken effects next q. c.termination.ensures.broken broken q.0.0))
 
-pub returns-in_ok-passed-in-Unknown-clause-ok : goal.returns-in_ok-passed-in-Unknown-clause-ok
-returns-in_ok-passed-in-Unknown-clause-ok g c = rw c.in-Unknown.is (passed ∷ [], c.in_ok-passed-in-Unknown.ensures.ok, (refl, refl))
+pub returns-in-Unknown-clause-ok : goal.returns-in-Unknown-clause-ok
+returns-in-Unknown-clause-ok g c = rw c.in-Unknown.is (IfOk-weaker c.passed-in-Unknown.result _ _ (λ made is. (passed ∷ [], is, (refl, refl))) c.passed-in-Unknown.ensures.ok)

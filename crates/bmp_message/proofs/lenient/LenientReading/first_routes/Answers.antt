@@ -1,4 +1,5 @@
 use Rattle.std.proofs.Common.{true, ◌∷◌, [], ◌++◌, Err, sym, ap, subst, ◌∙◌}
+use Rattle.std.proofs.lemmas.Result.{IfOk-weaker}
 use Rattle.std.specs.Arc.{arc_value}
 use Rattle.bmp_specs.specs.LenientBody.{OfPeerLeniently}
 use Rattle.bmp_specs.specs.MessageBody.{route_monitoring}
@@ -6,8 +7,13 @@ use Rattle.bmp_specs.specs.MessageEffects.{effects_of}
 use Rattle.bmp_specs.specs.PeerHeader.{view_of}
 use Rattle.bmp_specs.specs.Values.{orphan, routes}
 use Rattle.bmp_message.specs.Lenient.{KnownPeers, UpPeerValue, known_at, lenient_state, up_if, with_forms}
-use Rattle.bmp_message.proofs.LenientRoutes.{first_tells, first_unreadable}
+use Rattle.bmp_message.proofs.LenientRoutes.{first_of_other, first_tells, first_unreadable}
 use Rattle.bmp_message.proofs.lenient.LenientReading.first_routes.Goals as goal
+
+pub returns-then-not-is_loc_rib-clause-ok : goal.returns-then-not-is_loc_rib-clause-ok
+returns-then-not-is_loc_rib-clause-ok g c =
+    IfOk-weaker c.orphan.result _ _
+    (λ made is. (orphan ∷ [], is, first_of_other c.args.self.now c.args.head.now c.args.key.now c.args.rest.now c.requires (sym c.is_loc_rib.ensures ∙ c.if-not-is_loc_rib.true))) c.orphan.ensures.ok
 
 pub returns-in-Ok-clause-ok : goal.returns-in-Ok-clause-ok
 returns-in-Ok-clause-ok g c =
@@ -23,10 +29,13 @@ returns-in-Ok-clause-ok g c =
     )
 
 pub returns-in-Err-Broken-clause-ok : goal.returns-in-Err-Broken-clause-ok
-returns-in-Err-Broken-clause-ok g c = (
-  orphan ∷ [],
-  c.in_ok-orphan-in-Err-Broken.ensures.ok,
-  subst (λ (v : KnownPeers). OfPeerLeniently route_monitoring (lenient_state c.args.self.now) c.args.head.now c.args.key.now c.args.rest.now (orphan ∷ []) (lenient_state v)) (sym c.self.view_is)
-      (first_unreadable c.args.self.now c.args.head.now c.args.key.now c.args.rest.now c.requires (sym c.is_loc_rib.ensures ∙ c.if-not-is_loc_rib.false) (arc_value c.in_ok-info.info) (c.in_ok-info.ensures.ok ∙ c.implied_info.ensures)
-      c.as_agreed-last.result c.as_agreed-last.ensures (c.in-Err-Broken.ensures.broken (ap Err c.in-Err-Broken.field-0-is))),
-)
+returns-in-Err-Broken-clause-ok g c =
+    IfOk-weaker c.orphan-in-Err-Broken.result _ _
+    (λ made is. (
+      orphan ∷ [],
+      is,
+      subst (λ (v : KnownPeers). OfPeerLeniently route_monitoring (lenient_state c.args.self.now) c.args.head.now c.args.key.now c.args.rest.now (orphan ∷ []) (lenient_state v)) (sym c.self.view_is)
+          (first_unreadable c.args.self.now c.args.head.now c.args.key.now c.args.rest.now c.requires (sym c.is_loc_rib.ensures ∙ c.if-not-is_loc_rib.false) (arc_value c.in_ok-info.info) (c.in_ok-info.ensures.ok ∙ c.implied_info.ensures)
+          c.as_agreed-last.result c.as_agreed-last.ensures (c.in-Err-Broken.ensures.broken (ap Err c.in-Err-Broken.field-0-is))),
+    ))
+    c.orphan-in-Err-Broken.ensures.ok

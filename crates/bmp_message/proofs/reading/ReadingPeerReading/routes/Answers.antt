@@ -30,7 +30,7 @@ returns-in-Some-clause-broken g c broken =
     ∙ ap (λ (i : PeerInfoValue). Some (opens_of i)) (sym c.deref.ensures) in
     no_routes (reading_state c.args.self.now) c.args.head.now c.args.key.now c.args.rest.now (opens_of c.deref.result.now) found (c.routes.ensures.broken broken)
 
-pub returns-in_ok-orphan-in-None-clause-ok : goal.returns-in_ok-orphan-in-None-clause-ok
-returns-in_ok-orphan-in-None-clause-ok g c =
+pub returns-in-None-clause-ok : goal.returns-in-None-clause-ok
+returns-in-None-clause-ok g c =
     let none = ap (λ (s : UpPeers). reading_state s c.args.key.now) (sym c.self.view_is) ∙ found_at c.self.inside.peers.entries c.args.key.now None c.in-None.ensures.value in
-    (orphan ∷ [], c.in_ok-orphan-in-None.ensures.ok, orphan_routes (reading_state c.args.self.now) c.args.head.now c.args.key.now c.args.rest.now (orphan ∷ []) none refl)
+    IfOk-weaker c.orphan.result _ _ (λ made is. (orphan ∷ [], is, orphan_routes (reading_state c.args.self.now) c.args.head.now c.args.key.now c.args.rest.now (orphan ∷ []) none refl)) c.orphan.ensures.ok

@@ -7,7 +7,7 @@ use Rattle.bmp_message.proofs.reading.ReadingPeerReading.statistics.Goals as goa
 
 pub returns-then-not-is_up-clause-ok : goal.returns-then-not-is_up-clause-ok
 returns-then-not-is_up-clause-ok c h =
-    orphan_statistics (reading_state c.args.self.now) h c.args.key.now c.args.rest.now (effect_values c.in_ok-only.field-0) (sym c.is_up.ensures ∙ c.if-not-is_up.true) c.in_ok-only.ensures
+    IfOk-weaker c.orphan.result _ _ (λ made is. orphan_statistics (reading_state c.args.self.now) h c.args.key.now c.args.rest.now (effect_values made) (sym c.is_up.ensures ∙ c.if-not-is_up.true) (sym is)) c.orphan.ensures.ok
 
 pub returns-clause-ok : goal.returns-clause-ok
 returns-clause-ok c h =
