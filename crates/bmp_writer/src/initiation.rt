@@ -28,7 +28,8 @@ fn put_tlv(frame: &mut [u8], at: usize, kind: u16, value: &[u8]) -> usize
     put(frame, at, value)
 }
 
-// Appends the message. It is put together in room for the longest.
+// Appends the message. It is put together in room for the longest, whose size is a parameter, since the prover writes out
+// an array of a known size in each goal.
 fn put_in<const N: usize>(out: &mut ByteList, name: &[u8], descr: &[u8]) -> Result<(), NoMemory>
     requires room { N ≡ 131084 }
     requires name { length name.now ≤ 65535 }
