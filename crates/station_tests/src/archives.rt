@@ -333,10 +333,6 @@ const TWO_MESSAGES: &[u8] = b"at 3\nlane 0 3\nend 1\nstop ended\n";
 
 const NO_ARCHIVE: &[u8] = b"badarchive 0\n";
 
-const NO_SECOND_RECORD: &[u8] = b"badarchive 25\n";
-
-const NO_END: &[u8] = b"badarchive 184\n";
-
 const KEPT_NOTHING: &[u8] = b"kept 0\n";
 
 const KEPT_ONE: &[u8] = b"kept 20\n";
@@ -385,63 +381,6 @@ fn each_call_of_a_disk_fails(rt: HostRuntime) -> Result<(), Fail> {
     for failing in 0..20 {
         let is_front = leaves_a_front(&rt, rt.alloc(), failing, failing < CALLS);
         assert!(rt; is_front == Some(true), "call {failing}");
-    }
-    Ok(())
-}
-
-// Puts the file in which a Peer Up was being kept after an Initiation, where both were kept in these bytes: another byte
-// between the two, and so many bytes of what comes after it.
-fn put_torn(file: &mut ByteList, both: &[u8], gate: u8, count: usize) -> Option<()> {
-    file.extend(both.get(..25)?).ok()?;
-    file.extend(&[gate]).ok()?;
-    let rest = both.get(26..)?;
-    file.extend(rest.get(..count)?).ok()
-}
-
-// How many bytes that are, where all are there.
-const REST: usize = 159;
-
-// What is written of such a file: with the Peer Up where the byte is 1, which needs all that follows. Without its last byte
-// both records are whole, and nothing closes them.
-fn wanted(gate: u8, count: usize) -> &'static [u8] {
-    if gate != 1 {
-        ONE_MESSAGE
-    } else if count == REST {
-        TWO_MESSAGES
-    } else if count == REST - 1 {
-        NO_END
-    } else {
-        NO_SECOND_RECORD
-    }
-}
-
-// Whether that is written.
-fn is_recalled<R: Threads + Wait + Sync>(
-    rt: &R,
-    alloc: Global,
-    both: &[u8],
-    gate: u8,
-    count: usize,
-) -> Option<bool> {
-    let mut file = ByteList::new(alloc);
-    put_torn(&mut file, both, gate, count)?;
-    let left = recalled(rt, alloc, file.as_slice())?;
-    Some(left.out.taken() == wanted(gate, count))
-}
-
-#[test]
-fn torn_files_are_recalled(rt: HostRuntime) -> Result<(), Fail> {
-    let both = bytes(rt.alloc(), BOTH).ok_or("no memory")?;
-    let both = both.as_slice();
-    for gate in 0..=255u8 {
-        let right = is_recalled(&rt, rt.alloc(), both, gate, REST);
-        assert!(rt; right == Some(true), "byte {gate}");
-    }
-    for count in 0..REST {
-        for gate in 0..2u8 {
-            let right = is_recalled(&rt, rt.alloc(), both, gate, count);
-            assert!(rt; right == Some(true), "byte {gate}, {count} bytes");
-        }
     }
     Ok(())
 }
