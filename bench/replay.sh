@@ -6,8 +6,9 @@
 # OTHER is a program that takes the same words and writes the same bytes, as bench/plain/target/release/plain does
 # (bench/plain/README.md). The stream is that of one peer with so many IPv4 prefixes (1,000,000), and a fifth as many
 # of IPv6 (`bench/table`). It comes with its UPDATEs in prefix order, and shuffled. The two run in turn on one
-# stream, from a file in the cache, with their output to /dev/null. A round has each command once, and there are ROUNDS
-# (5), so that a busy minute of the host doesn't fall on one command alone. Prints for each command the
+# stream, from a file in the cache, with their output to /dev/null. A round has each command once, in an order drawn
+# from its number, and there are ROUNDS (5): a busy minute of the host, or memory that the program before has left,
+# then doesn't fall on one command alone. Prints for each command the
 # least processor times and the peak memories, and their ratios: below 1 ours is the better. The prefix, the
 # address and the origin that are asked for stand in the stream, in the middle of its IPv4 prefixes. The bytes
 # of the two are compared for each command, and for more of them that aren't measured. At the end come the
@@ -70,11 +71,10 @@ for order in sorted shuffled; do
 
     commands=("check" "replay count" "replay table" "replay cut" "replay peers" "replay routers"
         "replay match ${prefix%/*}" "replay prefix $prefix" "replay within ${prefix%%.*}.0.0.0/8" "replay origin $origin")
-    for _ in $(seq "$rounds"); do
-        for command in "${commands[@]}"; do
-            read -ra words <<<"$command"
+    for round in $(seq "$rounds"); do
+        while read -ra words; do
             measure "${words[@]}"
-        done
+        done < <(printf '%s\n' "${commands[@]}" | shuf --random-source=<(yes "$round"))
     done
     for command in "${commands[@]}"; do
         read -ra words <<<"$command"
