@@ -2,7 +2,7 @@
 ghost use Rattle.std.specs.Prelude.{◌≡◌, ◌+◌, ◌<◌, ◌≤◌, ◌^◌, ◌∷◌, [], IsTrue, length, MatchResult};
 ghost use Rattle.bmp_specs.specs.Life.{cause_at_end};
 ghost use Rattle.bmp_specs.specs.Values.{closed};
-ghost use Rattle.bmp_message.specs.StreamWalk.{rest_of};
+ghost use Rattle.bmp_message.specs.StreamWalk.{HasReached, fed_of, rest_of};
 ghost use Rattle.station_doors.specs.Doors.{Closes};
 ghost use Rattle.feed_worker.specs.Connection.{IsNew, TakesConnection, BreaksConnection};
 ghost use Rattle.feed_worker.specs.Publishing.{Grows};
@@ -47,18 +47,38 @@ pub fn take_connection<B: BodyReading + Drop, J: Naming, P: FeedPort<B, J>, R: W
     ensures { MatchResult result (TakesConnection B.meaning (P.aside port.old) (P.aside port.new) pass.old pass.new)
         (λ _. BreaksConnection B.meaning (P.last_began port.new) (P.aside port.old) (P.aside port.new) pass.old pass.new) }
 {
-    publish_entries(rt, alloc, publisher, pass, &[Entry::Opened])?;
     let mut walk = StreamWalk::<B>::new(alloc);
+    take_by::<B, J, P, R>(rt, alloc, publisher, pass, port, &mut walk)
+}
+
+/// Does so by a walk to which nothing was fed.
+fn take_by<B: BodyReading + Drop, J: Naming, P: FeedPort<B, J>, R: Wait>(
+    rt: &R,
+    alloc: Global,
+    publisher: &Publisher<RouterTables, J>,
+    pass: &mut FeedPass<RouterTables>,
+    port: &mut P,
+    walk: &mut StreamWalk<B>,
+) -> Result<Cause, NoMemory>
+    requires station { pass.old.station ≡ J.site }
+    requires room { length pass.old.entries + 2 ^ 44 ≤ 2 ^ 57 }
+    requires new { IsNew (P.aside port.old) }
+    requires unfed { HasReached B.meaning B.state [] [] walk.old }
+    requires start { (walk.old.offset ≡ 0) × (fed_of walk.old ≡ 0) }
+    ensures { MatchResult result (TakesConnection B.meaning (P.aside port.old) (P.aside port.new) pass.old pass.new)
+        (λ _. BreaksConnection B.meaning (P.last_began port.new) (P.aside port.old) (P.aside port.new) pass.old pass.new) }
+{
+    publish_entries(rt, alloc, publisher, pass, &[Entry::Opened])?;
     let mut buf = [0u8; MOST_READ as usize];
     let mut taken = 0;
     while taken < MOST_TAKEN {
         let size = MOST_READ.min(MOST_TAKEN - taken) as usize;
         match port.read(pass, &mut buf[..size]) {
-            Ok(0) => return Ok(cause_of_end(&walk)),
+            Ok(0) => return Ok(cause_of_end(walk)),
             Ok(count) => {
                 taken += count as u64;
                 let piece = &buf[..count];
-                if let Some(cause) = publish_piece(rt, alloc, publisher, pass, &mut walk, piece)? {
+                if let Some(cause) = publish_piece(rt, alloc, publisher, pass, walk, piece)? {
                     return Ok(cause);
                 }
             }

@@ -1,6 +1,6 @@
 use Rattle.std.proofs.Common.{◌≡◌, ◌-◌, ◌≤◌, length}
 use Rattle.feed_worker.proofs.Taking.{Taking}
-use Rattle.feed_worker.proofs.connection.take_connection.Given as goal
+use Rattle.feed_worker.proofs.connection.take_by.Given as goal
 
 abbrev pub invariant-loop-taken : goal.invariant-loop-taken
 invariant-loop-taken g l = record {

@@ -2,7 +2,7 @@ use Rattle.std.proofs.Common.{rules, ◌≡◌, ◌<◌, ◌≤◌, ◌+◌, ◌
 use Rattle.std.proofs.lemmas.List.{take-append-le}
 use Rattle.feed_worker.specs.Connection.{BreaksConnection}
 use Rattle.feed_worker.proofs.Taking.{taking_none, taking_more, is_published, ends, ends_early, faults, fills, breaks, breaks_none}
-use Rattle.feed_worker.proofs.connection.take_connection.Goals as goal
+use Rattle.feed_worker.proofs.connection.take_by.Goals as goal
 
 pub returns-in_err-publish_entries : goal.returns-in_err-publish_entries
 returns-in_err-publish_entries g c =
@@ -12,13 +12,28 @@ returns-in_err-publish_entries g c =
 
 pub loop-taken-init : goal.loop-taken-init
 loop-taken-init g c = record {
-  taking = taking_none g.B.BodyReading.meaning g.B.BodyReading.state (g.P.FeedPort.aside c.args.port.now) c.args.pass.now c.publish_entries.new.pass c.new-walk.result c.requires.new c.in_ok-publish_entries.ensures c.new-walk.ensures.run c.new-walk.ensures.start;
+  taking = taking_none g.B.BodyReading.meaning g.B.BodyReading.state (g.P.FeedPort.aside c.args.port.now) c.args.pass.now c.publish_entries.new.pass c.args.walk.now c.requires.new c.in_ok-publish_entries.ensures c.requires.unfed c.requires.start;
   within = omega arith;
   room = refl;
 }
 
 pub read-requires-clause-published : goal.read-requires-clause-published
 read-requires-clause-published g c = is_published g.B.BodyReading.meaning g.B.BodyReading.state _ _ _ _ _ _ c.loop-taken.invariant.taking c.requires.new
+
+pub publish_piece-requires-clause-room : goal.publish_piece-requires-clause-room
+publish_piece-requires-clause-room g c =
+    let l = c.loop-taken in
+    let m = c.in-Ok.count in
+    let buf = c.read.new.buf in
+    let t = l.invariant.taking in
+    let within : m ≤ length buf = omega (arith, c.in-Ok.ensures.bound.0) in
+    record {
+      first = c.args.pass.now;
+      room = c.requires.room;
+      fed = t.bytes;
+      within = omega (arith, t.goes.count, within, length-take c.min-size.result l.buf, length-take m (buf ++ drop c.min-size.result l.buf));
+      published = t.published;
+    }
 
 pub returns-in-Ok-eq0 : goal.returns-in-Ok-eq0
 returns-in-Ok-eq0 g c =
