@@ -1,5 +1,5 @@
 -- Where the next line ends.
-use Rattle.std.proofs.Common.{◌≡◌, ◌≢◌, ◌⊎◌, inl, inr, ℕ, ◌+◌, ◌-◌, ◌<◌, ◌≤◌, eqb, nat_eq, cond, Bool, true, false, length, take, get_or, List, [], ◌∷◌, ◌++◌, refl, ap, sym, ◌∙◌, subst, append_assoc, append-nil, length-append, length-take, arith}
+use Rattle.std.proofs.Common.{◌≡◌, ◌≢◌, ◌↔◌, ◌⊎◌, inl, inr, ℕ, ◌+◌, ◌-◌, ◌<◌, ◌≤◌, eqb, nat_eq, nat_lt, IsTrue, cond, Bool, true, false, length, take, get_or, List, [], ◌∷◌, ◌++◌, refl, ap, sym, ◌∙◌, subst, append_assoc, append-nil, length-append, length-take, arith}
 use Rattle.std.proofs.lemmas.Bool.{cases_lt}
 use Rattle.std.proofs.lemmas.Bool.Decides.{nat_tests}
 use Rattle.ask_session.specs.Lines.{HasNoEnd, IsTooMany, chomped, EndsLine, IsLast}
@@ -51,6 +51,10 @@ few_fit bytes few = elim (cases_lt (length bytes) 1026) [
   | inl fits ↦ fits
   | inr long ↦ absurd (few (omega (arith, long, chomped_longer bytes)))
 ]
+
+-- the test of the line without a carriage return at its end
+pub tells_many : (bytes body : List ℕ) → body ≡ chomped bytes → IsTrue (nat_lt 1024 (length body)) ↔ IsTooMany bytes
+tells_many bytes body is = (λ t. grind (arith, nat_tests, ap length is, t), λ many. grind (arith, nat_tests, ap length is, many))
 
 pub many_long : (bytes : List ℕ) → IsTooMany bytes → 1024 < length bytes
 many_long bytes many = omega (arith, many, chomped_shorter bytes)

@@ -1,5 +1,6 @@
 -- One byte and one piece of the input after another.
 use Rattle.std.proofs.Common.{◌≡◌, ◌≢◌, inl, inr, ℕ, ◌+◌, ◌<◌, Bool, true, false, length, take, drop, get_or, List, [], ◌∷◌, ◌++◌, Option, None, Some, refl, ap, sym, ◌∙◌, subst, append_assoc, append-nil, drop-cons, suc, arith}
+use mathlib.Core.Bool.{false≢true}
 use Rattle.std.proofs.lemmas.List.{take_more, take-append-drop}
 use Rattle.std.specs.Io.KnownBytes.{Appends}
 use Rattle.cut_publisher.specs.History.{Begins, revision}
@@ -8,7 +9,7 @@ use Rattle.wire_io.proofs.Joins.{appends_then, appends_none}
 use Rattle.ask_session.specs.declared.close.Close.{Close}
 use Rattle.ask_session.specs.declared.close.Close.TheVariants.{Ended, Full, Over, ReadFault, WriteFault}
 use Rattle.ask_session.specs.Lines.{HasNoEnd, IsTooMany, chomped}
-use Rattle.ask_session.specs.Replies.{History, Heard, too_long, unknown, asked, over, IsHeard}
+use Rattle.ask_session.specs.Replies.{History, Heard, too_long, unknown, asked, over, is_over, IsHeard}
 use Rattle.ask_session.specs.Dialogue.{Dialogue}
 use Rattle.ask_session.specs.Connection.{HasWritten}
 use Rattle.ask_session.specs.Hearing.{IsEarly, IsEnd, Replied, Goes, Halts, EndsSo}
@@ -68,6 +69,10 @@ module _ (lanes : ℕ) where
   is_too_long line unknown is long = absurd (omega (arith, is.0))
   is_too_long line (asked q) is long = absurd (omega (arith, is.0))
   is_too_long line over is long = absurd (omega (arith, is.0))
+
+  -- after it the connection doesn't go on
+  pub long_ends : (seen : History) (line : List ℕ) (a b : Option (List ℕ)) (n0 n1 : ℕ) → IsTooMany line → Replied lanes line seen a b n0 n1 None → ⊥
+  long_ends seen line a b n0 n1 many r = false≢true (sym r.answers.0 ∙ ap is_over (is_too_long line r.heard r.is_heard (many_long line many)))
 
   halts_long : (close : Close) (ended : Bool) (seen seen' : History) (pending t : List ℕ) (a b : Option (List ℕ)) (n0 n1 : ℕ) → Begins seen seen' → HasNoEnd pending → IsTooMany pending → Replied lanes pending seen' a b n0 n1 (Some close) → Halts lanes close ended seen seen' (pending ++ t) a b n0 n1
   halts_long close ended seen seen' pending t a b n0 n1 sees plain many r =

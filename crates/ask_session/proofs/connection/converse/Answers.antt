@@ -11,7 +11,7 @@ pub returns-in-Ok-eq0-clause-talk : goal.returns-in-Ok-eq0-clause-talk
 returns-in-Ok-eq0-clause-talk g c =
     let e = c.in-Ok-eq0.ensures in
     let zero : c.in-Ok-eq0.field-0 ≡ 0 = c.in-Ok-eq0.field-0-test in
-    let room : 0 < length c.read.new.buf = search rules in
+    let room : 0 < length c.read.new.buf = omega (arith, length-take c.min-room.result c.loop-taken.buf) in
     let none : take c.in-Ok-eq0.field-0 c.read.new.buf ≡ [] = ap (λ (n : ℕ). take n c.read.new.buf) zero in
     let piece = piece_ok (g.K.Sink.aside c.loop-taken.link) (g.K.Sink.aside c.read.new.self) c.in-Ok-eq0.field-0 c.read.new.buf e.reads (ap length none ∙ sym zero) in
     conversed_end c.args.pass.now.station.lanes c.loop-taken.pass.station.lanes (ap (λ (x : Site). x.lanes) c.loop-taken.invariant.sees.station) _ _ _ _ _ _ _ _ _ _ _ _ _ _ _ _ _ _ _ c.loop-taken.invariant.lives piece e.told e.calm e.reads.cause.fine
@@ -20,15 +20,14 @@ returns-in-Ok-eq0-clause-talk g c =
 pub returns-in-Some-clause-talk : goal.returns-in-Some-clause-talk
 returns-in-Some-clause-talk g c =
     let e = c.in-Ok.ensures in
-    let within : c.in-Ok.n ≤ length c.read.new.buf = search rules in
-    let len : length (take c.in-Ok.n c.read.new.buf) ≡ c.in-Ok.n = search rules in
-    let some : c.in-Ok.n ≢ 0 = search rules in
-    let short : length (take c.in-Ok.n c.read.new.buf) ≤ most_heard = search rules in
-    let same : take c.in-Ok.n (c.read.new.buf ++ drop c.min-room.result c.loop-taken.buf) ≡ take c.in-Ok.n c.read.new.buf = take-append-le c.in-Ok.n c.read.new.buf (drop c.min-room.result c.loop-taken.buf) within in
+    let len : length (take c.in-Ok.n c.read.new.buf) ≡ c.in-Ok.n = sym e.bound.1 in
+    let some : c.in-Ok.n ≢ 0 = c.in-Ok.n-test.1 in
+    let short : length (take c.in-Ok.n c.read.new.buf) ≤ most_heard = omega (arith, len, e.bound.0, length-take c.min-room.result c.loop-taken.buf) in
+    let same : take c.in-Ok.n (c.read.new.buf ++ drop c.min-room.result c.loop-taken.buf) ≡ take c.in-Ok.n c.read.new.buf = take-append-le c.in-Ok.n c.read.new.buf (drop c.min-room.result c.loop-taken.buf) e.bound.0 in
     let hears = rw same at c.in-Some.ensures.hears in
     let piece = piece_ok (g.K.Sink.aside c.loop-taken.link) (g.K.Sink.aside c.read.new.self) c.in-Ok.n c.read.new.buf e.reads len in
     conversed_early c.args.pass.now.station.lanes c.loop-taken.pass.station.lanes (ap (λ (x : Site). x.lanes) c.loop-taken.invariant.sees.station) _ _ _ _ _ _ _ _ _ _ _ _ _ _ _ _ _ _ _ c.loop-taken.invariant.lives piece e.told e.calm e.reads.cause.fine
-    (search rules) c.in-Some.ensures.kept c.in-Some.close hears.0 (read_some c.in-Ok.n some) short hears.1
+    (omega (arith, len, e.bound.0, length-take c.min-room.result c.loop-taken.buf)) c.in-Some.ensures.kept c.in-Some.close hears.0 (read_some c.in-Ok.n some) short hears.1
 
 pub returns-in-Err-clause-talk : goal.returns-in-Err-clause-talk
 returns-in-Err-clause-talk g c = conversed_fault c.args.pass.now.station.lanes _ _ c.loop-taken.pass.seen (g.K.Sink.aside c.args.link.now) (g.K.Sink.aside c.loop-taken.link) (g.K.Sink.aside c.read.new.self) _ _ _ _ _ _ _ _ c.loop-taken.invariant.lives
@@ -47,16 +46,15 @@ loop-taken-init g c = record {
 pub loop-taken-preserved : goal.loop-taken-preserved
 loop-taken-preserved g c =
     let e = c.in-Ok.ensures in
-    let within : c.in-Ok.n ≤ length c.read.new.buf = search rules in
-    let len : length (take c.in-Ok.n c.read.new.buf) ≡ c.in-Ok.n = search rules in
-    let some : c.in-Ok.n ≢ 0 = search rules in
-    let same : take c.in-Ok.n (c.read.new.buf ++ drop c.min-room.result c.loop-taken.buf) ≡ take c.in-Ok.n c.read.new.buf = take-append-le c.in-Ok.n c.read.new.buf (drop c.min-room.result c.loop-taken.buf) within in
+    let len : length (take c.in-Ok.n c.read.new.buf) ≡ c.in-Ok.n = sym e.bound.1 in
+    let some : c.in-Ok.n ≢ 0 = c.in-Ok.n-test.1 in
+    let same : take c.in-Ok.n (c.read.new.buf ++ drop c.min-room.result c.loop-taken.buf) ≡ take c.in-Ok.n c.read.new.buf = take-append-le c.in-Ok.n c.read.new.buf (drop c.min-room.result c.loop-taken.buf) e.bound.0 in
     let hears = rw same at c.in_default.ensures.hears in
     let piece = piece_ok (g.K.Sink.aside c.loop-taken.link) (g.K.Sink.aside c.read.new.self) c.in-Ok.n c.read.new.buf e.reads len in
     record {
       sees = sees_then c.args.pass.now c.loop-taken.pass c.hear.new.pass c.loop-taken.invariant.sees c.in_default.ensures.sees;
       lives = lives_next c.args.pass.now.station.lanes c.loop-taken.pass.station.lanes (ap (λ (x : Site). x.lanes) c.loop-taken.invariant.sees.station) _ _ _ _ _ _ _ _ _ _ _ _ _ _ _ _ _ _ _ c.loop-taken.invariant.lives piece e.told e.calm e.reads.cause.fine
-          (search rules) c.in_default.ensures.kept c.hear.new.line c.in-Ok.n (sym len) (read_some c.in-Ok.n some) hears;
+          (omega (arith, len, e.bound.0, length-take c.min-room.result c.loop-taken.buf)) c.in_default.ensures.kept c.hear.new.line c.in-Ok.n (sym len) (read_some c.in-Ok.n some) hears;
     }
 
 pub returns-in-Ok-eq0-clause-sees : goal.returns-in-Ok-eq0-clause-sees
