@@ -1,13 +1,12 @@
 -- What reads leave of what a link tells.
-use Rattle.std.proofs.Common.{◌≡◌, ℕ, nat_eq, cond, Bool, true, false, ◌+◌, ◌^◌, ◌<◌, length, take, List, [], ◌++◌, Option, None, Some, Result, Ok, Err, refl, ap, sym, ◌∙◌, subst, append_assoc, length-append, arith}
+use Rattle.std.proofs.Common.{◌≡◌, ℕ, nat_eq, cond, Bool, true, false, ◌+◌, ◌^◌, ◌<◌, length, take, List, [], ◌++◌, Option, None, Some, Result, Ok, Err, refl, ap, ◌∙◌, subst, length-append, arith}
 use Rattle.std.proofs.lemmas.Bool.Decides.{nat_tests}
-use Rattle.std.specs.Prelude.{IfSome}
-use Rattle.std.specs.Io.KnownBytes.{Consumes, Keeps}
+use Rattle.std.specs.Io.KnownBytes.{Consumes}
 use Rattle.bmp_specs.specs.Life.{LastRead, gave, gave_none, failed, Given}
-use Rattle.station_doors.specs.Doors.{Reads, AsPlanned, GivesBytes, read_of, GivesMore}
+use Rattle.station_doors.specs.Doors.{Reads, GivesBytes, read_of, GivesMore}
 use Rattle.station_doors.proofs.Sessions.{given_more_last}
 use Rattle.station_doors.proofs.ReadLaws.{consumes_then, keeps_consumes}
-use Rattle.wire_io.specs.Aside.{Aside, Plan, fresh}
+use Rattle.wire_io.specs.Aside.{Aside, fresh}
 use Rattle.wire_io.specs.declared.sink.Failed.{Failed}
 use Rattle.ask_session.specs.Connection.{GivesInput, Stays, ReadsInput}
 

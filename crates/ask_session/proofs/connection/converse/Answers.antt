@@ -1,4 +1,4 @@
-use Rattle.std.proofs.Common.{◌≡◌, ◌<◌, ◌≤◌, ◌++◌, ℕ, length, take, drop, arith, rules, sym, ap, length-take, [], ◌≢◌, ◌∙◌}
+use Rattle.std.proofs.Common.{◌≡◌, ◌<◌, ◌≤◌, ◌++◌, ℕ, length, take, drop, arith, sym, ap, length-take, [], ◌≢◌, ◌∙◌}
 use Rattle.std.proofs.lemmas.List.{take-append-le}
 use Rattle.cut_publisher.specs.History.{Site}
 use Rattle.station_doors.specs.Doors.{read_of, most_heard}
