@@ -15,6 +15,9 @@ returns-in_default-clause-refused g c =
       c.in_default.ensures.calls,
     )
 
+pub returns-in_default-clause-listened : goal.returns-in_default-clause-listened
+returns-in_default-clause-listened g c = c.in_default.ensures.listened
+
 pub loop-lane-init : goal.loop-lane-init
 loop-lane-init g c = record {
   ports = ap (λ (l : List g.row.Y-Port.Denot). length l) c.requires.ports.0;
