@@ -1,5 +1,6 @@
 -- The works of a station, from its opening to its end.
-use Rattle.std.proofs.Common.{◌≡◌, ℕ, zero, suc, ◌+◌, ◌<◌, List, [], ◌∷◌, length, map, get_or, Bool, IsTrue, Option, refl, sym, ap, ◌∙◌, subst, arith}
+use Rattle.std.proofs.Common.{◌≡◌, ℕ, zero, suc, ◌+◌, ◌<◌, List, [], ◌∷◌, ◌++◌, length, map, take, drop, get_or, Bool, IsTrue, Option, refl, sym, ap, ◌∙◌, subst, arith, append-nil, take_all}
+use Rattle.std.proofs.lemmas.List.{drop_all}
 use Rattle.std.specs.List.{AllByRecursion}
 use Rattle.bmp_specs.specs.Meaning.{Meaning}
 use Rattle.cut_publisher.specs.History.{Asker, Begins, Fed, Site, part, revision}
@@ -34,6 +35,14 @@ Pairs R [] [] = Unit {0}
 Pairs R [] (y ∷ ys) = ⊥
 Pairs R (x ∷ xs) [] = ⊥
 Pairs R (x ∷ xs) (y ∷ ys) = R x y × Pairs R xs ys
+
+-- works that were done as the slice of a whole list are done in the list
+pub done_within : {W : Type 0} (done : W → W → Type 0) (old works : List W) (n : ℕ) → n ≡ length old → AreDone done old works → AreDone done old (take n (works ++ drop (length works) old))
+done_within {W} done old works n e d =
+    let count = d.count in
+    let none = drop_all (length works) old (omega (arith, count)) in
+    let all = take_all n works (omega (arith, count, e)) in
+    subst (λ (l : List W). AreDone done old l) (sym (ap (λ (l : List W). take n (works ++ l)) none ∙ ap (λ (l : List W). take n l) (append-nil works) ∙ all)) d
 
 pub pairs_of : {W : Type 0} (done : W → W → Type 0) (xs ys : List W) → AreDone done xs ys → Pairs done xs ys
 pairs_of done [] [] d = tt
