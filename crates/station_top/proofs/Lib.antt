@@ -6,6 +6,7 @@ pub mod Coming
 pub mod Below
 pub mod CheckCounts
 pub mod Replaying
+pub mod Statuses
 pub mod Concluding
 pub mod Through
 pub mod Drilling

@@ -13,6 +13,12 @@ returns-in-Ok-clause-answers g c =
     answers_called _ c.in-Ok.call (map string_bytes c.args.words.now) (g.Y.Yard.seen c.args.yard.now).told (g.Y.Yard.seen after.yard).told (g.Y.Yard.seen c.args.yard.now).calls (g.Y.Yard.seen after.yard).calls (g.O.Sink.told c.args.out.now) (g.O.Sink.told after.out) c.run_call.result
     c.in-Ok.ensures.ok c.run_call.ensures.concludes
 
+pub returns-in-Ok-clause-out : goal.returns-in-Ok-clause-out
+returns-in-Ok-clause-out g c = c.run_call.ensures.out
+
+pub returns-in-Ok-clause-yard : goal.returns-in-Ok-clause-yard
+returns-in-Ok-clause-yard g c = c.run_call.ensures.yard
+
 pub returns-in-Err-Usage-clause-answers : goal.returns-in-Err-Usage-clause-answers
 returns-in-Err-Usage-clause-answers g c =
     let line : c.as_bytes.result.now ≡ usage_line = c.as_bytes.ensures.value in
