@@ -51,7 +51,7 @@ pub fn take_connection<B: BodyReading + Drop, J: Naming, P: FeedPort<B, J>, R: W
     take_by::<B, J, P, R>(rt, alloc, publisher, pass, port, &mut walk)
 }
 
-/// Does so by a walk to which nothing was fed.
+// Takes it by a walk to which nothing was fed yet.
 fn take_by<B: BodyReading + Drop, J: Naming, P: FeedPort<B, J>, R: Wait>(
     rt: &R,
     alloc: Global,
