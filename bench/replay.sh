@@ -74,7 +74,7 @@ for order in sorted shuffled; do
     for round in $(seq "$rounds"); do
         while read -ra words; do
             measure "${words[@]}"
-        done < <(printf '%s\n' "${commands[@]}" | shuf --random-source=<(yes "$round"))
+        done < <(printf '%s\n' "${commands[@]}" | awk -v seed="$round" 'BEGIN { srand(seed) } { print rand() "\t" $0 }' | sort | cut -f 2-)
     done
     for command in "${commands[@]}"; do
         read -ra words <<<"$command"
