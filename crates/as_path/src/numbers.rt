@@ -179,7 +179,7 @@ impl Numbers {
     }
 
     /// Appends the number. Out of memory, the list is as before.
-    #[inline]
+    #[inline(always)]
     pub fn push(&mut self, number: u32) -> Result<(), Unplaced<u32>>
         ensures ok { OnOk result (self.new ≡ self.old ++ number ∷ []) }
         ensures err { OnErr result (self.new ≡ self.old) }

@@ -175,7 +175,7 @@ impl<T> List<T> {
 
 impl<T: Drop> List<T> {
     /// Appends the item. Out of memory, the list is as before.
-    #[inline]
+    #[inline(always)]
     pub fn push(&mut self, item: T) -> Result<(), Unplaced<T>>
         ensures ok { OnOk result (self.new ≡ self.old ++ item ∷ []) }
         ensures err { OnErr result (self.new ≡ self.old) }
