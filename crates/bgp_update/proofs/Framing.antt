@@ -1,5 +1,6 @@
 -- The frame of the body of an UPDATE message, and the prefixes at its places.
-use Rattle.std.proofs.Common.{◌≡◌, ℕ, Bool, List, [], ◌∷◌, ◌++◌, option_map, option_to_list, Option, Some, refl, sym, ap, subst, ◌∙◌, append-nil, append_assoc}
+use Rattle.std.proofs.Common.{◌≡◌, ℕ, List, [], ◌∷◌, ◌++◌, option_map, option_to_list, Option, Some, None, refl, sym, ap, subst, ◌∙◌, append-nil, append_assoc}
+use Rattle.std.specs.Prelude.{MatchOption}
 use Rattle.bmp_specs.specs.declared.wire.Family.{Family}
 use Rattle.bmp_specs.specs.declared.wire.Family.TheVariants.{V4}
 use Rattle.bmp_specs.specs.declared.wire.IdUse.{IdUse}
@@ -9,6 +10,7 @@ use Rattle.bmp_specs.specs.FramedUpdate.{FramedValue, IsFramed, PlaceValue, plac
 use Rattle.bmp_specs.specs.Nlri.{AreNlri}
 use Rattle.bmp_specs.specs.Parts.{AreParts}
 use Rattle.bmp_specs.specs.TreatAsWithdraw.{ArePlaced}
+use Rattle.bmp_specs.specs.Update.{AreMpNlri}
 use Rattle.bmp_specs.specs.Values.{MpValue, NlriValue}
 use Rattle.bmp_specs.proofs.UpdateOne.{UpdateFields, fields_one}
 use Rattle.path_attrs.specs.Framed.{HasNoFrame}
@@ -27,21 +29,21 @@ placed_split ids (place ∷ ps) qs ns (here, there, are, p, e) =
     let q = placed_split ids ps qs there p in
     (here ++ q.0, q.1, (here, q.0, are, q.2, refl), q.3, e ∙ ap (λ (l : List NlriValue). here ++ l) q.4 ∙ sym (append_assoc here q.0 q.1))
 
--- those in a multiprotocol attribute of a family that is read
-pub placed_in : (ids : IdUse) (m : MpValue) (part : Option MpValue) (family : Family) (identified : Bool) (prefixes : List ℕ) → part ≡ Some m → Some family ≡ unicast_family m.afi m.safi → identified ≡ uses_ids ids family
-    → prefixes ≡ m.prefixes → (ns : List NlriValue) → ArePlaced ids (place_in part) ns → AreNlri family identified prefixes ns
-placed_in ids m part family identified prefixes here is used bytes ns p =
-    let there = subst (λ (o : Option MpValue). ArePlaced ids (place_in o) ns) here p in
-    let alone : ArePlaced ids (record { family = family; prefixes = m.prefixes } ∷ []) ns =
-    subst (λ (o : Option Family). ArePlaced ids (option_to_list (option_map (λ f. record { family = f; prefixes = m.prefixes }) o)) ns) (sym is) there in
-    let all : ns ≡ alone.0 = alone.4 ∙ ap (λ (l : List NlriValue). alone.0 ++ l) alone.3 ∙ append-nil alone.0 in
-    let moved = subst (λ (l : List NlriValue). AreNlri family (uses_ids ids family) m.prefixes l) (sym all) alone.2 in
-    subst (λ (b : Bool). AreNlri family b prefixes ns) (sym used) (subst (λ (l : List ℕ). AreNlri family (uses_ids ids family) l ns) (sym bytes) moved)
+-- those in a multiprotocol attribute are its items
+pub placed_in : (ids : IdUse) (part : Option MpValue) (ns : List NlriValue) → ArePlaced ids (place_in part) ns → AreMpNlri ids part ns
+placed_in ids None ns p = p
+placed_in ids (Some m) ns p = at (unicast_family m.afi m.safi) p
+  where
+    at : (o : Option Family) → ArePlaced ids (option_to_list (option_map (λ f. record { family = f; prefixes = m.prefixes }) o)) ns
+        → MatchOption o (ns ≡ []) (λ family. AreNlri family (uses_ids ids family) m.prefixes ns)
+    at None p = p
+    at (Some family) (here, there, are, none, e) =
+        subst (λ (l : List NlriValue). AreNlri family (uses_ids ids family) m.prefixes l) (sym (e ∙ ap (λ (l : List NlriValue). here ++ l) none ∙ append-nil here)) are
 
 -- a list that the prefixes at all places were added to, one place after another
 pub contained_are : (ids : IdUse) (f : FramedValue) (first second third fourth last : List NlriValue) → ((ns : List NlriValue) → AreNlri V4 (uses_ids ids V4) f.withdrawn_routes ns → second ≡ first ++ ns)
-    → ((ns : List NlriValue) → ArePlaced ids (place_in f.unreach) ns → third ≡ second ++ ns) → ((ns : List NlriValue) → AreNlri V4 (uses_ids ids V4) f.nlri ns → fourth ≡ third ++ ns)
-    → ((ns : List NlriValue) → ArePlaced ids (place_in f.reach) ns → last ≡ fourth ++ ns) → (ns : List NlriValue) → ArePlaced ids (places f) ns → last ≡ first ++ ns
+    → ((ns : List NlriValue) → AreMpNlri ids f.unreach ns → third ≡ second ++ ns) → ((ns : List NlriValue) → AreNlri V4 (uses_ids ids V4) f.nlri ns → fourth ≡ third ++ ns)
+    → ((ns : List NlriValue) → AreMpNlri ids f.reach ns → last ≡ fourth ++ ns) → (ns : List NlriValue) → ArePlaced ids (places f) ns → last ≡ first ++ ns
 contained_are ids f first second third fourth last a b c d ns (gone, later, gone_are, others, e) =
     let q = placed_split ids (place_in f.unreach) (record { family = V4; prefixes = f.nlri } ∷ place_in f.reach) later others in
     let lost = q.0 in
@@ -49,8 +51,8 @@ contained_are ids f first second third fourth last a b c d ns (gone, later, gone
     let plain = rest.0 in
     let multi = rest.1 in
     let one : second ≡ first ++ gone = a gone gone_are in
-    let two : third ≡ (first ++ gone) ++ lost = b lost q.2 ∙ ap (λ (l : List NlriValue). l ++ lost) one in
+    let two : third ≡ (first ++ gone) ++ lost = b lost (placed_in ids f.unreach lost q.2) ∙ ap (λ (l : List NlriValue). l ++ lost) one in
     let three : fourth ≡ ((first ++ gone) ++ lost) ++ plain = c plain rest.2 ∙ ap (λ (l : List NlriValue). l ++ plain) two in
-    let four : last ≡ (((first ++ gone) ++ lost) ++ plain) ++ multi = d multi rest.3 ∙ ap (λ (l : List NlriValue). l ++ multi) three in
+    let four : last ≡ (((first ++ gone) ++ lost) ++ plain) ++ multi = d multi (placed_in ids f.reach multi rest.3) ∙ ap (λ (l : List NlriValue). l ++ multi) three in
     let whole : ns ≡ gone ++ (lost ++ (plain ++ multi)) = e ∙ ap (λ (l : List NlriValue). gone ++ l) (q.4 ∙ ap (λ (l : List NlriValue). lost ++ l) rest.4) in
     four ∙ append_assoc ((first ++ gone) ++ lost) plain multi ∙ append_assoc (first ++ gone) lost (plain ++ multi) ∙ append_assoc first gone (lost ++ (plain ++ multi)) ∙ ap (λ (l : List NlriValue). first ++ l) (sym whole)

@@ -5,11 +5,9 @@ use Rattle.bmp_specs.specs.declared.wire.Family.TheVariants.{V4}
 use Rattle.bmp_specs.specs.declared.wire.IdUse.{IdUse}
 use Rattle.bmp_specs.specs.declared.wire.Width.{Width}
 use Rattle.bmp_specs.specs.AddressFamily.{uses_ids}
-use Rattle.bmp_specs.specs.Attributes.{AreAttributes}
 use Rattle.bmp_specs.specs.Nlri.{AreNlri}
 use Rattle.bmp_specs.specs.Update.{AreMpNlri, IsUpdate, end_of_rib, passed_over, with_hop_of}
-use Rattle.bmp_specs.specs.Values.{AttrsReadValue, MpValue, NlriValue, UpdateValue}
-use Rattle.bmp_specs.proofs.AttributesOne.{AreAttributes-one}
+use Rattle.bmp_specs.specs.Values.{MpValue, NlriValue, UpdateValue}
 use Rattle.path_attrs.specs.declared.judge.Judged.{Judged}
 use Rattle.path_attrs.specs.Judged.{IsJudged, mp_value}
 use Rattle.bgp_update.specs.declared.judge.Found.{Found}
@@ -24,43 +22,37 @@ module _ (width : Width) (ids : IdUse) (body withdrawn attributes nlri : List �
   pub multi_broken : ((ns : List NlriValue) → AreMpNlri ids (option_map mp_value judged.reach) ns → ⊥) → (u : UpdateValue) → IsUpdate width ids body u → ⊥
   multi_broken none = multi_none width ids body withdrawn attributes nlri fields j.read j.are (λ ns are. none ns (subst (λ (m : Option MpValue). AreMpNlri ids m ns) j.reach_is are))
 
-module _ (width : Width) (ids : IdUse) (body : List ℕ) (found : Found) (h : HasFound width ids body found) (read : AttrsReadValue) (are : AreAttributes width found.fields.attributes.now read) where
-  -- the attributes are those that were judged
-  same_read : h.judged.read ≡ read
-  same_read = AreAttributes-one width found.fields.attributes.now h.judged.read read h.judged.are are
-
-  reach_is : option_map mp_value found.judged.reach ≡ read.reach
-  reach_is = sym h.judged.reach_is ∙ ap (λ (r : AttrsReadValue). r.reach) same_read
-
-  unreach_is : option_map mp_value found.judged.unreach ≡ read.unreach
-  unreach_is = sym h.judged.unreach_is ∙ ap (λ (r : AttrsReadValue). r.unreach) same_read
-
-  -- the body is this UPDATE message
-  pub update_is : (u : UpdateValue) → ((gone lost : List NlriValue) → AreNlri V4 (uses_ids ids V4) found.fields.withdrawn.now gone → AreMpNlri ids read.unreach lost → u.withdrawn ≡ gone ++ lost)
-      → ((ns : List NlriValue) → AreNlri V4 (uses_ids ids V4) found.fields.nlri.now ns → u.plain ≡ ns) → u.plain_attrs ≡ read.attrs → ((ns : List NlriValue) → AreMpNlri ids read.reach ns → u.multi ≡ ns)
-      → u.multi_attrs ≡ with_hop_of read.reach read.attrs → u.mark ≡ end_of_rib found.fields.withdrawn.now read found.fields.nlri.now → u.unread ≡ passed_over read.reach + passed_over read.unreach → IsUpdate width ids body u
-  update_is u withdrawn plain plain_attrs multi multi_attrs mark unread =
-      let lost = subst (λ (m : Option MpValue). AreMpNlri ids m h.lost) unreach_is h.lost_are in
-      let multi_are = subst (λ (m : Option MpValue). AreMpNlri ids m h.multi) reach_is h.multi_are in
-      record {
-        withdrawn_routes = found.fields.withdrawn.now;
-        path_attributes = found.fields.attributes.now;
-        nlri = found.fields.nlri.now;
-        fields = h.fields;
-        read = read;
-        attributes = are;
-        withdrawn = h.gone;
-        withdrawn_are = h.gone_are;
-        unreachable = h.lost;
-        unreachable_are = lost;
-        all_withdrawn = withdrawn h.gone h.lost h.gone_are lost;
-        plain_are = subst (λ (l : List NlriValue). AreNlri V4 (uses_ids ids V4) found.fields.nlri.now l) (sym (plain h.plain h.plain_are)) h.plain_are;
-        plain_attrs_are = plain_attrs;
-        multi_are = subst (λ (l : List NlriValue). AreMpNlri ids read.reach l) (sym (multi h.multi multi_are)) multi_are;
-        multi_attrs_are = multi_attrs;
-        mark_is = mark;
-        unread_is = unread;
-      }
+-- The body is this UPDATE message, of which each part is what was found says.
+pub update_is : (width : Width) (ids : IdUse) (body : List ℕ) (found : Found) (h : HasFound width ids body found) (u : UpdateValue)
+    → ((gone lost : List NlriValue) → AreNlri V4 (uses_ids ids V4) found.fields.withdrawn.now gone → AreMpNlri ids (option_map mp_value found.judged.unreach) lost → u.withdrawn ≡ gone ++ lost)
+    → ((ns : List NlriValue) → AreNlri V4 (uses_ids ids V4) found.fields.nlri.now ns → u.plain ≡ ns) → u.plain_attrs ≡ h.judged.read.attrs
+    → ((ns : List NlriValue) → AreMpNlri ids (option_map mp_value found.judged.reach) ns → u.multi ≡ ns) → u.multi_attrs ≡ with_hop_of (option_map mp_value found.judged.reach) h.judged.read.attrs
+    → u.mark ≡ end_of_rib found.fields.withdrawn.now h.judged.read found.fields.nlri.now
+    → u.unread ≡ passed_over (option_map mp_value found.judged.reach) + passed_over (option_map mp_value found.judged.unreach) → IsUpdate width ids body u
+update_is width ids body found h u withdrawn plain plain_attrs multi multi_attrs mark unread =
+    let j = h.judged in
+    record {
+      withdrawn_routes = found.fields.withdrawn.now;
+      path_attributes = found.fields.attributes.now;
+      nlri = found.fields.nlri.now;
+      fields = h.fields;
+      read = j.read;
+      attributes = j.are;
+      withdrawn = h.gone;
+      withdrawn_are = h.gone_are;
+      unreachable = h.lost;
+      unreachable_are = subst (λ (m : Option MpValue). AreMpNlri ids m h.lost) (sym j.unreach_is) h.lost_are;
+      all_withdrawn = withdrawn h.gone h.lost h.gone_are h.lost_are;
+      plain_are = subst (λ (l : List NlriValue). AreNlri V4 (uses_ids ids V4) found.fields.nlri.now l) (sym (plain h.plain h.plain_are)) h.plain_are;
+      plain_attrs_are = plain_attrs;
+      multi_are =
+          subst (λ (m : Option MpValue). AreMpNlri ids m u.multi) (sym j.reach_is)
+          (subst (λ (l : List NlriValue). AreMpNlri ids (option_map mp_value found.judged.reach) l) (sym (multi h.multi h.multi_are)) h.multi_are);
+      multi_attrs_are = multi_attrs ∙ sym (ap (λ (m : Option MpValue). with_hop_of m j.read.attrs) j.reach_is);
+      mark_is = mark;
+      unread_is =
+          unread ∙ sym (ap (λ (m : Option MpValue). passed_over m + passed_over j.read.unreach) j.reach_is ∙ ap (λ (m : Option MpValue). passed_over (option_map mp_value found.judged.reach) + passed_over m) j.unreach_is);
+    }
 
 -- what was found is the body of an UPDATE message
 pub found_is : (width : Width) (ids : IdUse) (body : List ℕ) (found : Found) → HasFound width ids body found → (u : UpdateValue) × IsUpdate width ids body u

@@ -8,9 +8,9 @@ ghost use Rattle.path_attrs.specs.Judged.{mp_value};
 ghost use Rattle.bgp_update.specs.Framed.{framed_value};
 
 use crate::body::split_body;
-use crate::items::{add_items, uses_ids};
+use crate::items::add_items;
 use crate::list::NlriList;
-use crate::multi::unicast_family;
+use crate::multi::{add_multi, unicast_family};
 use crate::sizes::item_count;
 use bmp_specs::IdUse;
 use ip_prefix::Family;
@@ -111,19 +111,6 @@ pub fn fits_family(framed: &FramedUpdate<'_>, family: Family, identified: bool) 
         && fits_multi(family, identified, &framed.unreach)
         && fits_place(family, identified, Family::V4, framed.nlri)
         && fits_multi(family, identified, &framed.reach)
-}
-
-// Appends the prefixes in the attribute, where it is there and of a family that is read.
-fn add_multi(list: &mut NlriList, ids: IdUse, part: &Option<MpSlice<'_>>) -> Result<(), NoMemory>
-    ensures { OnOk result ((ns : List NlriValue) → ArePlaced ids (place_in (option_map mp_value part.now)) ns → list.new ≡ list.old ++ ns) }
-{
-    match part {
-        None => Ok(()),
-        Some(part) => match unicast_family(part.afi, part.safi) {
-            None => Ok(()),
-            Some(family) => add_items(list, family, uses_ids(ids, family), part.prefixes),
-        },
-    }
 }
 
 // Appends the prefixes of all contained routes, place by place.

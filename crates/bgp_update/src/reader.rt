@@ -5,9 +5,10 @@ ghost use Rattle.bmp_specs.specs.Values.{UpdateValue};
 ghost use Rattle.bgp_update.specs.Own.{AreOwn};
 
 use crate::body::split_body;
+use crate::judge::find_update;
 use crate::list::NlriList;
 use crate::multi::{make_plain, make_withdrawn};
-use crate::read::read_found;
+use crate::read::make_update;
 use crate::sizes::item_count;
 use crate::update::Update;
 use bmp_specs::{IdUse, Width};
@@ -133,7 +134,10 @@ impl UpdateReader {
         ensures ok { IfOk result (IsUpdate width ids body.now) }
         ensures broken { IsErrOf result BodyFault.Broken → (u : UpdateValue) → IsUpdate width ids body.now u → ⊥ }
     {
-        let (update, found) = read_found(self.alloc, body, width, ids)?;
+        let Some(found) = find_update(body, width, ids) else {
+            return Err(BodyFault::Broken);
+        };
+        let update = make_update(self.alloc, width, ids, &found)?;
         if found.judged.reach.is_none() && found.judged.unreach.is_none() {
             self.keep(width, found.fields.attributes, &update.plain_attrs);
         }

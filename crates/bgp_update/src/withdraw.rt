@@ -9,28 +9,14 @@ ghost use Rattle.bgp_update.specs.Framed.{framed_value};
 
 use crate::frame::{FramedUpdate, contained_routes};
 use crate::list::NlriList;
-use crate::multi::unicast_family;
+use crate::multi::passed_over;
 use crate::shared::to_share;
 use crate::update::Update;
 use bmp_specs::IdUse;
-use path_attrs::{Attrs, MpSlice};
+use path_attrs::Attrs;
 use std::alloc::Global;
 use std::sync::Arc;
 use wire_io::NoMemory;
-
-// 1 where the attribute is of a family that isn't read.
-fn passed_over(part: &Option<MpSlice<'_>>) -> u32
-    ensures is { result ≡ passed_over (option_map mp_value part.now) }
-    ensures one { result ≤ 1 }
-{
-    match part {
-        None => 0,
-        Some(part) => match unicast_family(part.afi, part.safi) {
-            None => 1,
-            Some(_) => 0,
-        },
-    }
-}
 
 /// The UPDATE message "treated as though all contained routes had been withdrawn" (RFC 7606, section 2), place by
 /// place. Its attributes count as one part that wasn't read, and so does each multiprotocol attribute of a family that

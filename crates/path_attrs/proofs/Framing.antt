@@ -1,10 +1,9 @@
 -- The frame of a field of path attributes, found one attribute after another as the loop does.
-use Rattle.std.proofs.Common.{◌≡◌, ◌⊎◌, ◌<◌, ℕ, Bool, true, false, true≢false, cond, eqb, ◌||◌, List, [], ◌∷◌, ◌++◌, length, map, filter, find, Option, Some, None, inl, inr, refl, sym, ap, subst, ◌∙◌, eqb-true, append-nil}
+use Rattle.std.proofs.Common.{◌≡◌, ◌⊎◌, ◌<◌, ℕ, Bool, true, false, true≢false, cond, eqb, ◌||◌, List, [], ◌∷◌, ◌++◌, length, filter, find, Option, Some, None, inl, inr, refl, sym, ap, subst, ◌∙◌, eqb-true, append-nil}
 use Rattle.std.specs.Prelude.{◌==◌, option_copied}
 use Rattle.std.specs.Option.{option_map, option_or}
 use Rattle.std.specs.List.{IsDistinct, list_any}
 use Rattle.std.specs.Cmp.{nat_eq_equiv}
-use Rattle.std.proofs.lemmas.Bool.{eq-eqb}
 use Rattle.std.proofs.lemmas.List.{map-append}
 use Rattle.std.proofs.lemmas.List.Elements.{filter-append}
 use Rattle.std.proofs.lemmas.Map.Keys.{IsDistinct-push}
@@ -13,7 +12,7 @@ use Rattle.bmp_specs.specs.Attributes.{Optional, as_path, mp_reach_nlri, mp_unre
 use Rattle.bmp_specs.specs.FramedUpdate.{is_multiprotocol}
 use Rattle.bmp_specs.specs.MpNlri.{IsMpReach, IsMpUnreach}
 use Rattle.bmp_specs.specs.Sequence.{HasFront}
-use Rattle.bmp_specs.specs.Values.{MpValue, OtherValue}
+use Rattle.bmp_specs.specs.Values.{OtherValue}
 use Rattle.bmp_specs.proofs.AttributesOne.{attribute_code}
 use Rattle.bmp_specs.proofs.PartsRead.{AreParts-one, HasRead, HasRead-end, HasRead-front, HasRead-nil, HasRead-none}
 use Rattle.path_attrs.specs.Field.{Breaks}

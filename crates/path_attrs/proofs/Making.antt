@@ -1,5 +1,5 @@
 -- The attributes that are made of what judging found.
-use Rattle.std.proofs.Common.{◌≡◌, ◌≤◌, ◌+◌, ℕ, List, length, map, Option, sym, subst, ◌∙◌, arith}
+use Rattle.std.proofs.Common.{◌≡◌, ◌≤◌, ◌+◌, ℕ, List, length, map, Option, sym, ap, subst, ◌∙◌, arith}
 use Rattle.std.specs.Borrow.{Bor}
 use Rattle.std.specs.List.{IsDistinct}
 use Rattle.std.specs.Prelude.{◌==◌, IfSome}
@@ -13,8 +13,8 @@ use Rattle.bmp_specs.specs.MpNlri.{IsMpReach, IsMpUnreach}
 use Rattle.bmp_specs.specs.Number.{IsNumber}
 use Rattle.bmp_specs.specs.Parts.{AreParts}
 use Rattle.bmp_specs.specs.Sequence.{IsField}
-use Rattle.bmp_specs.specs.Values.{AttrsReadValue, MpValue, OtherValue}
-use Rattle.path_attrs.specs.AsInfo.{StatesAs}
+use Rattle.bmp_specs.specs.Values.{AttrsReadValue, AttrsValue, MpValue, OtherValue}
+use Rattle.bmp_specs.proofs.AttributesOne.{AreAttributes-one}
 use Rattle.path_attrs.specs.Field.{value_at}
 use Rattle.path_attrs.specs.Judged.{FitsType, IsJudged, mp_value}
 use Rattle.path_attrs.specs.Kept.{kept_of}
@@ -25,6 +25,18 @@ use Rattle.path_attrs.proofs.Judging.{fits_at, same_value}
 -- an AGGREGATOR of its form has an AS number and an address
 pub aggregator_long : (width : Width) (value : Option (List ℕ)) → IfSome value (λ bytes. FitsType width aggregator bytes) → IfSome value (λ bytes. length bytes ≡ as_width width + 4)
 aggregator_long width value fits = IfSome_then value fits (λ bytes q. q.1.len)
+
+-- what a field that was judged says, from its parts
+pub read_is : (width : Width) (field : List ℕ) (judged : Judged) (j : IsJudged width field judged) (read : AttrsReadValue) → read.attrs ≡ j.read.attrs → read.reach ≡ option_map mp_value judged.reach
+    → read.unreach ≡ option_map mp_value judged.unreach → read.count ≡ judged.count → AreAttributes width field read
+read_is width field judged j read attrs reach unreach count =
+    let with_attrs : AttrsValue → AttrsReadValue = λ a. record j.read { attrs = a } in
+    let with_reach : Option MpValue → AttrsReadValue = λ m. record j.read { attrs = read.attrs; reach = m } in
+    let with_unreach : Option MpValue → AttrsReadValue = λ m. record j.read { attrs = read.attrs; reach = read.reach; unreach = m } in
+    let with_count : ℕ → AttrsReadValue = λ n. record read { count = n } in
+    let same : j.read ≡ read =
+    ap with_attrs (sym attrs) ∙ ap with_reach (j.reach_is ∙ sym reach) ∙ ap with_unreach (j.unreach_is ∙ sym unreach) ∙ ap with_count (j.count_is ∙ sym count) in
+    subst (λ (r : AttrsReadValue). AreAttributes width field r) same j.are
 
 module _ (width : Width) (field : List ℕ) (judged : Judged) (j : IsJudged width field judged) (values : List (Option (Bor (List ℕ))))
     (gathered : (parts : List OtherValue) → AreParts IsAttribute field parts → IsDistinct (λ j k. j == k) (map (λ a. a.code) parts) → (code : ℕ) → code ≤ as4_aggregator → value_at values code ≡ value_of code parts) where
@@ -67,3 +79,10 @@ module _ (width : Width) (field : List ℕ) (judged : Judged) (j : IsJudged widt
         others_are = v.others_are ∙ kept h.parts h.are;
         count_is = count ∙ h.count_is;
       }
+
+  -- and they are those of any value that the field has
+  pub attrs_made : (attrs : AttrsValue) (others : List OtherValue) → HaveValues width (value_at values) others attrs
+      → ((parts : List OtherValue) → AreParts IsAttribute field parts → others ≡ kept_of parts) → (read : AttrsReadValue) → AreAttributes width field read → attrs ≡ read.attrs
+  attrs_made attrs others v kept read are =
+      ap (λ (r : AttrsReadValue). r.attrs)
+      (AreAttributes-one width field (record j.read { attrs = attrs }) read (made_are (record j.read { attrs = attrs }) others v kept j.reach_is j.unreach_is j.count_is) are)

@@ -1,4 +1,4 @@
-ghost use Rattle.std.specs.Prelude.{◌≡◌, ◌≤◌, ◌++◌, ◌==◌, ℕ, List, map, [], ◌∷◌, IfOk, OnOk};
+ghost use Rattle.std.specs.Prelude.{◌≡◌, ◌≤◌, ◌++◌, ◌==◌, ℕ, List, None, map, replicate, [], ◌∷◌, OnOk};
 ghost use Rattle.std.specs.List.{IsDistinct};
 ghost use Rattle.bmp_specs.specs.Attribute.{IsAttribute};
 ghost use Rattle.bmp_specs.specs.Attributes.{as4_aggregator, value_of};
@@ -36,31 +36,30 @@ fn keep(alloc: Global, others: &mut OtherList, part: &Part<'_>) -> Result<(), No
     Ok(())
 }
 
-// What attributes are made of: the value of each type below `PLACES`, at its type, where the field has an attribute of
-// it, and the field's attributes of all types that aren't read, in order.
-#[derive(Drop)]
-pub(crate) struct Gathered<'a> {
-    pub(crate) values: [Option<&'a [u8]>; PLACES],
-    pub(crate) others: OtherList,
-}
-
-// Reads the header of each attribute of the field, once.
-pub(crate) fn gather(alloc: Global, field: &[u8]) -> Result<Gathered<'_>, NoMemory>
-    ensures values { IfOk result (λ g. (parts : List OtherValue) → AreParts IsAttribute field.now parts
+// Gathers what attributes are made of: the value of each type below `PLACES`, put at its type where the field has an
+// attribute of it, and the field's attributes of all types that aren't read, in order. The header of each attribute is
+// read once.
+pub(crate) fn gather<'a>(
+    alloc: Global,
+    field: &'a [u8],
+    values: &mut [Option<&'a [u8]>; PLACES],
+    others: &mut OtherList,
+) -> Result<(), NoMemory>
+    requires no_values { values.old ≡ replicate 19 None }
+    requires no_others { others.old ≡ [] }
+    ensures values { OnOk result ((parts : List OtherValue) → AreParts IsAttribute field.now parts
         → IsDistinct (λ j k. j == k) (map (λ a. a.code) parts) → (code : ℕ) → code ≤ as4_aggregator
-        → value_at g.values code ≡ value_of code parts) }
-    ensures others { IfOk result (λ g. (parts : List OtherValue) → AreParts IsAttribute field.now parts → g.others ≡ kept_of parts) }
+        → value_at values.new code ≡ value_of code parts) }
+    ensures others { OnOk result ((parts : List OtherValue) → AreParts IsAttribute field.now parts → others.new ≡ kept_of parts) }
 {
-    let mut values = [None; PLACES];
-    let mut others = OtherList::new(alloc);
     let mut rest = field;
     while let Some(part) = read_part(rest) {
         let code = part.code as usize;
         if code < PLACES {
             values[code] = Some(part.value);
         }
-        keep(alloc, &mut others, &part)?;
+        keep(alloc, others, &part)?;
         rest = part.rest;
     }
-    Ok(Gathered { values, others })
+    Ok(())
 }

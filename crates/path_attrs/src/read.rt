@@ -1,8 +1,9 @@
-ghost use Rattle.std.specs.Prelude.{◌≤◌, ℕ, IfSome, IfOk, IsErrOf};
+ghost use Rattle.std.specs.Prelude.{◌≡◌, ◌≤◌, ℕ, IfSome, IfOk, IsErrOf};
 ghost use Rattle.bmp_specs.specs.Attributes.{AreAttributes, as4_aggregator};
 ghost use Rattle.bmp_specs.specs.Values.{AttrsReadValue};
 ghost use Rattle.path_attrs.specs.Field.{value_at};
 ghost use Rattle.path_attrs.specs.Judged.{FitsType, IsJudged};
+ghost use Rattle.path_attrs.specs.declared.judge.Judged.{Judged};
 ghost use Rattle.path_attrs.specs.Valued.{HaveValues};
 
 use crate::as_info::make_as_info;
@@ -10,8 +11,8 @@ use crate::attrs::Attrs;
 use crate::codes::{
     ATOMIC_AGGREGATE, COMMUNITIES, LOCAL_PREF, MULTI_EXIT_DISC, NEXT_HOP, ORIGIN, PLACES,
 };
-use crate::judge::{Judged, judge_attrs};
-use crate::keep::{Gathered, gather};
+use crate::judge::judge_attrs;
+use crate::keep::gather;
 use crate::mp::{MpPart, make_part};
 use crate::others::OtherList;
 use crate::values::{is_there, make_communities, make_hop, number, octet};
@@ -70,27 +71,17 @@ fn make_own(
     })
 }
 
-/// Makes the attributes of a field that was judged. It tests nothing again, and reads each header once more
-/// to find the values. Time and memory are linear in the field.
-pub fn make_attrs(
-    alloc: Global,
-    field: &[u8],
-    width: Width,
-    judged: &Judged<'_>,
-) -> Result<AttrsRead, NoMemory>
-    requires { IsJudged width field.now judged.now }
-    ensures { IfOk result (AreAttributes width field.now) }
+/// Makes the attributes of the routes of a field that was judged. It tests nothing again, and reads each header once
+/// more to find the values. Time and memory are linear in the field.
+#[inline(never)]
+pub fn make_attrs(alloc: Global, field: &[u8], width: Width) -> Result<Attrs, NoMemory>
+    requires { (judged : Judged) × IsJudged width field.now judged }
+    ensures { IfOk result (λ attrs. (read : AttrsReadValue) → AreAttributes width field.now read → attrs ≡ read.attrs) }
 {
-    let Gathered { values, others } = gather(alloc, field)?;
-    let attrs = make_own(alloc, &values, width, others)?;
-    let reach = make_part(alloc, &judged.reach)?;
-    let unreach = make_part(alloc, &judged.unreach)?;
-    Ok(AttrsRead {
-        attrs,
-        reach,
-        unreach,
-        count: judged.count,
-    })
+    let mut values = [None; PLACES];
+    let mut others = OtherList::new(alloc);
+    gather(alloc, field, &mut values, &mut others)?;
+    make_own(alloc, &values, width, others)
 }
 
 /// Reads the "Path Attributes" of an UPDATE message (RFC 4271, section 4.3), with AS numbers of the
@@ -102,5 +93,13 @@ pub fn read_attrs(alloc: Global, field: &[u8], width: Width) -> Result<AttrsRead
     let Some(judged) = judge_attrs(field, width) else {
         return Err(BodyFault::Broken);
     };
-    Ok(make_attrs(alloc, field, width, &judged)?)
+    let attrs = make_attrs(alloc, field, width)?;
+    let reach = make_part(alloc, &judged.reach)?;
+    let unreach = make_part(alloc, &judged.unreach)?;
+    Ok(AttrsRead {
+        attrs,
+        reach,
+        unreach,
+        count: judged.count,
+    })
 }

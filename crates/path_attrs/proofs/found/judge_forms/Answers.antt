@@ -1,4 +1,4 @@
-use Rattle.std.proofs.Common.{◌≡◌, ◌<◌, length, arith, refl, rules}
+use Rattle.std.proofs.Common.{◌≡◌, ◌<◌, length, arith, rules}
 use Rattle.std.proofs.lemmas.Bool.{iff_false}
 use Rattle.path_attrs.proofs.Counting.{counts_most}
 use Rattle.path_attrs.proofs.Gathering.{judges_first, judges_reach, judges_unreach, judges_other, judges_end}

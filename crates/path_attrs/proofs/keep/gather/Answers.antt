@@ -5,7 +5,7 @@ use Rattle.path_attrs.proofs.keep.gather.Goals as goal
 use Rattle.path_attrs.proofs.keep.gather.Goals.{then-code-lt-PLACES, else-code-lt-PLACES}
 
 pub loop-part-init : goal.loop-part-init
-loop-part-init c = record { gathers = gathers_first _; keeps = rw c.new-others.ensures (keeps_first _) }
+loop-part-init c = record { gathers = rw c.requires.no_values (gathers_first _); keeps = rw c.requires.no_others (keeps_first _) }
 
 pub loop-part-preserved : goal.loop-part-preserved
 loop-part-preserved c =

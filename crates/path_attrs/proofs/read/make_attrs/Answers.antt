@@ -1,10 +1,14 @@
 use Rattle.std.proofs.Common.{refl}
-use Rattle.path_attrs.proofs.Making.{form_found, made_are}
+use Rattle.std.proofs.lemmas.Result.{IfOk-weaker}
+use Rattle.path_attrs.proofs.Making.{attrs_made, form_found}
 use Rattle.path_attrs.proofs.read.make_attrs.Goals as goal
 
+pub gather-requires-clause-no_values : goal.gather-requires-clause-no_values
+gather-requires-clause-no_values c = refl
+
 pub make_own-requires : goal.make_own-requires
-make_own-requires c = form_found _ _ _ c.requires _ c.in_ok-values.ensures.values
+make_own-requires c = form_found _ _ _ c.requires.1 _ c.in_ok-gather.ensures.values
 
 pub returns : goal.returns
 returns c =
-    made_are _ _ _ c.requires _ c.in_ok-values.ensures.values _ _ c.in_ok-attrs.ensures c.in_ok-values.ensures.others c.in_ok-reach.ensures c.in_ok-unreach.ensures refl
+    IfOk-weaker c.make_own.result _ _ (λ attrs v. attrs_made _ _ _ c.requires.1 _ c.in_ok-gather.ensures.values attrs _ v c.in_ok-gather.ensures.others) c.make_own.ensures
