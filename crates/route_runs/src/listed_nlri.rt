@@ -59,6 +59,19 @@ fn list_one<K: Copy>(rows: &mut Vec<(K, u32)>, key: K, handle: u32) -> Result<()
     }
 }
 
+// Memory for so many rows more: where there is none, for three times as many as there are, since all of them are copied.
+fn make_room<K: Copy>(rows: &mut Vec<(K, u32)>, more: usize) -> Result<(), NoMemory>
+    ensures { OnOk result (rows.new.items ≡ rows.old.items) }
+{
+    if rows.capacity().saturating_sub(rows.len()) >= more {
+        return Ok(());
+    }
+    match rows.reserve(rows.len().saturating_mul(3).max(more)) {
+        Ok(_) => Ok(()),
+        Err(_) => Err(NoMemory),
+    }
+}
+
 // Lists the NLRI of one family with one handle.
 fn list<N: KeyAddress>(
     rows: &mut Vec<(NlriKey<N>, u32)>,
@@ -67,6 +80,7 @@ fn list<N: KeyAddress>(
 ) -> Result<(), NoMemory>
     ensures { OnOk result (rows.new.items ≡ rows.old.items ++ map (λ (n : NlriValue). (n, handle)) (of_family N.family nlris.now)) }
 {
+    make_room(rows, nlris.len())?;
     for nlri in nlris {
         if is_of(nlri, N::its_family()) {
             list_one(rows, NlriKey::of(nlri), handle)?;

@@ -90,22 +90,28 @@ fn change_table(
 ) -> Result<(), NoMemory>
     ensures { OnOk result (AreChangedTo nlri_cmp nlris.now (option_map shared to.entry) (unwrap_or changes.old []) (unwrap_or changes.new [])) }
 {
-    let mut gathered = gathered(alloc, changes.take());
-    match to {
-        Some(route) => gathered.announce(nlris, route)?,
-        None => gathered.withdraw(nlris)?,
+    match changes {
+        Some(gathered) => change_gathered(gathered, nlris, to),
+        None => {
+            let mut first = Changes::new(alloc);
+            change_gathered(&mut first, nlris, to)?;
+            *changes = Some(first);
+            Ok(())
+        }
     }
-    *changes = Some(gathered);
-    Ok(())
 }
 
-// The changes so far.
-fn gathered(alloc: Global, changes: Option<Changes>) -> Changes
-    ensures { result ≡ unwrap_or changes [] }
+// Gathers changes of these NLRI with those so far.
+fn change_gathered(
+    gathered: &mut Changes,
+    nlris: &[Nlri],
+    to: Option<&Route>,
+) -> Result<(), NoMemory>
+    ensures { OnOk result (AreChangedTo nlri_cmp nlris.now (option_map shared to.entry) gathered.old gathered.new) }
 {
-    match changes {
-        Some(changes) => changes,
-        None => Changes::new(alloc),
+    match to {
+        Some(route) => gathered.announce(nlris, route),
+        None => gathered.withdraw(nlris),
     }
 }
 

@@ -56,11 +56,14 @@ impl Replay {
         Ok(replay)
     }
 
-    // Lets the tables take what was gathered.
+    // Lets the tables take what was gathered. There is memory then for as many entries again, and a quarter more: so the
+    // list isn't copied as it grows.
     fn settle(&mut self) -> Result<(), NoMemory>
         ensures { OnOk result ((entries : List EntryValue) → Gathers self.old entries → Settled self.new entries) }
     {
-        let gathered = mem::replace(&mut self.gathered, List::new(self.alloc));
+        let count = self.gathered.as_slice().len();
+        let next = List::with_capacity(self.alloc, count.saturating_add(count / 4))?;
+        let gathered = mem::replace(&mut self.gathered, next);
         self.builder.take(gathered)?;
         self.bytes = 0;
         Ok(())
