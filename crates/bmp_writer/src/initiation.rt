@@ -2,6 +2,7 @@ ghost use Rattle.std.specs.Prelude.{◌≡◌, ℕ, List, ◌+◌, ◌≤◌, []
 ghost use Rattle.bmp_specs.specs.Tlv.{IsTlv};
 ghost use Rattle.bmp_specs.specs.Values.{named, described};
 ghost use Rattle.bmp_writer.specs.Written.{Always, Appends, HasTold, IsToldMessage, IsWritten, initiation_type, unchanged};
+ghost use Rattle.bmp_writer.specs.declared.initiation.TheConstants.{LONGEST};
 
 use crate::common::{common_header, put};
 use bmp_frames::{COMMON_HEADER, INITIATION};
@@ -31,7 +32,7 @@ fn put_tlv(frame: &mut [u8], at: usize, kind: u16, value: &[u8]) -> usize
 // Appends the message. It is put together in room for the longest, whose size is a parameter, since the prover writes out
 // an array of a known size in each goal.
 fn put_in<const N: usize>(out: &mut ByteList, name: &[u8], descr: &[u8]) -> Result<(), NoMemory>
-    requires room { N ≡ 131084 }
+    requires room { N ≡ LONGEST }
     requires name { length name.now ≤ 65535 }
     requires descr { length descr.now ≤ 65535 }
     ensures ok { OnOk result (Appends (IsWritten initiation_type Always (named name.now ∷ described descr.now ∷ []) unchanged) out.old out.new) }

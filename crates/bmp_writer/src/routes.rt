@@ -6,6 +6,7 @@ ghost use Rattle.bmp_writer.specs.Written.{Appends, IsWritten, Keeps, route_moni
 ghost use Rattle.bmp_writer.specs.PeerMessage.{HasPlainHeader};
 ghost use Rattle.bmp_writer.specs.WrittenRoutes.{CanCarryRoutes, HasUpWith, IsGiven, IsHeadersOf, IsRoutesMessage, family_of as family_at, ids_of, routes_effects, routes_size};
 ghost use Rattle.bmp_writer.specs.WrittenUpdate.{CanPlace, places, update_size};
+ghost use Rattle.bmp_writer.specs.declared.routes.TheConstants.{LONGEST};
 
 use crate::common::{common_header, put};
 use crate::draft::{Draft, Full};
@@ -115,7 +116,7 @@ fn put_in<const N: usize>(
     announced: &[Nlri],
     attrs: &Attrs,
 ) -> Result<(), NoMemory>
-    requires room { N ≤ 65583 }
+    requires room { N ≤ LONGEST }
     requires carried { CanCarryRoutes key.now view withdrawn.now announced.now attrs.now }
     ensures ok { OnOk result (Appends (IsRoutesMessage key.now view withdrawn.now announced.now attrs.now) out.old out.new) }
     ensures err { OnErr result (out.new ≡ out.old) }
