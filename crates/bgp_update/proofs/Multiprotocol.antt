@@ -9,9 +9,9 @@ use Rattle.bmp_specs.specs.Update.{AreMpNlri}
 use Rattle.bmp_specs.specs.Values.{MpValue, NlriValue}
 
 -- they are prefixes of that family
-pub of_family : (ids : IdUse) (m n : MpValue) (part : Option MpValue) (family : Family) (identified : Bool) (prefixes : List ℕ) → m ≡ n → part ≡ Some n → Some family ≡ unicast_family m.afi m.safi
-    → identified ≡ uses_ids ids family → prefixes ≡ m.prefixes → (λ (ns : List NlriValue). AreNlri family identified prefixes ns) ≡ AreMpNlri ids part
-of_family ids m n part family identified prefixes inside here is use_ids bytes =
-    ap (λ (b : Bool). λ (ns : List NlriValue). AreNlri family b prefixes ns) use_ids ∙ ap (λ (l : List ℕ). λ (ns : List NlriValue). AreNlri family (uses_ids ids family) l ns) bytes
+pub of_family : (ids : IdUse) (m : MpValue) (part : Option MpValue) (family : Family) (identified : Bool) → part ≡ Some m → Some family ≡ unicast_family m.afi m.safi
+    → identified ≡ uses_ids ids family → (λ (ns : List NlriValue). AreNlri family identified m.prefixes ns) ≡ AreMpNlri ids part
+of_family ids m part family identified here is use_ids =
+    ap (λ (b : Bool). λ (ns : List NlriValue). AreNlri family b m.prefixes ns) use_ids
     ∙ ap (λ (o : Option Family). λ (ns : List NlriValue). MatchOption o (ns ≡ []) (λ f. AreNlri f (uses_ids ids f) m.prefixes ns)) is
-    ∙ ap (λ (k : MpValue). λ (ns : List NlriValue). AreMpNlri ids (Some k) ns) inside ∙ ap (λ (o : Option MpValue). λ (ns : List NlriValue). AreMpNlri ids o ns) (sym here)
+    ∙ ap (λ (o : Option MpValue). λ (ns : List NlriValue). AreMpNlri ids o ns) (sym here)

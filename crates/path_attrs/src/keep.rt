@@ -5,6 +5,7 @@ ghost use Rattle.bmp_specs.specs.Attributes.{as4_aggregator, value_of};
 ghost use Rattle.bmp_specs.specs.Parts.{AreParts};
 ghost use Rattle.bmp_specs.specs.Values.{OtherValue};
 ghost use Rattle.path_attrs.specs.Field.{value_at};
+ghost use Rattle.path_attrs.specs.declared.codes.TheConstants.{PLACES};
 ghost use Rattle.path_attrs.specs.Kept.{kept_of};
 
 use crate::bytes::bytes_of;
@@ -45,7 +46,7 @@ pub(crate) fn gather<'a>(
     values: &mut [Option<&'a [u8]>; PLACES],
     others: &mut OtherList,
 ) -> Result<(), NoMemory>
-    requires no_values { values.old ≡ replicate 19 None }
+    requires no_values { values.old ≡ replicate PLACES None }
     requires no_others { others.old ≡ [] }
     ensures values { OnOk result ((parts : List OtherValue) → AreParts IsAttribute field.now parts
         → IsDistinct (λ j k. j == k) (map (λ a. a.code) parts) → (code : ℕ) → code ≤ as4_aggregator

@@ -6,8 +6,8 @@
 //!
 //! Proved: `judge_attrs` tells exactly where a field has attributes: where it is a list of attributes, no
 //! two are of one type, and each value is of the form of its type (RFC 4271, section 4.3; RFC 4760; RFC
-//! 1997). It makes none, and lends what it found. `make_attrs` makes the attributes of what was found, and
-//! `read_attrs` judges and makes. In two-octet form AS4_PATH and AS4_AGGREGATOR are put back (RFC 6793,
+//! 1997). It makes none, and lends what it found. `make_attrs` makes the attributes of the routes of a field
+//! that was judged, and `read_attrs` judges and makes. In two-octet form AS4_PATH and AS4_AGGREGATOR are put back (RFC 6793,
 //! section 4.2.3). A copy of attributes is equal to them. The words are in `bmp_specs`,
 //! `specs/Attributes.antt` and `specs/FourOctetAs.antt`. Begin with `src/judge.rt`; `src/found.rt` judges
 //! the form of each value in one pass, `src/registry.rt` takes the shapes and the types that are read from the
