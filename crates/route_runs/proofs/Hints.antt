@@ -18,7 +18,7 @@ use Rattle.route_runs.specs.Cursor.{Walking, AreBefore, AreBehind}
 use Rattle.route_runs.proofs.Contents.{value-contents}
 use Rattle.route_runs.proofs.Searching.{pair_less, less_is, bools, not_both, itself, has_row, has_rows, first_ext}
 
-equal_is : (o : Ordering) → is_eq o ≡ true → o ≡ Equal
+pub equal_is : (o : Ordering) → is_eq o ≡ true → o ≡ Equal
 equal_is Less e = absurd cc
 equal_is Equal e = refl
 equal_is Greater e = absurd cc

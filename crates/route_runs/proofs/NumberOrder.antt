@@ -1,11 +1,11 @@
 -- The numbers of NLRI stand in the order of the NLRI.
-use Rattle.std.proofs.Common.{◌≡◌, ℕ, zero, suc, ◌+◌, ◌*◌, ◌/◌, ◌%◌, ◌<◌, List, refl, sym, ap, ◌∙◌, arith}
+use Rattle.std.proofs.Common.{◌≡◌, ℕ, zero, suc, ◌+◌, ◌*◌, ◌/◌, ◌%◌, ◌<◌, false, List, refl, sym, ap, ◌∙◌, arith}
 use Rattle.std.specs.declared.cmp.Ordering.{Ordering}
 use Rattle.std.specs.declared.cmp.Ordering.TheVariants.{Less, Equal, Greater}
 use Rattle.std.specs.Cmp.{ranks, nat_cmp_is}
 use Rattle.std.specs.Cmp.Lexicographic.{slice_cmp}
 use Rattle.std.specs.Option.{option_cmp}
-use Rattle.std.specs.Ordering.{nat_cmp, ordering_then, MatchOrdering}
+use Rattle.std.specs.Ordering.{is_eq, nat_cmp, ordering_then, MatchOrdering}
 use Rattle.bmp_specs.specs.declared.wire.Family.{Family}
 use Rattle.bmp_specs.specs.declared.wire.Family.TheVariants.{V4, V6}
 use Rattle.bmp_specs.specs.Orders.{nlri_cmp}
@@ -51,6 +51,12 @@ lengths o b c i j f g =
     then_assoc o front (option_cmp nat_cmp (id_at (b % 2) i) (id_at (c % 2) j))
     ∙ ap (λ (r : Ordering). ordering_then o (ordering_then front r)) (marks (b % 2) (c % 2) i j (omega arith) (omega arith) f g)
     ∙ ap (ordering_then o) (sym (then_assoc front (nat_cmp (b % 2) (c % 2)) (nat_cmp i j)) ∙ ap (λ (r : Ordering). ordering_then r (nat_cmp i j)) (halves b c))
+
+-- what doesn't tie decides, whatever comes next
+pub other_decides : (o r : Ordering) → is_eq o ≡ false → o ≡ ordering_then o r
+other_decides Less r e = refl
+other_decides Equal r e = absurd cc
+other_decides Greater r e = refl
 
 -- the address decides; then the length, and then the identifier
 pub key_cmp : (family : Family) (os ps : List ℕ) (b c i j : ℕ) → (b % 2 ≡ 0 → i ≡ 0) → (c % 2 ≡ 0 → j ≡ 0) → (o : Ordering) → o ≡ slice_cmp nat_cmp os ps

@@ -20,6 +20,9 @@ use std::sync::Arc;
 // How many runs a walk keeps its place in.
 const KEPT: usize = 40;
 
+// How many keys from a hint on are looked at before a longer search.
+const FEW: usize = 4;
+
 /// A walk over the pairs of a table in key order. It keeps its place in each run, as a hint: a wrong one costs
 /// a search.
 #[derive(Drop)]
@@ -122,15 +125,31 @@ fn guess<K: RunKey>(keys: &[K], place: &K, hint: usize) -> usize {
     low
 }
 
-/// Where the keys after a key begin: at the hint, or one further, or found by a search.
+// Where the keys after a place may begin, if that isn't far from the hint: as many keys further as there are among the next
+// few that aren't after the place. All of these are compared, since a processor can't foresee where a loop would stop.
+fn few_on<K: RunKey>(keys: &[K], place: &K, hint: usize) -> usize {
+    if hint > keys.len() || keys.len() - hint < FEW {
+        return hint;
+    }
+    let mut passed = 0usize;
+    for step in 0..FEW {
+        if !is_less(place, &keys[hint + step]) {
+            passed += 1;
+        }
+    }
+    hint + passed
+}
+
+/// Where the keys after a key begin: at the hint or a few keys further, or found by a search.
 pub(crate) fn near_key<K: RunKey>(keys: &[K], place: &K, hint: usize) -> usize
     requires { IsStrictlySortedBy K.cmp keys.now }
     ensures { IsAfterPoint K.cmp (Some place.now) keys.now result }
 {
-    if is_point(keys, place, hint) {
-        return hint;
+    let at = few_on(keys, place, hint);
+    if is_point(keys, place, at) {
+        return at;
     }
-    let near = guess(keys, place, hint);
+    let near = guess(keys, place, at);
     if is_point(keys, place, near) {
         return near;
     }

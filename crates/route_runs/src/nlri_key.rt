@@ -106,17 +106,13 @@ impl<N: KeyAddress> Ord for NlriKey<N> {
 
     // The address decides; then the length of the prefix, and a path identifier that isn't there comes first.
     fn cmp(&self, other: &NlriKey<N>) -> Ordering {
-        match self.address.cmp(&other.address) {
-            Ordering::Less => Ordering::Less,
-            Ordering::Greater => Ordering::Greater,
-            Ordering::Equal => {
-                if self.bits == other.bits {
-                    self.id.cmp(&other.id)
-                } else {
-                    self.bits.cmp(&other.bits)
-                }
+        if self.address == other.address {
+            if self.bits == other.bits {
+                return self.id.cmp(&other.id);
             }
+            return self.bits.cmp(&other.bits);
         }
+        self.address.cmp(&other.address)
     }
 }
 
