@@ -1,6 +1,6 @@
 """The lines of a bmpstation, and a client that asks for them. It is no part of what is proved.
 
-`parse` gives for each line of a reply its fields by the names of docs/PROTOCOL.md, with numbers as numbers
+`parse` gives for each line of a reply its fields by the names of docs/QUERIES.md, with numbers as numbers
 and lists as lists, and raises `UnknownLine` for a line that it doesn't know. `Station` holds one connection
 and gives the reply of a query.
 """
