@@ -40,7 +40,7 @@ fn multi_count(ids: IdUse, part: Option<MpSlice<'_>>) -> Option<usize>
     }
 }
 
-// Judges the body (RFC 4271, section 4.3), and finds what `read_update` makes an UPDATE of. `None` only where the
+// Judges the body (RFC 4271, section 4.3), and finds what `make_update` makes an UPDATE of. `None` only where the
 // body isn't that of an UPDATE message.
 #[inline(always)]
 pub(crate) fn find_update(body: &[u8], width: Width, ids: IdUse) -> Option<Found<'_>>

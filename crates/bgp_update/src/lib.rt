@@ -6,9 +6,9 @@
 //! `path_attrs` reads the attributes, this crate the prefixes and the whole.
 //!
 //! Proved: `judge_update` tells exactly whether the body has a value in the grammar, and makes none.
-//! `read_update` judges by the same body of code and then makes the value, with the End-of-RIB marker (RFC
-//! 4724, section 2) and how many multiprotocol attributes are of families that aren't read. `UpdateReader`
-//! reads one after another to the same values, and shares attributes that stand in one after another. The grammar is
+//! `UpdateReader::read` judges by the same body of code and then makes the value, with the End-of-RIB marker (RFC
+//! 4724, section 2) and how many multiprotocol attributes are of families that aren't read. It reads one message after
+//! another, and shares attributes that stand in one after another. The grammar is
 //! `IsUpdate` in `specs/Update.antt` of `bmp_specs`; begin there, then with `src/judge.rt`. `src/sizes.rt`
 //! counts the prefixes of a list, `src/items.rt` makes them, `src/multi.rt` those of multiprotocol
 //! attributes too.
@@ -33,7 +33,6 @@ pub use fault::UpdateFault;
 pub use frame::{FramedUpdate, contained_routes, fits_family, frame_update};
 pub use judge::judge_update;
 pub use list::NlriList;
-pub use read::read_update;
 pub use reader::UpdateReader;
 pub use update::Update;
 pub use wire_io::Unplaced;

@@ -1,4 +1,4 @@
-ghost use Rattle.std.specs.Prelude.{◌≡◌, ◌++◌, IfOk, IsErrOf, List, ℕ};
+ghost use Rattle.std.specs.Prelude.{◌≡◌, ◌++◌, IfOk, List, ℕ};
 ghost use Rattle.std.specs.Option.{option_map};
 ghost use Rattle.bmp_specs.specs.AddressFamily.{uses_ids};
 ghost use Rattle.bmp_specs.specs.Nlri.{AreNlri};
@@ -8,7 +8,7 @@ ghost use Rattle.bmp_specs.specs.declared.wire.Family.TheVariants.{V4};
 ghost use Rattle.path_attrs.specs.Judged.{IsJudged, mp_value};
 ghost use Rattle.bgp_update.specs.Found.{HasFound};
 
-use crate::judge::{Found, find_update};
+use crate::judge::Found;
 use crate::list::NlriList;
 use crate::multi::{end_of_rib, make_multi, make_plain, make_withdrawn, passed_over};
 use crate::shared::share;
@@ -16,7 +16,7 @@ use crate::update::Update;
 use bmp_specs::{IdUse, Width};
 use path_attrs::make_attrs;
 use std::alloc::Global;
-use wire_io::{BodyFault, NoMemory};
+use wire_io::NoMemory;
 
 // The prefixes of an UPDATE.
 #[derive(Drop)]
@@ -69,28 +69,4 @@ pub(crate) fn make_update(
         mark: end_of_rib(found.fields.withdrawn, &found.judged, found.fields.nlri),
         unread: passed_over(&found.judged.reach) + passed_over(&found.judged.unreach),
     })
-}
-
-/// Reads the body of an UPDATE message (RFC 4271, section 4.3), all of the bytes, with AS numbers of the
-/// width and path identifiers where `ids` says so (RFC 7911, section 3). `BodyFault::Broken` exactly
-/// where the bytes are no such body: where a field ends past its bytes, the attributes are none, or a
-/// field of prefixes isn't prefixes of its family.
-///
-/// It judges the body as `judge_update` does, and makes the UPDATE of what judging found. Time and memory
-/// are linear in the body, and each list takes its memory at once. Nothing is copied but what the value
-/// keeps.
-pub fn read_update(
-    alloc: Global,
-    body: &[u8],
-    width: Width,
-    ids: IdUse,
-) -> Result<Update, BodyFault>
-    ensures ok { IfOk result (IsUpdate width ids body.now) }
-    ensures broken { IsErrOf result BodyFault.Broken → (u : UpdateValue) → IsUpdate width ids body.now u → ⊥ }
-{
-    let Some(found) = find_update(body, width, ids) else {
-        return Err(BodyFault::Broken);
-    };
-    let update = make_update(alloc, width, ids, &found)?;
-    Ok(update)
 }

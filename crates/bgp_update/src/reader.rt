@@ -144,7 +144,13 @@ impl UpdateReader {
         Ok(update)
     }
 
-    /// Reads the body of an UPDATE message, exactly as `read_update` does.
+    /// Reads the body of an UPDATE message (RFC 4271, section 4.3), all of the bytes, with AS numbers of the width and path
+    /// identifiers where `ids` says so (RFC 7911, section 3). `BodyFault::Broken` exactly where the bytes are no such body:
+    /// where a field ends past its bytes, the attributes are none, or a field of prefixes isn't prefixes of its family.
+    ///
+    /// It judges the body as `judge_update` does, and makes the UPDATE of what judging found. Time and memory are linear in
+    /// the body, and each list takes its memory at once. Nothing is copied but what the value keeps, and the attributes that
+    /// the next message may share.
     pub fn read(&mut self, body: &[u8], width: Width, ids: IdUse) -> Result<Update, BodyFault>
         ensures ok { IfOk result (IsUpdate width ids body.now) }
         ensures broken { IsErrOf result BodyFault.Broken → (u : UpdateValue) → IsUpdate width ids body.now u → ⊥ }

@@ -4,10 +4,11 @@ use super::words::{bytes_at, prefix_at, width_at};
 use crate::line::{Line, at};
 use bgp_update::{
     FramedUpdate, IdUse, NlriList, Update, UpdateReader, contained_routes, fits_family,
-    frame_update, read_update,
+    frame_update,
 };
 use ip_prefix::{Family, Nlri, Prefix};
 use path_attrs::{Attrs, Width};
+use std::alloc::Global;
 use std::sync::Arc;
 use wire_io::BodyFault;
 
@@ -85,8 +86,14 @@ fn put_shares(out: &mut Line, read: &Result<Update, BodyFault>) {
     }
 }
 
+// Reads an UPDATE with a reader that reads no other.
+fn read_alone(alloc: Global, body: &[u8]) -> Result<Update, BodyFault> {
+    let mut reader = UpdateReader::new(alloc);
+    reader.read(body, Width::Four, ids_of(""))
+}
+
 fn put_shares_once(out: &mut Line, body: &[u8]) {
-    let read = read_update(out.alloc, body, Width::Four, ids_of(""));
+    let read = read_alone(out.alloc, body);
     put_shares(out, &read);
 }
 
