@@ -7,3 +7,4 @@ pub mod Judging
 pub mod Making
 pub mod Framing
 pub mod Fitting
+mod Refuted
