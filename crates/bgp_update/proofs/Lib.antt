@@ -7,3 +7,4 @@ pub mod Judging
 pub mod Framing
 pub mod Withdrawing
 pub mod Own
+mod Refuted
