@@ -1,3 +1,4 @@
 pub mod MarkLaws
 pub mod Marking
 pub mod Standings
+mod Refuted
