@@ -3,3 +3,4 @@ pub mod SharedBits
 pub mod Nearest
 pub mod LastUpTo
 pub mod Search
+mod Refuted
