@@ -1,3 +1,4 @@
 mod Drawing
 mod Parts
 mod Written
+mod Refuted
