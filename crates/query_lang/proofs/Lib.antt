@@ -6,3 +6,4 @@ pub mod FormLaws
 pub mod NoSpace
 pub mod TextLaws
 mod VerbWords
+mod Refuted
