@@ -1,3 +1,4 @@
 pub mod Standings
 pub mod Setting
 pub mod CountLaws
+mod Refuted
