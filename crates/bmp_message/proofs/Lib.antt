@@ -12,3 +12,4 @@ pub mod KnownStates
 pub mod LenientTells
 pub mod LenientEntries
 pub mod LenientRoutes
+mod Refuted
