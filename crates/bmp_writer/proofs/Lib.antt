@@ -18,3 +18,4 @@ pub mod Sizes
 pub mod Still
 pub mod Tlvs
 pub mod UpdatePut
+mod Refuted
