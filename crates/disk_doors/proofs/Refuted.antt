@@ -1,0 +1,47 @@
+-- What the clauses refuse: for each mistake that someone could make here, its result at one value.
+use Rattle.std.proofs.Common.{◌≡◌, inl, ℕ, ◌+◌, ◌<◌, List, [], ◌∷◌, length, ap, subst, sym, arith, Ok, Err}
+use Rattle.wire_io.specs.Faults.{HasCause, Rose}
+use Rattle.wire_io.specs.declared.sink.Failed.{Failed}
+use Rattle.disk_doors.specs.Images.{Range, Moment, IsIn, settled, wrote, AfterWrite}
+use Rattle.disk_doors.specs.Disk.{DiskValue, goes_to, WritesAt}
+use Rattle.disk_doors.specs.Put.{Puts}
+
+-- an empty file, with room for ten bytes
+abbrev empty : DiskValue
+empty = record { now = settled []; past = []; fails = []; room = 10; calls = 0 }
+
+-- after a write of the byte 65 at the place 0
+abbrev written : DiskValue → DiskValue
+written d = goes_to (wrote d.now 0 (65 ∷ [])) d
+
+-- after a sync
+abbrev synced : DiskValue → DiskValue
+synced d = goes_to (settled d.now.file) d
+
+-- A put writes its piece once, and syncs once.
+a_put_may_not_write_twice : Puts empty (synced (written (written empty))) 0 (65 ∷ []) (Ok tt) → ⊥
+a_put_may_not_write_twice p = absurd (omega (arith, p.few))
+
+-- A put that answers Ok has synced.
+a_put_may_not_leave_out_its_sync : Puts empty (written empty) 0 (65 ∷ []) (Ok tt) → ⊥
+a_put_may_not_leave_out_its_sync p = absurd (cc (ap (λ (m : Moment). m.ranges) p.done))
+
+-- A write that failed is among the ranges that a crash may change: it doesn't leave the moment as it was.
+a_failed_write_is_not_forgotten : (e : Failed) → WritesAt empty (goes_to empty.now empty) 0 (65 ∷ []) (Err e) → ⊥
+a_failed_write_is_not_forgotten e w =
+    let same : settled [] ≡ w.made = ap (λ (d : DiskValue). d.now) w.next in
+    absurd (cc (ap (λ (m : Moment). m.ranges) same, w.moment.ranges))
+
+-- Each byte of a piece whose write failed may be changed.
+a_failed_write_may_reach_its_places : (old new : Moment) (place i : ℕ) (piece : List ℕ) (e : Failed) → i < length piece → AfterWrite old place piece (Err e) new → IsIn new.ranges (place + i)
+a_failed_write_may_reach_its_places old new place i piece e l t = subst (λ (rs : List Range). IsIn rs (place + i)) (sym t.ranges) (inl (omega arith, omega (arith, l)))
+
+-- A call that failed raised the count of faults by one: not by none, and not by two.
+a_fault_is_counted : Rose 0 0 → ⊥
+a_fault_is_counted r = absurd (omega (arith, r))
+
+a_fault_is_counted_once : Rose 0 2 → ⊥
+a_fault_is_counted_once r = absurd (omega (arith, r))
+
+no_fault_is_counted_where_none_was : HasCause {T = ℕ} {E = Failed} 0 1 (Ok 0) → ⊥
+no_fault_is_counted_where_none_was c = absurd (omega (arith, c.fine))
