@@ -13,3 +13,4 @@ pub mod Telling
 pub mod Asked
 pub mod AsideReads
 pub mod Holding
+mod Refuted
