@@ -11,3 +11,4 @@ pub mod GivenConnections
 pub mod Longer
 pub mod WholeLives
 pub mod Planned
+mod Refuted

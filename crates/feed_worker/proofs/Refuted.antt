@@ -1,0 +1,103 @@
+-- What the clauses refuse: for each mistake that someone could make here, its result at one value.
+use Rattle.std.proofs.Common.{◌≡◌, ◌⊎◌, inl, inr, ⊎_elim, ℕ, ◌+◌, ◌≤◌, Bool, true, false, List, [], ◌∷◌, ◌++◌, length, take, refl, sym, ◌∙◌, ap, subst, append-nil, length-append, arith, nat_lt, Some, Result, Ok, Err}
+use Rattle.std.specs.Prelude.{MatchBool}
+use Rattle.std.proofs.lemmas.List.{length-map, take_at}
+use Rattle.bmp_specs.specs.declared.causes.Cause.{Cause}
+use Rattle.bmp_specs.specs.declared.causes.Cause.TheVariants.{Ended, ReadFault}
+use Rattle.bmp_specs.specs.Life.{LastRead, gave, failed, IsLife, IsOpenLife}
+use Rattle.bmp_specs.specs.Meaning.{Meaning, IsExact, WalksBy}
+use Rattle.bmp_specs.specs.Values.{EntryValue, opened, message, closed}
+use Rattle.bmp_specs.specs.Walk.{whole}
+use Rattle.bmp_specs.proofs.WalkOne.{walk_one}
+use Rattle.cut_publisher.specs.History.{Fed}
+use Rattle.rib_model.specs.declared.entry.Entry.{Entry}
+use Rattle.rib_model.specs.Entries.{entry_value}
+use Rattle.station_doors.specs.Doors.{Opens, IsRefusal, CountsLast}
+use Rattle.wire_io.specs.declared.sink.Failed.{Failed}
+use Rattle.wire_io.specs.Aside.{Aside, nothing_aside}
+use Rattle.feed_worker.specs.Connection.{TakesConnection, IsBegun}
+use Rattle.feed_worker.specs.Feed.{Refuses, ServesAll, Stops, most_entries}
+use Rattle.feed_worker.specs.FeedPort.{IsAtRest, IsPublishedWhereTold}
+use Rattle.feed_worker.specs.Publishing.{Grows}
+
+-- A meaning of bodies under which each has an entry without effects, and the walk of one Initiation without a TLV.
+abbrev plain : Meaning
+plain = record { State = Unit {0}; start = tt; Means = λ s kind body e t. e ≡ message kind (6 + length body) [] }
+
+exact : IsExact plain
+exact s t u kind body e f p q = (p ∙ sym q, refl)
+
+abbrev one : List ℕ
+one = 3 ∷ 0 ∷ 0 ∷ 0 ∷ 6 ∷ 4 ∷ []
+
+abbrev entry : EntryValue
+entry = message 4 6 []
+
+walks_one : WalksBy plain one (entry ∷ []) 6 whole
+walks_one = (record { frame = one; rest = []; kind = 4; body = []; next = tt; split = refl; is_frame = record { header = omega arith; version = refl; length_is = refl; in_range = (omega arith, omega arith); kind_is = refl; body_is = refl }; means = refl }, (0, refl, (refl, refl)))
+
+walks_two : WalksBy plain (one ++ one) (entry ∷ entry ∷ []) 12 whole
+walks_two = (record { frame = one; rest = one; kind = 4; body = []; next = tt; split = refl; is_frame = record { header = omega arith; version = refl; length_is = refl; in_range = (omega arith, omega arith); kind_is = refl; body_is = refl }; means = refl }, (6, refl, walks_one))
+
+-- Memory that runs out leaves the messages of whole reads: of all bytes, or of those before the last read, or nothing.
+begun_at_edge : (meaning : Meaning) (began : ℕ) (bytes : List ℕ) (entries : List EntryValue) → IsBegun meaning (Some began) bytes entries
+    → ((bytes ≡ []) × (entries ≡ [])) ⊎ (IsOpenLife meaning (take began bytes) entries ⊎ IsOpenLife meaning bytes entries)
+begun_at_edge meaning began bytes entries (inl none) = inl none
+begun_at_edge meaning began bytes entries (inr l) =
+    inr (⊎_elim
+    (λ (e : l.piece ≡ []). inr (subst (λ (b : List ℕ). IsOpenLife meaning b entries) (sym (l.split ∙ ap (λ (p : List ℕ). l.front ++ p) e ∙ append-nil l.front)) l.life))
+    (λ (e : length l.front ≡ began). inl (subst (λ (b : List ℕ). IsOpenLife meaning b entries) (sym (ap (λ (b : List ℕ). take began b) l.split ∙ take_at l.front l.piece began e)) l.life))
+    l.edge)
+
+-- Of a read with two messages the first isn't published alone.
+a_read_is_not_published_in_part : IsBegun plain (Some 0) (one ++ one) (opened ∷ entry ∷ []) → ⊥
+a_read_is_not_published_in_part b =
+    ⊎_elim
+    (λ none. absurd (omega (arith, ap length none.0)))
+    (⊎_elim
+    (λ l. absurd (omega (arith, ap length l.is, ap length (walk_one plain.Means exact tt [] l.messages [] l.offset 0 l.verdict whole l.walk (refl, refl)).0)))
+    (λ l. absurd (omega (arith, ap length l.is, ap length (walk_one plain.Means exact tt (one ++ one) l.messages (entry ∷ entry ∷ []) l.offset 12 l.verdict whole l.walk walks_two).0))))
+    (begun_at_edge plain 0 (one ++ one) (opened ∷ entry ∷ []) b)
+
+-- A message that came whole doesn't wait: nothing is read while it is unpublished.
+a_message_does_not_wait : IsPublishedWhereTold plain (opened ∷ []) (Some (record { bytes = one; last = gave } ∷ [])) → ⊥
+a_message_does_not_wait p =
+    let messages = walk_one plain.Means exact tt one p.messages (entry ∷ []) p.offset 6 p.verdict whole p.walk walks_one in
+    absurd (omega (arith, ap length messages.0, ap length p.is, length-append p.before (opened ∷ p.messages)))
+
+-- A closing doesn't wait: no connection is asked for while it is unpublished.
+not_closed : (before : List EntryValue) (cause : Cause) → opened ∷ entry ∷ [] ≡ before ++ closed cause ∷ [] → ⊥
+not_closed [] cause e = absurd (omega (arith, ap length e))
+not_closed (x ∷ []) cause e = absurd (cc e)
+not_closed (x ∷ y ∷ before) cause e = absurd (omega (arith, ap length e, length-append before (closed cause ∷ [])))
+
+a_closing_does_not_wait : IsAtRest (opened ∷ entry ∷ []) → ⊥
+a_closing_does_not_wait r = ⊎_elim (λ e. absurd (cc e)) (λ b. not_closed b.0 b.1 b.2) r
+
+-- A closing isn't left out: a pass that stays as it was published none, and what was published isn't a life.
+a_closing_is_published : (pass : Fed Entry) → Grows pass pass (closed Ended ∷ []) → ⊥
+a_closing_is_published pass g = absurd (omega (arith, ap length g.entries, length-append pass.entries g.made, ap length g.values_are, length-map g.made entry_value))
+
+a_life_has_a_closing : (meaning : Meaning) (bytes : List ℕ) (last : LastRead) → IsLife meaning bytes last (opened ∷ []) → ⊥
+a_life_has_a_closing meaning bytes last l = absurd (omega (arith, ap length l.is, length-append l.messages (closed l.cause ∷ [])))
+
+-- No failed read is told where no read failed.
+abbrev connected : Aside
+connected = record nothing_aside { opened = 1; is_open = true }
+
+no_read_fault_without_a_failed_read : (meaning : Meaning) (pass pass' : Fed Entry) → TakesConnection meaning connected connected pass pass' (ReadFault 0) → ⊥
+no_read_fault_without_a_failed_read meaning pass pass' t =
+    let rose = subst (λ (last : LastRead). CountsLast 0 0 last) t.come.because.fits.0 t.took.read_faults in
+    absurd (omega (arith, rose))
+
+-- A lane that is to serve 4,097 connections asks for the last of them.
+not_refused : (a b : Aside) (r : Result Bool Failed) → IsRefusal r → Opens a b r → b.refused ≡ false → a.open_faults ≡ 0 → b.open_faults ≡ 0 → ⊥
+not_refused a b (Ok true) i o f x y = absurd i
+not_refused a b (Ok false) i o f x y = absurd (cc (o.refused, f))
+not_refused a b (Err e) i o f x y = absurd (omega (arith, o.cause.failed, x, y))
+
+a_lane_asks_for_each_connection : (meaning : Meaning) (old new : Aside) (pass pass' : Fed Entry) (s : ServesAll meaning 4097 old new pass pass')
+    → length s.connections ≡ 4096 → length pass'.entries ≤ most_entries → s.after ≡ new → new.refused ≡ false → new.open_faults ≡ 0 → ⊥
+a_lane_asks_for_each_connection meaning old new pass pass' s count few same going calm =
+    let stop = subst (λ (n : ℕ). MatchBool (nat_lt n 4097) (Stops s.after new pass') ((n ≡ 4097) × (new ≡ s.after))) count s.stop in
+    ⊎_elim (λ (r : Refuses s.after new). not_refused s.after new r.result r.refused r.opens going (ap (λ (a : Aside). a.open_faults) same ∙ calm) calm) (λ many. absurd (omega (arith, few, many.0))) stop
