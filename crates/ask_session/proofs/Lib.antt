@@ -7,3 +7,4 @@ pub mod Living
 pub mod Serving
 pub mod Later
 pub mod GivenSessions
+mod Refuted
