@@ -8,3 +8,4 @@ pub mod Starting
 pub mod Growing
 pub mod Publishing
 pub mod Moving
+mod Refuted
