@@ -11,3 +11,4 @@ pub mod Emitting
 pub mod OneForm
 pub mod OneMessage
 pub mod OneStream
+mod Refuted
