@@ -4,3 +4,4 @@ pub mod Peers
 pub mod Lists
 pub mod Scans
 pub mod Gathering
+mod Refuted
