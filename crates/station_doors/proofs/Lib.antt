@@ -4,3 +4,4 @@ pub mod Rests
 pub mod Planned
 pub mod ReadLaws
 pub mod DiskPaths
+mod Refuted

@@ -1,0 +1,67 @@
+-- What the clauses refuse: for each mistake that someone could make here, its result at one value.
+use Rattle.std.proofs.Common.{◌≡◌, ℕ, ◌^◌, true, false, List, [], ◌∷◌, map, length, refl, ap, arith, Option, Some, None, Ok, Err}
+use Rattle.wire_io.specs.Aside.{Aside, nothing_aside}
+use Rattle.disk_doors.specs.Disk.{DiskValue, nothing}
+use Rattle.station_doors.specs.Doors.{YardValue, Returned, Reads, TakesBackTold}
+use Rattle.station_doors.specs.Files.{GivesFile, ReadsWhole}
+use Rattle.station_doors.specs.Disks.{HandsOutDisk}
+use Rattle.station_doors.specs.Connections.{shows_of, port_shows}
+use Rattle.station_doors.specs.declared.connections.Session.{Session}
+use Rattle.station_doors.specs.declared.connections.Last.TheVariants.{Gave}
+use Rattle.station_doors.specs.declared.files.FileFault.TheVariants.{TooLong}
+
+-- a yard that has nothing
+abbrev bare : YardValue
+bare = record { ports = []; links = []; fails = []; out = []; links_out = []; back = []; links_back = []; files = []; disks = [] }
+
+-- the path "a"
+abbrev path_a : List ℕ
+path_a = 97 ∷ []
+
+-- A disk is handed out under its whole path: that of the path "ab" isn't for who asks for "a".
+abbrev with_disk_ab : YardValue
+with_disk_ab = record bare { disks = record { path = 97 ∷ 98 ∷ []; shows = Some (record { value = nothing; faults = 0 }) } ∷ [] }
+
+a_disk_of_a_longer_path_is_not_handed_out : (new : Option YardValue) → HandsOutDisk {D = DiskValue} (Unit {0}) (λ d. d) (λ d. 0) path_a 0 (Some with_disk_ab) new (Ok nothing) → ⊥
+a_disk_of_a_longer_path_is_not_handed_out new h = absurd (cc (h.2))
+
+-- A call that the plan fails gives no file.
+abbrev with_file : List ℕ → List ℕ → YardValue
+with_file fails bytes = record bare { fails = fails; files = record { path = path_a; bytes = bytes } ∷ [] }
+
+a_call_that_is_to_fail_gives_no_file : (bytes : List ℕ) (new : Option YardValue) → GivesFile path_a 0 (Some (with_file (0 ∷ []) (65 ∷ []))) new (Ok bytes) → ⊥
+a_call_that_is_to_fail_gives_no_file bytes new g = g.0 (0, omega arith, refl)
+
+-- A file of exactly 2^26 bytes isn't too long, and one of a byte more is.
+a_file_of_2_26_bytes_is_not_too_long : (bytes : List ℕ) (new : Option YardValue) → length bytes ≡ 2 ^ 26 → GivesFile path_a 0 (Some (with_file [] bytes)) new (Err TooLong) → ⊥
+a_file_of_2_26_bytes_is_not_too_long bytes new size g =
+    let e : ◌≡◌ {A = Option (List ℕ)} (Some bytes) (Some g.1) = g.2 in
+    let same : bytes ≡ g.1 = cc in
+    absurd (omega (arith, size, ap length same, g.3))
+
+an_input_of_2_26_bytes_is_not_too_long : (bytes : List ℕ) → length bytes ≡ 2 ^ 26 → ReadsWhole (Some bytes) (Err TooLong) → ⊥
+an_input_of_2_26_bytes_is_not_too_long bytes size r = absurd (omega (arith, size, r))
+
+a_file_of_a_byte_more_is_too_long : (bytes : List ℕ) → length bytes ≡ 67108865 → ReadsWhole (Some bytes) (Ok bytes) → ⊥
+a_file_of_a_byte_more_is_too_long bytes size r = absurd (omega (arith, size, r.0))
+
+-- A read gives what follows the bytes that were given, and not those again.
+abbrev session : ℕ → Session
+session count = record { bytes = 65 ∷ 66 ∷ []; count = count; last = Gave; writes = 0 }
+
+abbrev port_after : ℕ → ℕ → Aside
+port_after count taken = port_shows [] (shows_of (session count ∷ []) 1 0 true taken false 0)
+
+a_byte_is_not_given_again : Reads (port_after 0 0) (port_after 0 1) (Ok 1) (65 ∷ []) → ⊥
+a_byte_is_not_given_again r = absurd (omega (arith, ap length (r.rest.0)))
+
+-- A port comes back under the number under which it was handed out.
+abbrev lanes_back : Option YardValue → List ℕ
+lanes_back None = []
+lanes_back (Some y) = map (λ (b : Returned). b.lane) y.back
+
+abbrev lent : YardValue
+lent = record bare { out = 1 ∷ [] }
+
+a_port_does_not_come_back_under_another_number : TakesBackTold 1 nothing_aside lent (Some (record lent { out = []; back = record { lane = 0; shows = nothing_aside } ∷ [] })) → ⊥
+a_port_does_not_come_back_under_another_number t = absurd (cc (ap lanes_back (t.lent (0, omega arith, refl))))
