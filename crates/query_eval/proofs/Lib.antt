@@ -25,3 +25,4 @@ pub mod LinesThere
 pub mod RepliesThere
 pub mod Batches
 pub mod HistoryLanes
+mod Refuted

@@ -1,0 +1,128 @@
+-- Wrong replies, which the clauses of their calls refuse.
+use Rattle.std.proofs.Common.{◌≡◌, ◌<◌, ℕ, zero, suc, false, List, [], ◌∷◌, length, flat_map, replicate, slice_index, slice_index_or, codes, None, Some, Err, refl, ap, sym, ◌∙◌, inl, inr, append-nil, arith}
+use Rattle.std.specs.Fmt.{digits}
+use Rattle.bmp_specs.specs.declared.peers.View.{View}
+use Rattle.bmp_specs.specs.declared.peers.View.TheVariants.{InPre, InPost}
+use Rattle.bmp_specs.specs.declared.wire.Family.TheVariants.{V4}
+use Rattle.bmp_specs.specs.PeerLines.{lane_line}
+use Rattle.bmp_specs.specs.PeerUp.{IsUp}
+use Rattle.bmp_specs.specs.Query.{cut, longest}
+use Rattle.bmp_specs.specs.QueryReply.{IsReply}
+use Rattle.bmp_specs.specs.QueryRows.{AsksRow, IsLongestMatch}
+use Rattle.bmp_specs.specs.Reply.{reply}
+use Rattle.bmp_specs.specs.Rows.{RowValue, HasRow}
+use Rattle.bmp_specs.specs.Selection.{SelectValue, IsRowSelected, select_all}
+use Rattle.bmp_specs.specs.TableRows.{AreRows}
+use Rattle.bmp_specs.specs.Values.{AddressValue, AttrsValue, EffectValue, KeyValue, NlriValue, OpenValue, PeerInfoValue, up, announce}
+use Rattle.bmp_specs.proofs.RowLaws.{none_row, row_from, row_now, row_still, up_now, up_still}
+use Rattle.wire_io.specs.Faults.{HasCause}
+
+-- the lines of one lane are those of its part
+one_part : (lines : List (List ℕ)) (parts : List (List (List ℕ))) (line : List ℕ) → length parts ≡ 1 → slice_index_or parts 0 [] ≡ line ∷ [] → lines ≡ flat_map (λ part. part) parts → lines ≡ line ∷ []
+one_part lines [] line n first all = absurd (omega (arith, n))
+one_part lines (p ∷ []) line n first all = all ∙ append-nil p ∙ first
+one_part lines (p ∷ q ∷ parts) line n first all = absurd (omega (arith, n))
+
+-- The last line counts the first one too: `cut` tells one line of a lane without an entry, and the reply ends with 2.
+the_first_line_is_not_counted : IsReply cut ([] ∷ []) (codes "at 0\nlane 0 0\nend 2\n") → ⊥
+unfolding digits
+the_first_line_is_not_counted r =
+    let lines : r.lines ≡ lane_line 0 0 ∷ [] = one_part r.lines r.are_lines.parts (lane_line 0 0) r.are_lines.each.count (r.are_lines.each.each 0 [] [] (omega arith)) r.are_lines.all in
+    omega (arith, ap (λ (text : List ℕ). slice_index text 18) (r.told ∙ ap (reply 0) lines))
+
+-- After a write that failed the buffer is flushed once more, and that fails too: two faults are counted.
+a_failed_call_counts_one_fault : {T E : Type 0} (fault : E) → HasCause {T = T} {E = E} 0 2 (Err fault) → ⊥
+a_failed_call_counts_one_fault fault c = omega (arith, c.failed.1)
+
+-- an IPv4 address or prefix that begins with these two octets
+abbrev address : ℕ → ℕ → AddressValue
+address a b = record { family = V4; octets = a ∷ b ∷ replicate 14 0 }
+
+-- 10.0.0.0/8 and 10.1.0.0/16, which both hold 10.1.0.0
+abbrev short : NlriValue
+short = record { prefix = record { address = address 10 0; bits = 8 }; id = None }
+
+abbrev long : NlriValue
+long = record { prefix = record { address = address 10 1; bits = 16 }; id = None }
+
+abbrev route : AttrsValue
+route = record { origin = None; path = None; hop = None; med = None; pref = None; atomic = false; aggregator = None; communities = []; others = [] }
+
+abbrev an_open : OpenValue
+an_open = record { version = 4; my_as = 64500; hold = 180; identifier = 192 ∷ 0 ∷ 2 ∷ 1 ∷ []; four = None; families = []; paths = []; extended = false }
+
+abbrev info : PeerInfoValue
+info = record { asn = 64500; identifier = 192 ∷ 0 ∷ 2 ∷ 1 ∷ []; local = address 192 0; local_port = 179; remote_port = 179; sent = an_open; received = an_open; filtered = false; table = None }
+
+abbrev peer : ℕ → KeyValue
+peer number = record { kind = 0; distinguisher = number; address = address 192 0 }
+
+abbrev row_of : KeyValue → View → NlriValue → RowValue
+row_of key view nlri = record { row_key = record { key = key; view = view; nlri = nlri }; route = route }
+
+-- two tables: the one has the short prefix, the other the long one
+abbrev ups : KeyValue → KeyValue → List EffectValue
+ups one other = up one info ∷ up other info ∷ []
+
+abbrev two_tables : KeyValue → View → KeyValue → View → List EffectValue
+two_tables one in_one other in_other = up one info ∷ up other info ∷ announce one in_one short route ∷ announce other in_other long route ∷ []
+
+-- no prefix of the first table is longer than its short one
+none_longer : (one : KeyValue) (in_one : View) (other : KeyValue) (in_other : View) → ((one ≡ other) × (in_one ≡ in_other) → ⊥)
+    → (row : RowValue) → HasRow (two_tables one in_one other in_other) row → row.row_key.key ≡ one → row.row_key.view ≡ in_one → row.row_key.nlri ≡ short
+none_longer one in_one other in_other two row h key view =
+    elim (row_from (up one info ∷ up other info ∷ announce one in_one short route ∷ []) (announce other in_other long route) row h) [
+      | inl p ↦ (let e : announce other in_other long route ≡ announce row.row_key.key row.row_key.view row.row_key.nlri row.route = p.0 in
+          let k : other ≡ row.row_key.key = cc in
+          let v : in_other ≡ row.row_key.view = cc in
+          absurd (two (sym (k ∙ key), sym (v ∙ view))))
+      | inr p ↦ elim (row_from (ups one other) (announce one in_one short route) row p.0) [
+        | inl q ↦ (let e : announce one in_one short route ≡ announce row.row_key.key row.row_key.view row.row_key.nlri row.route = q.0 in
+            let n : short ≡ row.row_key.nlri = cc in
+            sym n)
+        | inr q ↦ absurd (no_row_yet q.0)
+      ]
+    ]
+  where
+    no_row_yet : HasRow (ups one other) row → ⊥
+    no_row_yet g = elim (row_from (up one info ∷ []) (up other info) row g) [
+      | inl p ↦ (let e : up other info ≡ announce row.row_key.key row.row_key.view row.row_key.nlri row.route = p.0 in cc)
+      | inr p ↦ elim (row_from [] (up one info) row p.0) [
+        | inl q ↦ (let e : up one info ≡ announce row.row_key.key row.row_key.view row.row_key.nlri row.route = q.0 in cc)
+        | inr q ↦ none_row row q.0
+      ]
+    ]
+
+-- a list of one row has no row of another table
+not_among : (one other : RowValue) → (one ≡ other → ⊥) → (k : ℕ) → k < 1 → slice_index_or (other ∷ []) k one ≡ one → ⊥
+not_among one other differ zero less e = differ (sym e)
+not_among one other differ (suc k) less e = omega (arith, less)
+
+-- where `match` is asked of two tables, the row of the one with the longer prefix isn't all
+each_has_its_longest : (one : KeyValue) (in_one : View) (other : KeyValue) (in_other : View) (select : SelectValue) → ((one ≡ other) × (in_one ≡ in_other) → ⊥)
+    → IsUp (ups one other) one → IsRowSelected select 0 (row_of one in_one short)
+    → AreRows (AsksRow (longest (address 10 1) select) 0 (two_tables one in_one other in_other)) (two_tables one in_one other in_other) (row_of other in_other long ∷ []) → ⊥
+each_has_its_longest one in_one other in_other select two is_up selected rows =
+    let row : RowValue = row_of one in_one short in
+    let there : HasRow (two_tables one in_one other in_other) row =
+    row_still (up one info ∷ up other info ∷ announce one in_one short route ∷ []) (announce other in_other long route) row (λ r. two (sym r.0, sym r.1)) (row_now (ups one other) row is_up) in
+    let best : IsLongestMatch (two_tables one in_one other in_other) (address 10 1) row = record {
+      holds = record { family = refl; agree = refl };
+      longest_of = λ o h k v holds. omega (arith, ap (λ (n : NlriValue). n.prefix.bits) (none_longer one in_one other in_other two o h k v));
+    } in
+    let told = (rows.exact row).1 (there, (best, selected)) in
+    not_among row (row_of other in_other long) (λ e. omega (arith, ap (λ (r : RowValue). r.row_key.nlri.prefix.bits) e)) told.0 told.1 told.2
+
+-- Where no peer is named, `match` tells the longest of two peers' tables, in place of one for each.
+match_tells_one_for_each_peer : AreRows (AsksRow (longest (address 10 1) select_all) 0 (two_tables (peer 1) InPre (peer 2) InPre)) (two_tables (peer 1) InPre (peer 2) InPre) (row_of (peer 2) InPre long ∷ []) → ⊥
+match_tells_one_for_each_peer = each_has_its_longest (peer 1) InPre (peer 2) InPre select_all
+    (λ same. omega (arith, ap (λ (k : KeyValue). k.distinguisher) same.0))
+    (up_still (up (peer 1) info ∷ []) (up (peer 2) info) (peer 1) (λ e. omega (arith, ap (λ (k : KeyValue). k.distinguisher) e)) (up_now [] (peer 1) info))
+    (record { of_peer = record { router_is = tt; peer_is = tt }; view_is = tt; family_is = tt })
+
+-- Of a peer that is named, `match` tells the longest of two views, in place of one for each view.
+match_tells_one_for_each_view : AreRows (AsksRow (longest (address 10 1) (record { router = None; peer = Some (peer 1); view = None; family = None })) 0 (two_tables (peer 1) InPre (peer 1) InPost)) (two_tables (peer 1) InPre (peer 1) InPost) (row_of (peer 1) InPost long ∷ []) → ⊥
+match_tells_one_for_each_view = each_has_its_longest (peer 1) InPre (peer 1) InPost (record { router = None; peer = Some (peer 1); view = None; family = None })
+    (λ same. let e : InPre ≡ InPost = same.1 in cc)
+    (up_now (up (peer 1) info ∷ []) (peer 1) info)
+    (record { of_peer = record { router_is = tt; peer_is = refl }; view_is = tt; family_is = tt })
