@@ -3,3 +3,4 @@ pub mod Copies
 pub mod TwoParts
 pub mod Joined
 pub mod MoreItems
+mod Refuted
