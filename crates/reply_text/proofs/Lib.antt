@@ -2,3 +2,4 @@ pub mod Pieces
 pub mod Digits
 pub mod Fronts
 pub mod Joining
+mod Refuted

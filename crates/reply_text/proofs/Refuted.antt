@@ -1,0 +1,71 @@
+-- Wrong texts and answers, which the clauses of their calls refuse.
+use Rattle.std.proofs.Common.{◌≡◌, ℕ, false, List, [], ◌∷◌, length, replicate, slice_index, codes, Option, None, Some, Ok, refl, ap, arith}
+use Rattle.std.specs.Fmt.{digits}
+use Rattle.bmp_specs.specs.declared.peers.View.TheVariants.{InPre}
+use Rattle.bmp_specs.specs.declared.wire.Family.TheVariants.{V4}
+use Rattle.bmp_specs.specs.AddressText.{dotted}
+use Rattle.bmp_specs.specs.EscapedText.{escaped_text}
+use Rattle.bmp_specs.specs.NumberText.{number_text}
+use Rattle.bmp_specs.specs.PeerText.{hex_text, distinguisher_text}
+use Rattle.bmp_specs.specs.RouteLine.{route_line}
+use Rattle.bmp_specs.specs.Rows.{RowKeyValue}
+use Rattle.bmp_specs.specs.Values.{AddressValue, AttrsValue}
+use Rattle.wire_io.specs.Aside.{Aside}
+use Rattle.wire_io.specs.Writes.{Writes}
+use Rattle.reply_text.specs.Rov.{rov_line}
+
+-- an IPv4 address
+abbrev ipv4 : ℕ → ℕ → ℕ → ℕ → AddressValue
+ipv4 a b c d = record { family = V4; octets = a ∷ b ∷ c ∷ d ∷ replicate 12 0 }
+
+-- 10.0.0.0/8 of a peer, with a path identifier or without one
+abbrev place : Option ℕ → RowKeyValue
+place id = record {
+  key = record { kind = 0; distinguisher = 0; address = ipv4 192 0 2 1 };
+  view = InPre;
+  nlri = record { prefix = record { address = ipv4 10 0 0 0; bits = 8 }; id = id };
+}
+
+-- a route without path attributes
+abbrev bare : AttrsValue
+bare = record { origin = None; path = None; hop = None; med = None; pref = None; atomic = false; aggregator = None; communities = []; others = [] }
+
+a_route_without_an_id_has_no_field_of_it : route_line 3 (record { row_key = place None; route = bare })
+    ≡ codes "route 3 0-0000000000000000-192.0.2.1 adj-in-pre 10.0.0.0/8 next=- origin=- path=- med=- pref=- atomic=no agg=- comm=- other=-\n"
+unfolding digits hex_text distinguisher_text dotted
+a_route_without_an_id_has_no_field_of_it = refl
+
+-- A route without a path identifier is told with one of 0.
+a_route_without_an_id_has_none_of_0 : route_line 3 (record { row_key = place None; route = bare })
+    ≡ codes "route 3 0-0000000000000000-192.0.2.1 adj-in-pre 10.0.0.0/8 next=- origin=- path=- med=- pref=- atomic=no agg=- comm=- other=- id=0\n" → ⊥
+unfolding digits hex_text distinguisher_text dotted
+a_route_without_an_id_has_none_of_0 e = omega (arith, ap length e)
+
+-- A write that failed, which the sink counted, is answered as one that didn't.
+a_write_that_failed_is_not_answered_ok : (told : ℕ → Option (List ℕ)) (aside : ℕ → Aside) (text : List ℕ) → Writes (λ faults. faults) told aside 0 text (Ok tt) 1 → ⊥
+a_write_that_failed_is_not_answered_ok told aside text w = omega (arith, w.cause.fine)
+
+a_space_of_a_name_is_escaped : escaped_text (codes "edge 1") ≡ codes "edge%201"
+a_space_of_a_name_is_escaped = refl
+
+-- A space in a router's name stands as it is, and ends the field.
+a_space_of_a_name_does_not_stand : escaped_text (codes "edge 1") ≡ codes "edge 1" → ⊥
+a_space_of_a_name_does_not_stand e = omega (arith, ap length e)
+
+a_number_of_eight_digits_has_each : number_text 12345678 ≡ codes "12345678"
+unfolding digits
+a_number_of_eight_digits_has_each = refl
+
+-- Of a number of eight digits the thousands are told as 0.
+the_thousands_are_not_lost : number_text 12345678 ≡ codes "12340678" → ⊥
+unfolding digits
+the_thousands_are_not_lost e = omega (arith, ap (λ (l : List ℕ). slice_index l 4) e)
+
+a_judged_row_tells_its_origin : rov_line 3 (place None) (Some 64500) (codes "valid") ≡ codes "rov 3 0-0000000000000000-192.0.2.1 adj-in-pre 10.0.0.0/8 64500 valid\n"
+unfolding digits hex_text distinguisher_text dotted
+a_judged_row_tells_its_origin = refl
+
+-- The line of a row that is judged says that its route has no origin, whatever it is.
+an_origin_is_not_told_as_none : rov_line 3 (place None) (Some 64500) (codes "valid") ≡ codes "rov 3 0-0000000000000000-192.0.2.1 adj-in-pre 10.0.0.0/8 none valid\n" → ⊥
+unfolding digits hex_text distinguisher_text dotted
+an_origin_is_not_told_as_none e = omega (arith, ap length e)
