@@ -14,3 +14,4 @@ pub mod EntrySteps
 pub mod GatheredSteps
 pub mod LastToTell
 pub mod Builders
+mod Refuted
