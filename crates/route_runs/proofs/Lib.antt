@@ -27,3 +27,4 @@ pub mod NumberOrder
 pub mod NumberBytes
 pub mod ChangesOfHalves
 pub mod Setwise
+mod Refuted
