@@ -7,3 +7,4 @@ pub mod Decided
 mod Drilled
 pub mod Counting
 pub mod Counted
+mod Refuted
