@@ -19,6 +19,8 @@ pub struct HostDisk {
     faults: u64,
     // A sync failed.
     broken: bool,
+    // What the system said at the first of its calls that failed.
+    error: Option<io::Error>,
 }
 
 // The folder that the path stands in.
@@ -97,16 +99,25 @@ impl HostDisk {
             file,
             faults: 0,
             broken: false,
+            error: None,
         })
     }
 
-    // Counts a fault.
-    fn fail(&mut self) -> Failed
+    /// What the system said at the first of its calls that failed; None where none did.
+    pub fn into_error(self) -> Option<io::Error> {
+        self.error
+    }
+
+    // Counts a fault, and keeps the first error.
+    fn fail(&mut self, error: Option<io::Error>) -> Failed
         ensures rose { Rose self.old.faults self.new.faults }
         ensures later { self.old.faults ≤ self.new.faults }
         ensures same { self.new.broken ≡ self.old.broken }
     {
         self.faults = self.faults.saturating_add(1);
+        if self.error.is_none() {
+            self.error = error;
+        }
         Failed
     }
 }
@@ -125,11 +136,11 @@ impl Disk for HostDisk {
         ensures whole { OnOk result (self.old.broken ≡ false) }
     {
         if self.broken {
-            return Err(self.fail());
+            return Err(self.fail(None));
         }
         match self.file.metadata() {
             Ok(about) => Ok(about.len()),
-            Err(_) => Err(self.fail()),
+            Err(error) => Err(self.fail(Some(error))),
         }
     }
 
@@ -141,11 +152,11 @@ impl Disk for HostDisk {
         ensures whole { OnOk result (self.old.broken ≡ false) }
     {
         if self.broken {
-            return Err(self.fail());
+            return Err(self.fail(None));
         }
         match fill(&self.file, place, buf) {
             Ok(count) => Ok(count),
-            Err(_) => Err(self.fail()),
+            Err(error) => Err(self.fail(Some(error))),
         }
     }
 
@@ -156,11 +167,11 @@ impl Disk for HostDisk {
         ensures whole { OnOk result (self.old.broken ≡ false) }
     {
         if self.broken {
-            return Err(self.fail());
+            return Err(self.fail(None));
         }
         match self.file.write_all_at(piece, place) {
             Ok(()) => Ok(()),
-            Err(_) => Err(self.fail()),
+            Err(error) => Err(self.fail(Some(error))),
         }
     }
 
@@ -172,13 +183,13 @@ impl Disk for HostDisk {
         ensures breaks { OnErr result (self.new.broken ≡ true) }
     {
         if self.broken {
-            return Err(self.fail());
+            return Err(self.fail(None));
         }
         match self.file.sync_all() {
             Ok(()) => Ok(()),
-            Err(_) => {
+            Err(error) => {
                 self.broken = true;
-                Err(self.fail())
+                Err(self.fail(Some(error)))
             }
         }
     }
