@@ -8,6 +8,10 @@ use Rattle.wire_io.specs.Faults.{HasCause, Rose}
 use Rattle.disk_doors.specs.Disk.{DiskValue}
 use Rattle.station_doors.specs.declared.listening.Listening.{Listening}
 
+-- the most routers that are listened for, and the most clients
+abbrev pub most_places : ℕ
+most_places = 64
+
 -- one more, at most what 64 bits hold
 abbrev pub one_more : ℕ → ℕ
 one_more n = min (n + 1) (2 ^ 64 - 1)

@@ -4,14 +4,14 @@ ghost use Rattle.station_doors.specs.Files.{HasFileCause};
 ghost use Rattle.station_doors.specs.Doors.{CountsCall, LeavesRest, askers_of, counts_only, one_more};
 
 use crate::files::read_whole;
-use crate::sockets::{MOST, listen_at, take_listener};
-use crate::{FileFault, HostLink, HostPort, Listening, Yard};
+use crate::sockets::{MOST_PLACES, listen_at, take_listener};
+use crate::{FileFault, HostFault, HostLink, HostPort, Listening, Yard};
 use disk_doors::HostDisk;
 use std::alloc::Global;
 use std::fs;
 use std::fs::{File, Files};
-use std::io::Read;
-use std::net::{Net, TcpListener, TcpStream};
+use std::io::{self, Read};
+use std::net::{Net, SocketAddr, TcpListener, TcpStream};
 use std::time::Clock;
 use wire_io::{ByteList, Failed, NoMemory};
 
@@ -31,6 +31,7 @@ pub struct HostYard<'a, R, N> {
     calls: u64,
     faults: u64,
     endings: u64,
+    fault: Option<HostFault>,
 }
 
 impl<
@@ -47,8 +48,8 @@ impl<
         ensures listened { IfOk result (λ y. y.listened ≡ None) }
         ensures endings { IfOk result (λ y. y.endings ≡ 0) }
     {
-        let feeds = Vec::with_capacity(alloc, MOST as usize)?;
-        let askers = Vec::with_capacity(alloc, MOST as usize)?;
+        let feeds = Vec::with_capacity(alloc, MOST_PLACES as usize)?;
+        let askers = Vec::with_capacity(alloc, MOST_PLACES as usize)?;
         Ok(HostYard {
             input: Some(input),
             net,
@@ -58,8 +59,42 @@ impl<
             calls: 0,
             faults: 0,
             endings: 0,
+            fault: None,
         })
     }
+
+    /// Why it couldn't give what it was asked for last, or why a read of its input failed; None where neither happened.
+    pub fn fault(&self) -> Option<&HostFault> {
+        self.fault.as_ref()
+    }
+}
+
+impl<'a, R, N> HostYard<'a, R, N> {
+    // Keeps why it couldn't give something.
+    fn blame(&mut self, port: Option<SocketAddr>, error: io::Error)
+        ensures same { (self.new.input ≡ self.old.input) × (self.new.calls ≡ self.old.calls) × (self.new.listened ≡ self.old.listened) × (self.new.endings ≡ self.old.endings) }
+        ensures calm { self.new.faults ≡ self.old.faults }
+    {
+        self.fault = Some(HostFault { port, error });
+    }
+}
+
+// Listens for routers, and then for clients.
+fn listen_all<N: Net<Listener = TcpListener, Stream = TcpStream>>(
+    net: &N,
+    at: &Listening,
+    feeds: &mut Vec<Option<TcpListener>>,
+    askers: &mut Vec<Option<TcpListener>>,
+) -> Result<(), HostFault> {
+    listen_at(net, &at.address, at.feed_port, at.feeds, at.shared, feeds)?;
+    listen_at(
+        net,
+        &at.address,
+        at.ask_port,
+        at.askers,
+        at.shared,
+        askers,
+    )
 }
 
 impl<
@@ -88,27 +123,15 @@ impl<
     {
         self.calls = self.calls.saturating_add(1);
         self.listened = Some(*at);
-        if listen_at(
-            self.net,
-            &at.address,
-            at.feed_port,
-            at.feeds,
-            at.shared,
-            &mut self.feeds,
-        ) && listen_at(
-            self.net,
-            &at.address,
-            at.ask_port,
-            at.askers,
-            at.shared,
-            &mut self.askers,
-        ) {
-            Ok(())
-        } else {
-            self.feeds.clear();
-            self.askers.clear();
-            self.faults = self.faults.saturating_add(1);
-            Err(Failed)
+        match listen_all(self.net, at, &mut self.feeds, &mut self.askers) {
+            Ok(()) => Ok(()),
+            Err(HostFault { port, error }) => {
+                self.feeds.clear();
+                self.askers.clear();
+                self.blame(port, error);
+                self.faults = self.faults.saturating_add(1);
+                Err(Failed)
+            }
         }
     }
 
@@ -169,7 +192,8 @@ impl<
         self.calls = self.calls.saturating_add(1);
         match HostDisk::open(self.net, path) {
             Ok(disk) => Ok(disk),
-            Err(_) => {
+            Err(error) => {
+                self.blame(None, error);
                 self.faults = self.faults.saturating_add(1);
                 Err(Failed)
             }
@@ -184,8 +208,20 @@ impl<
     {
         self.calls = self.calls.saturating_add(1);
         let found = match fs::open(self.net, path) {
-            Ok(mut file) => read_whole(alloc, &mut file),
-            Err(_) => Err(FileFault::Failed),
+            Ok(mut file) => {
+                let found = read_whole(alloc, &mut file);
+                if let Err(FileFault::Failed) = &found {
+                    // A further read says why.
+                    if let Err(error) = file.read(&mut [0u8; 1]) {
+                        self.blame(None, error);
+                    }
+                }
+                found
+            }
+            Err(error) => {
+                self.blame(None, error);
+                Err(FileFault::Failed)
+            }
         };
         if let Err(FileFault::Failed) = &found {
             self.faults = self.faults.saturating_add(1);
@@ -193,11 +229,15 @@ impl<
         found
     }
 
-    fn take_port(&mut self, _lane: u32, _port: HostPort<'a, R, N>)
+    fn take_port(&mut self, _lane: u32, port: HostPort<'a, R, N>)
         ensures rest { LeavesRest (counts_only self.old.calls self.old.listened self.old.endings) (counts_only self.new.calls self.new.listened self.new.endings) }
         ensures calm { self.new.faults ≡ self.old.faults }
         ensures input { self.new.input ≡ self.old.input }
-    {}
+    {
+        if let Some(error) = port.into_reason() {
+            self.blame(None, error);
+        }
+    }
 
     fn take_link(&mut self, _number: u32, _link: HostLink<'a, N>)
         ensures rest { LeavesRest (counts_only self.old.calls self.old.listened self.old.endings) (counts_only self.new.calls self.new.listened self.new.endings) }
@@ -205,11 +245,15 @@ impl<
         ensures input { self.new.input ≡ self.old.input }
     {}
 
-    fn take_disk(&mut self, _path: &str, _disk: HostDisk)
+    fn take_disk(&mut self, _path: &str, disk: HostDisk)
         ensures rest { LeavesRest (counts_only self.old.calls self.old.listened self.old.endings) (counts_only self.new.calls self.new.listened self.new.endings) }
         ensures calm { self.new.faults ≡ self.old.faults }
         ensures input { self.new.input ≡ self.old.input }
-    {}
+    {
+        if let Some(error) = disk.into_error() {
+            self.blame(None, error);
+        }
+    }
 
     fn take_ending(&mut self, _ending: ())
         ensures endings { self.new.endings ≡ one_more self.old.endings }

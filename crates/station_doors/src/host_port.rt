@@ -6,7 +6,7 @@ ghost use Rattle.station_doors.specs.Doors.{Opens, Closes};
 use crate::Port;
 use crate::counts::Counts;
 use crate::sockets::{accept_next, read_stream};
-use std::io::Read;
+use std::io::{self, Read};
 use std::net::{TcpListener, TcpStream};
 use std::time::Clock;
 use wire_io::Failed;
@@ -22,6 +22,7 @@ pub struct HostPort<'a, R, N> {
     idle: Option<u32>,
     stream: Option<TcpStream>,
     counts: Counts,
+    reason: Option<io::Error>,
 }
 
 impl<'a, R: Drop, N: Clock> HostPort<'a, R, N> {
@@ -42,7 +43,13 @@ impl<'a, R: Drop, N: Clock> HostPort<'a, R, N> {
             idle,
             stream: None,
             counts: Counts::new(),
+            reason: None,
         }
+    }
+
+    // Why the last read of its reader that failed did so.
+    pub(crate) fn into_reason(self) -> Option<io::Error> {
+        self.reason
     }
 }
 
@@ -63,17 +70,24 @@ fn come<N: Clock>(
     }
 }
 
-// Reads from the input, or else from the stream. It fails too where there is neither.
+// Reads from the input, or else from the stream. It fails too where there is neither. Why the input failed is kept.
 fn read_from<R: Read>(
     input: &mut Option<R>,
     stream: &mut Option<TcpStream>,
     buf: &mut [u8],
+    reason: &mut Option<io::Error>,
 ) -> Result<usize, Failed>
     ensures bound { IfOk result (λ n. n ≤ length buf.new) }
     ensures rest { ReadConsumes (rest_of R.remaining input.old) (rest_of R.remaining input.new) result buf.new }
 {
     if let Some(input) = input {
-        return input.read(buf).map_err(|_| Failed);
+        return match input.read(buf) {
+            Ok(count) => Ok(count),
+            Err(error) => {
+                *reason = Some(error);
+                Err(Failed)
+            }
+        };
     }
     match stream {
         Some(stream) => read_stream(stream, buf),
@@ -101,7 +115,7 @@ impl<'a, R: Read + Drop, N: Clock + Sync> Port for HostPort<'a, R, N> {
     }
 
     fn read(&mut self, buf: &mut [u8]) -> Result<usize, Failed> {
-        let came = read_from(&mut self.input, &mut self.stream, buf);
+        let came = read_from(&mut self.input, &mut self.stream, buf, &mut self.reason);
         self.counts.read(came)
     }
 

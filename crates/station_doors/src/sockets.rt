@@ -1,5 +1,6 @@
 ghost use Rattle.std.specs.Prelude.{◌≡◌, ◌<◌, ◌≤◌, Some, length, slice_get, IfOk, IfSome};
 
+use crate::HostFault;
 use ip_prefix::{Addr, Family};
 use std::io::{self, ErrorKind, Read, Write};
 use std::net::{IpAddr, Net, SocketAddr, TcpListener, TcpStream};
@@ -8,7 +9,7 @@ use std::time::{Clock, Duration};
 use wire_io::Failed;
 
 /// The most routers, and the most clients, that are listened for.
-pub(crate) const MOST: u32 = 64;
+pub const MOST_PLACES: u32 = 64;
 
 // The address as the network takes it.
 pub(crate) fn ip_of(address: &Addr) -> IpAddr {
@@ -28,20 +29,31 @@ fn listener_of<N: Net<Listener = TcpListener, Stream = TcpStream>>(
     number: u32,
     shared: bool,
     places: &[Option<TcpListener>],
-) -> Option<TcpListener> {
+) -> Result<TcpListener, HostFault> {
+    let port = if shared {
+        first as u64
+    } else {
+        first as u64 + number as u64
+    };
+    if port > 65_535 {
+        return Err(no_port(None, ErrorKind::InvalidInput.into()));
+    }
+    let at = SocketAddr::new(ip_of(address), port as u16);
     if shared {
         if let Some(Some(listener)) = places.first() {
-            return listener.try_clone().ok();
+            return listener
+                .try_clone()
+                .map_err(|error| no_port(Some(at), error));
         }
     }
-    let port = first as u64 + number as u64;
-    if port > 65_535 {
-        return None;
-    }
-    net.bind(SocketAddr::new(ip_of(address), port as u16)).ok()
+    net.bind(at).map_err(|error| no_port(Some(at), error))
 }
 
-// Listens for so many, each of which has a place: at the ports from the first one on, or at the first one alone. False
+fn no_port(port: Option<SocketAddr>, error: io::Error) -> HostFault {
+    HostFault { port, error }
+}
+
+// Listens for so many, each of which has a place: at the ports from the first one on, or at the first one alone. It fails
 // where one of them can't be had.
 pub(crate) fn listen_at<N: Net<Listener = TcpListener, Stream = TcpStream>>(
     net: &N,
@@ -50,22 +62,18 @@ pub(crate) fn listen_at<N: Net<Listener = TcpListener, Stream = TcpStream>>(
     count: u32,
     shared: bool,
     places: &mut Vec<Option<TcpListener>>,
-) -> bool {
+) -> Result<(), HostFault> {
     places.clear();
-    if count > MOST {
-        return false;
+    if count > MOST_PLACES {
+        return Err(no_port(None, ErrorKind::InvalidInput.into()));
     }
     for number in 0..count {
-        match listener_of(net, address, first, number, shared, places.as_slice()) {
-            Some(listener) => {
-                if places.push(Some(listener)).is_err() {
-                    return false;
-                }
-            }
-            None => return false,
+        let listener = listener_of(net, address, first, number, shared, places.as_slice())?;
+        if places.push(Some(listener)).is_err() {
+            return Err(no_port(None, ErrorKind::OutOfMemory.into()));
         }
     }
-    true
+    Ok(())
 }
 
 // Takes the listener of this number out of its place.
