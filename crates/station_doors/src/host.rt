@@ -89,7 +89,7 @@ fn listen_all<N: Net<Listener = TcpListener, Stream = TcpStream>>(
     listen_at(net, &at.address, at.feed_port, at.feeds, at.shared, feeds)?;
     listen_at(
         net,
-        &at.address,
+        &at.ask_address,
         at.ask_port,
         at.askers,
         at.shared,

@@ -6,7 +6,11 @@ use ip_prefix::Addr;
 /// `feed_port` and all askers at `ask_port`.
 #[derive(Clone, Copy, Debug)]
 pub struct Listening {
+    /// Where the lanes listen.
     pub address: Addr,
+
+    /// Where the askers listen.
+    pub ask_address: Addr,
 
     /// So many lanes, one for each router at once.
     pub feeds: u32,

@@ -361,6 +361,7 @@ fn ended_well(outcome: Outcome, out: &MemSink, yard: &Keeping) -> bool {
 fn serves_two_and_two<R: Threads + Wait + Sync>(rt: &R, alloc: Global) -> Option<bool> {
     let at = Listening {
         address: Addr::v4([127, 0, 0, 1]),
+        ask_address: Addr::v4([127, 0, 0, 1]),
         feeds: 2,
         askers: 2,
         feed_port: 5000,

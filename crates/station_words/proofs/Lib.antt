@@ -7,3 +7,8 @@ pub mod OptionTaken
 pub mod OptionServe
 pub mod ThreeNumbers
 pub mod Readings
+pub mod ServeKept
+pub mod EmptyLine
+pub mod ComplaintLaws
+pub mod ComplaintSteps
+mod Refuted

@@ -24,8 +24,9 @@ is_option name (inr (inr (inr (inr (inl (e)))))) = inr (inr (inr (inr (inl (ap d
 is_option name (inr (inr (inr (inr (inr (inl (e))))))) = inr (inr (inr (inr (inr (inl (ap dashed (sym e)))))))
 is_option name (inr (inr (inr (inr (inr (inr (inl (e)))))))) = inr (inr (inr (inr (inr (inr (inl (ap dashed (sym e))))))))
 is_option name (inr (inr (inr (inr (inr (inr (inr (inl (e))))))))) = inr (inr (inr (inr (inr (inr (inr (inl (ap dashed (sym e)))))))))
-is_option name (inr (inr (inr (inr (inr (inr (inr (inr (inl (e)))))))))) = inr (inr (inr (inr (inr (inr (inr (inr (ap dashed (sym e)))))))))
-is_option name (inr (inr (inr (inr (inr (inr (inr (inr (inr none))))))))) = elim none [ ]
+is_option name (inr (inr (inr (inr (inr (inr (inr (inr (inl (e)))))))))) = inr (inr (inr (inr (inr (inr (inr (inr (inl (ap dashed (sym e))))))))))
+is_option name (inr (inr (inr (inr (inr (inr (inr (inr (inr (inl (e))))))))))) = inr (inr (inr (inr (inr (inr (inr (inr (inr (ap dashed (sym e))))))))))
+is_option name (inr (inr (inr (inr (inr (inr (inr (inr (inr (inr (none))))))))))) = elim none [ ]
 
 pub are_settings : (ss : Pairs) (words : List Text) (rows end : List Row) → Uses option_names ss words rows end → AreSettings (settings_of ss) words
 are_settings [] words rows end (none, same) = none
@@ -92,14 +93,14 @@ told_of name (s ∷ ss) words rows end (others, free, stands, uses) gone = go (b
 
 -- ---- a parse that succeeds
 
-default_keeps : (n : List ℕ × Bool) (rows : List Row) → with_default rows (ready n) ≡ rows
-default_keeps n rows = go (has_row n.0 rows) refl
+default_keeps : (n : List ℕ) (rows : List Row) → with_default rows (ready n) ≡ rows
+default_keeps n rows = go (has_row n rows) refl
   where
-    go : (b : Bool) → has_row n.0 rows ≡ b → with_default rows (ready n) ≡ rows
+    go : (b : Bool) → has_row n rows ≡ b → with_default rows (ready n) ≡ rows
     go true is = rw is refl
     go false is = rw is refl
 
-no_defaults : (ns : List (List ℕ × Bool)) (rows : List Row) → fold with_default rows (rules ns) ≡ rows
+no_defaults : (ns : List (List ℕ)) (rows : List Row) → fold with_default rows (rules ns) ≡ rows
 no_defaults [] rows = go (has_row flag_name rows) refl
   where
     go : (b : Bool) → has_row flag_name rows ≡ b → with_default rows ready_flag ≡ rows

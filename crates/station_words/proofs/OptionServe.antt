@@ -56,22 +56,23 @@ once_may name settings Is Else plain (inr (none, holds)) = inl none
 
 module _ (serve : ServeWords) (lenient : Bool) (words : List (List ℕ)) (is : IsServe serve lenient words) where
   serve_once : (name : Text) → IsAmongNames name option_names → IsOnce (values_of (dashed name) is.settings)
-  serve_once name (inl (e)) = subst (λ (t : Text). IsOnce (values_of (dashed t) is.settings)) e (once_given (codes "--feeds") is.settings _ (λ v h. plain_number v _ h) is.feeds)
-  serve_once name (inr (inl (e))) = subst (λ (t : Text). IsOnce (values_of (dashed t) is.settings)) e (once_given (codes "--askers") is.settings _ (λ v h. plain_number v _ h) is.askers)
-  serve_once name (inr (inr (inl (e)))) = subst (λ (t : Text). IsOnce (values_of (dashed t) is.settings)) e (once_given (codes "--feed-port") is.settings _ (λ v h. plain_number v _ h) is.feed_port)
-  serve_once name (inr (inr (inr (inl (e))))) = subst (λ (t : Text). IsOnce (values_of (dashed t) is.settings)) e (once_given (codes "--ask-port") is.settings _ (λ v h. plain_number v _ h) is.ask_port)
-  serve_once name (inr (inr (inr (inr (inl (e)))))) = subst (λ (t : Text). IsOnce (values_of (dashed t) is.settings)) e (once_given (codes "--rounds") is.settings _ (λ v h. plain_rounds v _ h) is.rounds)
+  serve_once name (inl (e)) = subst (λ (t : Text). IsOnce (values_of (dashed t) is.settings)) e (once_may (codes "--feeds") is.settings _ _ (λ v h. plain_number v _ h) is.feeds)
+  serve_once name (inr (inl (e))) = subst (λ (t : Text). IsOnce (values_of (dashed t) is.settings)) e (once_may (codes "--askers") is.settings _ _ (λ v h. plain_number v _ h) is.askers)
+  serve_once name (inr (inr (inl (e)))) = subst (λ (t : Text). IsOnce (values_of (dashed t) is.settings)) e (once_may (codes "--feed-port") is.settings _ _ (λ v h. plain_number v _ h) is.feed_port)
+  serve_once name (inr (inr (inr (inl (e))))) = subst (λ (t : Text). IsOnce (values_of (dashed t) is.settings)) e (once_may (codes "--ask-port") is.settings _ _ (λ v h. plain_number v _ h) is.ask_port)
+  serve_once name (inr (inr (inr (inr (inl (e)))))) = subst (λ (t : Text). IsOnce (values_of (dashed t) is.settings)) e (once_may (codes "--rounds") is.settings _ _ (λ v h. plain_rounds v _ h) is.rounds)
   serve_once name (inr (inr (inr (inr (inr (inl (e))))))) = subst (λ (t : Text). IsOnce (values_of (dashed t) is.settings)) e (once_may (codes "--address") is.settings _ _ (λ v h. plain_text_in serve.at.address.family v serve.at.address.octets h) is.address)
   serve_once name (inr (inr (inr (inr (inr (inr (inl (e)))))))) = subst (λ (t : Text). IsOnce (values_of (dashed t) is.settings)) e (once_may (codes "--ports") is.settings _ _ (λ v h. plain_ports v _ h) is.ports)
   serve_once name (inr (inr (inr (inr (inr (inr (inr (inl (e))))))))) = subst (λ (t : Text). IsOnce (values_of (dashed t) is.settings)) e (once_may (codes "--idle") is.settings _ _ (λ v h. plain_seconds v _ h) is.idle)
   serve_once name (inr (inr (inr (inr (inr (inr (inr (inr (inl (e)))))))))) = subst (λ (t : Text). IsOnce (values_of (dashed t) is.settings)) e (once_may (codes "--ask-idle") is.settings _ _ (λ v h. plain_seconds v _ h) is.ask_idle)
-  serve_once name (inr (inr (inr (inr (inr (inr (inr (inr (inr none))))))))) = elim none [ ]
+  serve_once name (inr (inr (inr (inr (inr (inr (inr (inr (inr (inl (e))))))))))) = subst (λ (t : Text). IsOnce (values_of (dashed t) is.settings)) e (once_may (codes "--ask-address") is.settings _ _ (λ v h. plain_text_in serve.at.ask_address.family v serve.at.ask_address.octets h) is.ask_address)
+  serve_once name (inr (inr (inr (inr (inr (inr (inr (inr (inr (inr (none))))))))))) = elim none [ ]
 
   flag_is_once : MayGive flag (λ value. lenient ≡ true) (lenient ≡ false) is.settings → IsOnce (values_of flag is.settings)
   flag_is_once (inl (value, once, so)) = inr (value, once, subst IsPlainValue (sym (flag_empty is.settings words value [] is.are_settings once)) (record { dashes = refl; long = refl; short = refl }))
   flag_is_once (inr (none, so)) = inl none
 
-  name_once : (name : Text) → IsName name → IsOnce (values_of (dashed name) is.settings)
+  pub name_once : (name : Text) → IsName name → IsOnce (values_of (dashed name) is.settings)
   name_once name (inl among) = serve_once name among
   name_once name (inr same) = subst (λ (t : Text). IsOnce (values_of (dashed t) is.settings)) (sym same) (flag_is_once is.flagged)
 
@@ -80,7 +81,7 @@ module _ (serve : ServeWords) (lenient : Bool) (words : List (List ℕ)) (is : I
 
   -- words of `serve` have no fault
   pub serve_passes : fault_of serve_app words ≡ []
-  serve_passes = taken_words is.settings words is.feeds.0 is.askers.0 is.feed_port.0 is.ask_port.0 is.rounds.0 is.are_settings are_once is.feeds.1 is.askers.1 is.feed_port.1 is.ask_port.1 is.rounds.1
+  serve_passes = taken_words is.settings words is.are_settings are_once
 
   pub serve_plain : list_any is_dashes words ≡ false
   serve_plain =

@@ -1,5 +1,5 @@
 -- Words that are options, each given once, are taken.
-use Rattle.std.proofs.Common.{◌≡◌, ◌≢◌, ℕ, Bool, true, false, List, [], ◌∷◌, ◌++◌, Option, None, Some, is_some, codes, refl, sym, ap, subst, ◌∙◌, inl, inr, All, eqb-true, get_or, arith}
+use Rattle.std.proofs.Common.{◌≡◌, ◌≢◌, ℕ, ◌+◌, Bool, true, false, List, [], ◌∷◌, ◌++◌, Option, None, Some, is_some, codes, refl, sym, ap, subst, ◌∙◌, inl, inr, All, eqb-true, get_or, arith}
 use Rattle.std.specs.Prelude.{◌⊎◌, ◌==◌}
 use Rattle.std.specs.List.{list_any}
 use Rattle.std.specs.Str.{bytes_eq}
@@ -7,12 +7,11 @@ use Rattle.std.proofs.lemmas.Slice.Eq.{bytes_eq-Decides}
 use Rattle.std.proofs.lemmas.List.Elements.{All-head}
 use Rattle.clap.specs.Walk.{Row, Text, has_row, idle, with_default, nothing_held, walk}
 use Rattle.clap.specs.Faults.{fault_of, defaults_fault, default_fault, check_fault, entered_fault}
-use Rattle.clap.specs.Takes.{is_given}
 use Rattle.clap.specs.Kinds.{Kinds, or_else}
 use Rattle.station_words.specs.ServeOptions.{dashed, option_names, serve_app}
 use Rattle.station_words.specs.ServeWords.{Setting, AreSettings, IsInFront, IsOption, flag_alone, one_word, two_words, values_of}
 use Rattle.station_words.proofs.OptionWalk.{Stands, flag_name, AreSpelled, ArePlain, IsAmongNames, IsPlainValue, IsSpelled, Pairs, Passes, Uses, at, hold, ready, rules, row, shape, taken, is_dashes}
-use Rattle.station_words.proofs.OptionMatches.{settings_of, row_at, row_stays, only_new, rows_are}
+use Rattle.station_words.proofs.OptionMatches.{settings_of}
 use Rattle.clap.specs.Simple.{argument_words, built, entered, matches_of, names_of}
 
 -- a text without a hyphen is no option
@@ -51,6 +50,9 @@ spelled_idle = record { alone = refl; valued = λ value. refl; no_end = refl; no
 spelled_ask_idle : IsSpelled (codes "ask-idle")
 spelled_ask_idle = record { alone = refl; valued = λ value. refl; no_end = refl; no_end_valued = λ value. refl }
 
+spelled_ask_address : IsSpelled (codes "ask-address")
+spelled_ask_address = record { alone = refl; valued = λ value. refl; no_end = refl; no_end_valued = λ value. refl }
+
 pub are_spelled : AreSpelled option_names
 are_spelled name (inl (e)) = subst IsSpelled e spelled_feeds
 are_spelled name (inr (inl (e))) = subst IsSpelled e spelled_askers
@@ -61,23 +63,25 @@ are_spelled name (inr (inr (inr (inr (inr (inl (e))))))) = subst IsSpelled e spe
 are_spelled name (inr (inr (inr (inr (inr (inr (inl (e)))))))) = subst IsSpelled e spelled_ports
 are_spelled name (inr (inr (inr (inr (inr (inr (inr (inl (e))))))))) = subst IsSpelled e spelled_idle
 are_spelled name (inr (inr (inr (inr (inr (inr (inr (inr (inl (e)))))))))) = subst IsSpelled e spelled_ask_idle
-are_spelled name (inr (inr (inr (inr (inr (inr (inr (inr (inr none))))))))) = elim none [ ]
+are_spelled name (inr (inr (inr (inr (inr (inr (inr (inr (inr (inl (e))))))))))) = subst IsSpelled e spelled_ask_address
+are_spelled name (inr (inr (inr (inr (inr (inr (inr (inr (inr (inr (none))))))))))) = elim none [ ]
 
 -- no option has the flag's name
-first_letter : (name : Text) → IsAmongNames name option_names → get_or name 0 0 ≢ 108
-first_letter name (inl (e)) = λ is. let h : 102 ≡ 108 = ap (λ (l : Text). get_or l 0 0) e ∙ is in absurd (omega (arith, h))
-first_letter name (inr (inl (e))) = λ is. let h : 97 ≡ 108 = ap (λ (l : Text). get_or l 0 0) e ∙ is in absurd (omega (arith, h))
-first_letter name (inr (inr (inl (e)))) = λ is. let h : 102 ≡ 108 = ap (λ (l : Text). get_or l 0 0) e ∙ is in absurd (omega (arith, h))
-first_letter name (inr (inr (inr (inl (e))))) = λ is. let h : 97 ≡ 108 = ap (λ (l : Text). get_or l 0 0) e ∙ is in absurd (omega (arith, h))
-first_letter name (inr (inr (inr (inr (inl (e)))))) = λ is. let h : 114 ≡ 108 = ap (λ (l : Text). get_or l 0 0) e ∙ is in absurd (omega (arith, h))
-first_letter name (inr (inr (inr (inr (inr (inl (e))))))) = λ is. let h : 97 ≡ 108 = ap (λ (l : Text). get_or l 0 0) e ∙ is in absurd (omega (arith, h))
-first_letter name (inr (inr (inr (inr (inr (inr (inl (e)))))))) = λ is. let h : 112 ≡ 108 = ap (λ (l : Text). get_or l 0 0) e ∙ is in absurd (omega (arith, h))
-first_letter name (inr (inr (inr (inr (inr (inr (inr (inl (e))))))))) = λ is. let h : 105 ≡ 108 = ap (λ (l : Text). get_or l 0 0) e ∙ is in absurd (omega (arith, h))
-first_letter name (inr (inr (inr (inr (inr (inr (inr (inr (inl (e)))))))))) = λ is. let h : 97 ≡ 108 = ap (λ (l : Text). get_or l 0 0) e ∙ is in absurd (omega (arith, h))
-first_letter name (inr (inr (inr (inr (inr (inr (inr (inr (inr none))))))))) = elim none [ ]
+letters : (name : Text) → IsAmongNames name option_names → get_or name 0 0 + get_or name 1 0 ≢ 209
+letters name (inl (e)) = λ is. let h : 203 ≡ 209 = ap (λ (l : Text). get_or l 0 0 + get_or l 1 0) e ∙ is in absurd (omega (arith, h))
+letters name (inr (inl (e))) = λ is. let h : 212 ≡ 209 = ap (λ (l : Text). get_or l 0 0 + get_or l 1 0) e ∙ is in absurd (omega (arith, h))
+letters name (inr (inr (inl (e)))) = λ is. let h : 203 ≡ 209 = ap (λ (l : Text). get_or l 0 0 + get_or l 1 0) e ∙ is in absurd (omega (arith, h))
+letters name (inr (inr (inr (inl (e))))) = λ is. let h : 212 ≡ 209 = ap (λ (l : Text). get_or l 0 0 + get_or l 1 0) e ∙ is in absurd (omega (arith, h))
+letters name (inr (inr (inr (inr (inl (e)))))) = λ is. let h : 225 ≡ 209 = ap (λ (l : Text). get_or l 0 0 + get_or l 1 0) e ∙ is in absurd (omega (arith, h))
+letters name (inr (inr (inr (inr (inr (inl (e))))))) = λ is. let h : 197 ≡ 209 = ap (λ (l : Text). get_or l 0 0 + get_or l 1 0) e ∙ is in absurd (omega (arith, h))
+letters name (inr (inr (inr (inr (inr (inr (inl (e)))))))) = λ is. let h : 223 ≡ 209 = ap (λ (l : Text). get_or l 0 0 + get_or l 1 0) e ∙ is in absurd (omega (arith, h))
+letters name (inr (inr (inr (inr (inr (inr (inr (inl (e))))))))) = λ is. let h : 205 ≡ 209 = ap (λ (l : Text). get_or l 0 0 + get_or l 1 0) e ∙ is in absurd (omega (arith, h))
+letters name (inr (inr (inr (inr (inr (inr (inr (inr (inl (e)))))))))) = λ is. let h : 212 ≡ 209 = ap (λ (l : Text). get_or l 0 0 + get_or l 1 0) e ∙ is in absurd (omega (arith, h))
+letters name (inr (inr (inr (inr (inr (inr (inr (inr (inr (inl (e))))))))))) = λ is. let h : 212 ≡ 209 = ap (λ (l : Text). get_or l 0 0 + get_or l 1 0) e ∙ is in absurd (omega (arith, h))
+letters name (inr (inr (inr (inr (inr (inr (inr (inr (inr (inr (none))))))))))) = elim none [ ]
 
 pub not_flag : IsAmongNames flag_name option_names → ⊥
-not_flag among = first_letter flag_name among refl
+not_flag among = letters flag_name among refl
 
 -- an option is one of the command's names after `--`
 abbrev Named : Text → Type 0
@@ -92,7 +96,8 @@ named option (inr (inr (inr (inr (inl (e)))))) = (codes "rounds", e, inr (inr (i
 named option (inr (inr (inr (inr (inr (inl (e))))))) = (codes "address", e, inr (inr (inr (inr (inr (inl (refl)))))))
 named option (inr (inr (inr (inr (inr (inr (inl (e)))))))) = (codes "ports", e, inr (inr (inr (inr (inr (inr (inl (refl))))))))
 named option (inr (inr (inr (inr (inr (inr (inr (inl (e))))))))) = (codes "idle", e, inr (inr (inr (inr (inr (inr (inr (inl (refl)))))))))
-named option (inr (inr (inr (inr (inr (inr (inr (inr (e))))))))) = (codes "ask-idle", e, inr (inr (inr (inr (inr (inr (inr (inr (inl (refl))))))))))
+named option (inr (inr (inr (inr (inr (inr (inr (inr (inl (e)))))))))) = (codes "ask-idle", e, inr (inr (inr (inr (inr (inr (inr (inr (inl (refl))))))))))
+named option (inr (inr (inr (inr (inr (inr (inr (inr (inr (e)))))))))) = (codes "ask-address", e, inr (inr (inr (inr (inr (inr (inr (inr (inr (inl (refl)))))))))))
 
 -- the name of a setting
 abbrev pub IsName : Text → Type 0
@@ -179,14 +184,14 @@ are_uses (s ∷ ss) words rows (others, front, are) once = go (standing s words 
 both_empty : (a b : Kinds) → a ≡ [] → b ≡ [] → or_else a b ≡ []
 both_empty a b first second = rw first second
 
-no_default_fault : (n : List ℕ × Bool) (rows : List Row) → default_fault rows (ready n) ≡ []
-no_default_fault n rows = go (has_row n.0 rows) refl
+no_default_fault : (n : List ℕ) (rows : List Row) → default_fault rows (ready n) ≡ []
+no_default_fault n rows = go (has_row n rows) refl
   where
-    go : (b : Bool) → has_row n.0 rows ≡ b → default_fault rows (ready n) ≡ []
+    go : (b : Bool) → has_row n rows ≡ b → default_fault rows (ready n) ≡ []
     go true is = rw is refl
     go false is = rw is refl
 
-no_defaults_fault : (ns : List (List ℕ × Bool)) (rows : List Row) → defaults_fault rows (rules ns) ≡ []
+no_defaults_fault : (ns : List (List ℕ)) (rows : List Row) → defaults_fault rows (rules ns) ≡ []
 unfolding defaults_fault
 no_defaults_fault [] rows = go (has_row flag_name rows) refl
   where
@@ -199,48 +204,20 @@ nothing_below : (stop : Option (Text × List Text)) → entered_fault (built ser
 nothing_below None = refl
 nothing_below (Some p) = refl
 
-abbrev pub AllGiven : List Row → Type 0
-AllGiven rows = (is_given (codes "feeds") rows ≡ true) × (is_given (codes "askers") rows ≡ true) × (is_given (codes "feed-port") rows ≡ true) × (is_given (codes "ask-port") rows ≡ true) × (is_given (codes "rounds") rows ≡ true)
+no_check_fault : (rows : List Row) (b : Bool) → check_fault (shape option_names) rows b ≡ []
+no_check_fault rows true = refl
+no_check_fault rows false = refl
 
-no_check_fault : (rows : List Row) (b : Bool) → AllGiven rows → check_fault (shape option_names) rows b ≡ []
-no_check_fault rows true (feeds, askers, feed_port, ask_port, rounds) = rw (feeds, askers, feed_port, ask_port, rounds) refl
-no_check_fault rows false (feeds, askers, feed_port, ask_port, rounds) = rw (feeds, askers, feed_port, ask_port, rounds) refl
+pub no_fault_of : (words : List Text) → Passes option_names (at (hold [] None) idle) words → fault_of serve_app words ≡ []
+no_fault_of words (faults, ends) =
+    both_empty _ _ faults (both_empty _ _ (nothing_below _) (both_empty _ _ ends (both_empty _ _ (no_defaults_fault option_names _) (no_check_fault (matches_of serve_app words) (is_some (entered (built serve_app) (walk (built serve_app).top.rules (names_of (built serve_app)) nothing_held (argument_words serve_app words)).stopped))))))
 
-pub no_fault_of : (words : List Text) → Passes option_names (at (hold [] None) idle) words → AllGiven (matches_of serve_app words) → fault_of serve_app words ≡ []
-no_fault_of words (faults, ends) given =
-    both_empty _ _ faults (both_empty _ _ (nothing_below _) (both_empty _ _ ends (both_empty _ _ (no_defaults_fault option_names _) (no_check_fault (matches_of serve_app words) (is_some (entered (built serve_app) (walk (built serve_app).top.rules (names_of (built serve_app)) nothing_held (argument_words serve_app words)).stopped)) given))))
-
--- ---- the rows of what is given
-
-pub given_row : (name : Text) (ss : Pairs) (words : List Text) (rows end : List Row) → Uses option_names ss words rows end → row_at name rows ≡ None → (values_of (dashed name) (settings_of ss) ≡ []) ⊎ ((value : Text) × (row_at name end ≡ Some (row name value)))
-given_row name [] words rows end (none, same) gone = inl refl
-given_row name (s ∷ ss) words rows end (others, free, stands, uses) gone = go (bytes_eq s.0 name) refl (λ h. given_row name ss others (rows ++ row s.0 s.1 ∷ []) end uses h)
-  where
-    go : (b : Bool) → bytes_eq s.0 name ≡ b → (row_at name (rows ++ row s.0 s.1 ∷ []) ≡ None → (values_of (dashed name) (settings_of ss) ≡ []) ⊎ ((value : Text) × (row_at name end ≡ Some (row name value)))) → (values_of (dashed name) (settings_of (s ∷ ss)) ≡ []) ⊎ ((value : Text) × (row_at name end ≡ Some (row name value)))
-    go true is rest =
-        let here : row_at name (row s.0 s.1 ∷ []) ≡ Some (row s.0 s.1) = rw is refl in
-        let stays = row_stays name (row s.0 s.1) ss others (rows ++ row s.0 s.1 ∷ []) end uses (only_new name rows (row s.0 s.1) gone ∙ here) in
-        inr (s.1, stays.0 ∙ ap (λ (t : Text). Some (row t s.1)) ((bytes_eq-Decides s.0 name).0 is))
-    go false is rest =
-        let here : row_at name (row s.0 s.1 ∷ []) ≡ None = rw is refl in
-        rw is (rest (only_new name rows (row s.0 s.1) gone ∙ here))
-
-is_given_by : (name value : Text) (settings : List Setting) (ss : Pairs) (words : List Text) (end : List Row) → settings ≡ settings_of ss → Uses option_names ss words [] end → values_of (dashed name) settings ≡ value ∷ [] → is_given name end ≡ true
-is_given_by name value settings ss words end same uses one = go (given_row name ss words [] end uses refl)
-  where
-    go : (values_of (dashed name) (settings_of ss) ≡ []) ⊎ ((v : Text) × (row_at name end ≡ Some (row name v))) → is_given name end ≡ true
-    go (inl none) = absurd (cc (sym one ∙ ap (values_of (dashed name)) same ∙ none))
-    go (inr (v, is)) = rw is refl
-
--- options that are given once, those that must be among them, have no fault
-pub taken_words : (settings : List Setting) (words : List Text) (feeds askers feed_port ask_port rounds : Text) → AreSettings settings words → AreOnce settings []
-    → values_of (codes "--feeds") settings ≡ feeds ∷ [] → values_of (codes "--askers") settings ≡ askers ∷ [] → values_of (codes "--feed-port") settings ≡ feed_port ∷ []
-    → values_of (codes "--ask-port") settings ≡ ask_port ∷ [] → values_of (codes "--rounds") settings ≡ rounds ∷ [] → fault_of serve_app words ≡ []
-taken_words settings words feeds askers feed_port ask_port rounds are once f a fp ap_ r =
+-- options that are given once at most have no fault
+pub taken_words : (settings : List Setting) (words : List Text) → AreSettings settings words → AreOnce settings [] → fault_of serve_app words ≡ []
+taken_words settings words are once =
     let u = are_uses settings words [] are once in
     let t = taken option_names not_flag are_spelled u.0 u.4 words [] u.1 None refl u.3 in
-    let rows : matches_of serve_app words ≡ u.1 = rows_are words ∙ t.1 in
-    no_fault_of words t.0 (subst AllGiven (sym rows) (is_given_by (codes "feeds") feeds settings u.0 words u.1 u.2 u.3 f, is_given_by (codes "askers") askers settings u.0 words u.1 u.2 u.3 a, is_given_by (codes "feed-port") feed_port settings u.0 words u.1 u.2 u.3 fp, is_given_by (codes "ask-port") ask_port settings u.0 words u.1 u.2 u.3 ap_, is_given_by (codes "rounds") rounds settings u.0 words u.1 u.2 u.3 r))
+    no_fault_of words t.0
 
 -- no `--` stands among options
 pub no_dashes_in : (ss : Pairs) (words : List Text) (rows end : List Row) → Uses option_names ss words rows end → ArePlain ss → list_any is_dashes words ≡ false

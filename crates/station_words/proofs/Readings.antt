@@ -45,7 +45,7 @@ module _ (first : List ℕ) (given : List (List ℕ)) where
   reads_version named (Ok call) r = reads_call call (subst (λ (c : Command). IsCommand c call.lenient first given) (sym r.ok.0) (named, r.ok.2, r.ok.1))
   reads_version named (Err fault) r = subst (λ (f : WordsFault). IsReading first given (Err f)) (sym r.usage.0) (reads_none (no_version first given named r.usage.1))
 
-some_words : {X : Type 0} (word : X) (words : List X) → true ≡ (length (word ∷ words) == 0) → ⊥
+pub some_words : {X : Type 0} (word : X) (words : List X) → true ≡ (length (word ∷ words) == 0) → ⊥
 some_words word words none =
     let zero : length (word ∷ words) ≡ 0 = (Decides-eqb (length (word ∷ words)) 0).0 (sym none) in
     omega (arith, zero)

@@ -1,6 +1,6 @@
 -- Settings one after another, and what they give for a name.
-use Rattle.std.proofs.Common.{◌≡◌, ◌≢◌, ℕ, ◌≤◌, Bool, true, false, cond, List, [], ◌∷◌, ◌++◌, Option, None, Some, length, take, codes, refl, sym, ap, subst, ◌∙◌, inl, inr, arith, length-append, lt-ltb, get_or, lit<}
-use Rattle.std.specs.Prelude.{◌==◌, nat_lt, IfNone, IfSome}
+use Rattle.std.proofs.Common.{◌≡◌, ◌≢◌, ℕ, ◌+◌, ◌≤◌, Bool, true, false, cond, List, [], ◌∷◌, ◌++◌, Option, None, Some, length, take, codes, refl, sym, ap, subst, ◌∙◌, inl, inr, arith, length-append, lt-ltb, get_or, lit<}
+use Rattle.std.specs.Prelude.{◌==◌, ◌&&◌, not, nat_lt, IfNone, IfSome}
 use Rattle.std.specs.List.{position, position_or_len}
 use Rattle.std.specs.Str.{bytes_eq}
 use Rattle.std.proofs.lemmas.List.{append_cancel_left, take_at}
@@ -12,11 +12,12 @@ use Rattle.bmp_specs.specs.Prefix.{padded}
 use Rattle.bmp_specs.specs.NumberText.{IsNumberText, most_number}
 use Rattle.bmp_specs.specs.Values.{AddressValue}
 use Rattle.ip_prefix.proofs.Decimals.{all_digits}
-use Rattle.station_words.specs.ServeWords.{Setting, IsOption, IsInFront, AreSettings, values_of, Gives, MayGive, Has, IsPorts, IsRounds, IsSeconds, MayServe, flag, flag_alone, loopback, one_word, ports_for, two_words}
+use Rattle.station_doors.specs.Doors.{most_places}
+use Rattle.station_words.specs.ServeWords.{Setting, IsOption, IsInFront, AreSettings, values_of, Gives, MayGive, Has, ArePorts, IsPorts, IsRounds, IsSeconds, MayServe, flag, flag_alone, is_given, usually_shared, loopback, one_word, ports_for, two_words}
 use Rattle.station_words.specs.declared.serve_words.ServeWords.{ServeWords}
 
 -- no option has an `=` in its name
-none_in : (name : List ℕ) → IsOption name → position (λ b. b == 61) name ≡ None
+pub none_in : (name : List ℕ) → IsOption name → position (λ b. b == 61) name ≡ None
 none_in name (inl (e)) = rw e refl
 none_in name (inr (inl (e))) = rw e refl
 none_in name (inr (inr (inl (e)))) = rw e refl
@@ -25,7 +26,8 @@ none_in name (inr (inr (inr (inr (inl (e)))))) = rw e refl
 none_in name (inr (inr (inr (inr (inr (inl (e))))))) = rw e refl
 none_in name (inr (inr (inr (inr (inr (inr (inl (e)))))))) = rw e refl
 none_in name (inr (inr (inr (inr (inr (inr (inr (inl (e))))))))) = rw e refl
-none_in name (inr (inr (inr (inr (inr (inr (inr (inr (e))))))))) = rw e refl
+none_in name (inr (inr (inr (inr (inr (inr (inr (inr (inl (e)))))))))) = rw e refl
+none_in name (inr (inr (inr (inr (inr (inr (inr (inr (inr (e)))))))))) = rw e refl
 
 place_behind : (name value : List ℕ) → IsOption name → position_or_len (λ b. b == 61) (name ++ 61 ∷ value) ≡ length name
 place_behind name value (inl (e)) = rw e refl
@@ -36,25 +38,27 @@ place_behind name value (inr (inr (inr (inr (inl (e)))))) = rw e refl
 place_behind name value (inr (inr (inr (inr (inr (inl (e))))))) = rw e refl
 place_behind name value (inr (inr (inr (inr (inr (inr (inl (e)))))))) = rw e refl
 place_behind name value (inr (inr (inr (inr (inr (inr (inr (inl (e))))))))) = rw e refl
-place_behind name value (inr (inr (inr (inr (inr (inr (inr (inr (e))))))))) = rw e refl
+place_behind name value (inr (inr (inr (inr (inr (inr (inr (inr (inl (e)))))))))) = rw e refl
+place_behind name value (inr (inr (inr (inr (inr (inr (inr (inr (inr (e)))))))))) = rw e refl
 
 -- the flag is no option
-third_letter : (name : List ℕ) → IsOption name → get_or name 2 0 ≢ 108
-third_letter name (inl (e)) = λ is. let h : 102 ≡ 108 = sym (ap (λ (l : List ℕ). get_or l 2 0) e) ∙ is in absurd (omega (arith, h))
-third_letter name (inr (inl (e))) = λ is. let h : 97 ≡ 108 = sym (ap (λ (l : List ℕ). get_or l 2 0) e) ∙ is in absurd (omega (arith, h))
-third_letter name (inr (inr (inl (e)))) = λ is. let h : 102 ≡ 108 = sym (ap (λ (l : List ℕ). get_or l 2 0) e) ∙ is in absurd (omega (arith, h))
-third_letter name (inr (inr (inr (inl (e))))) = λ is. let h : 97 ≡ 108 = sym (ap (λ (l : List ℕ). get_or l 2 0) e) ∙ is in absurd (omega (arith, h))
-third_letter name (inr (inr (inr (inr (inl (e)))))) = λ is. let h : 114 ≡ 108 = sym (ap (λ (l : List ℕ). get_or l 2 0) e) ∙ is in absurd (omega (arith, h))
-third_letter name (inr (inr (inr (inr (inr (inl (e))))))) = λ is. let h : 97 ≡ 108 = sym (ap (λ (l : List ℕ). get_or l 2 0) e) ∙ is in absurd (omega (arith, h))
-third_letter name (inr (inr (inr (inr (inr (inr (inl (e)))))))) = λ is. let h : 112 ≡ 108 = sym (ap (λ (l : List ℕ). get_or l 2 0) e) ∙ is in absurd (omega (arith, h))
-third_letter name (inr (inr (inr (inr (inr (inr (inr (inl (e))))))))) = λ is. let h : 105 ≡ 108 = sym (ap (λ (l : List ℕ). get_or l 2 0) e) ∙ is in absurd (omega (arith, h))
-third_letter name (inr (inr (inr (inr (inr (inr (inr (inr (e))))))))) = λ is. let h : 97 ≡ 108 = sym (ap (λ (l : List ℕ). get_or l 2 0) e) ∙ is in absurd (omega (arith, h))
+pub letters : (name : List ℕ) → IsOption name → get_or name 2 0 + get_or name 3 0 ≢ 209
+letters name (inl (e)) = λ is. let h : 203 ≡ 209 = sym (ap (λ (l : List ℕ). get_or l 2 0 + get_or l 3 0) e) ∙ is in absurd (omega (arith, h))
+letters name (inr (inl (e))) = λ is. let h : 212 ≡ 209 = sym (ap (λ (l : List ℕ). get_or l 2 0 + get_or l 3 0) e) ∙ is in absurd (omega (arith, h))
+letters name (inr (inr (inl (e)))) = λ is. let h : 203 ≡ 209 = sym (ap (λ (l : List ℕ). get_or l 2 0 + get_or l 3 0) e) ∙ is in absurd (omega (arith, h))
+letters name (inr (inr (inr (inl (e))))) = λ is. let h : 212 ≡ 209 = sym (ap (λ (l : List ℕ). get_or l 2 0 + get_or l 3 0) e) ∙ is in absurd (omega (arith, h))
+letters name (inr (inr (inr (inr (inl (e)))))) = λ is. let h : 225 ≡ 209 = sym (ap (λ (l : List ℕ). get_or l 2 0 + get_or l 3 0) e) ∙ is in absurd (omega (arith, h))
+letters name (inr (inr (inr (inr (inr (inl (e))))))) = λ is. let h : 197 ≡ 209 = sym (ap (λ (l : List ℕ). get_or l 2 0 + get_or l 3 0) e) ∙ is in absurd (omega (arith, h))
+letters name (inr (inr (inr (inr (inr (inr (inl (e)))))))) = λ is. let h : 223 ≡ 209 = sym (ap (λ (l : List ℕ). get_or l 2 0 + get_or l 3 0) e) ∙ is in absurd (omega (arith, h))
+letters name (inr (inr (inr (inr (inr (inr (inr (inl (e))))))))) = λ is. let h : 205 ≡ 209 = sym (ap (λ (l : List ℕ). get_or l 2 0 + get_or l 3 0) e) ∙ is in absurd (omega (arith, h))
+letters name (inr (inr (inr (inr (inr (inr (inr (inr (inl (e)))))))))) = λ is. let h : 212 ≡ 209 = sym (ap (λ (l : List ℕ). get_or l 2 0 + get_or l 3 0) e) ∙ is in absurd (omega (arith, h))
+letters name (inr (inr (inr (inr (inr (inr (inr (inr (inr (e)))))))))) = λ is. let h : 212 ≡ 209 = sym (ap (λ (l : List ℕ). get_or l 2 0 + get_or l 3 0) e) ∙ is in absurd (omega (arith, h))
 
 pub no_flag : (name : List ℕ) → IsOption name → name ≢ flag
-no_flag name o is = third_letter name o (ap (λ (l : List ℕ). get_or l 2 0) is)
+no_flag name o is = letters name o (ap (λ (l : List ℕ). get_or l 2 0 + get_or l 3 0) is)
 
 -- in `name=value` the first one is after the name
-found_behind : (name value : List ℕ) → IsOption name → position (λ b. b == 61) (name ++ 61 ∷ value) ≡ Some (length name)
+pub found_behind : (name value : List ℕ) → IsOption name → position (λ b. b == 61) (name ++ 61 ∷ value) ≡ Some (length name)
 found_behind name value is =
     let whole = name ++ 61 ∷ value in
     let within : nat_lt (length name) (length whole) ≡ true = lt-ltb (length name) (length whole) (omega (arith, length-append name (61 ∷ value))) in
@@ -183,18 +187,6 @@ module _ (name : List ℕ) (words : List (List ℕ)) where
 
   -- what a value is found to be, the words have, and nothing else
   module _ {A : Type 0} (Is : A → List ℕ → Type 0) (value : List ℕ) (once : Once name value words) where
-    pub some_given : (r : Option A) → IfSome r (λ x. Is x value) → IfSome r (λ x. Has (Gives name (Is x)) words)
-    some_given None is = tt
-    some_given (Some x) is = (once.0, once.1, (value, once.2, is))
-
-    pub only_given : (r : Option A) → IfSome r (λ x. (y : A) → Is y value → y ≡ x) → IfSome r (λ x. (y : A) → Has (Gives name (Is y)) words → y ≡ x)
-    only_given None only = tt
-    only_given (Some x) only = λ y has. only y (given_value value (Is y) once has)
-
-    pub none_given : (r : Option A) → IfNone r ((y : A) → Is y value → ⊥) → IfNone r ((y : A) → Has (Gives name (Is y)) words → ⊥)
-    none_given None none = λ y has. none y (given_value value (Is y) once has)
-    none_given (Some x) none = tt
-
     module _ (Else : A → Type 0) where
       pub some_may : (r : Option A) → IfSome r (λ x. Is x value) → IfSome r (λ x. Has (MayGive name (Is x) (Else x)) words)
       some_may None is = tt
@@ -240,6 +232,9 @@ one_ports value (Some b) is = λ d also. go b d is also
     go true false is also = let h : codes "shared" ≡ codes "each" = sym is ∙ also in absurd (omega (arith, ap length h))
     go false true is also = let h : codes "shared" ≡ codes "each" = sym also ∙ is in absurd (omega (arith, ap length h))
 
+pub same_value : (value : List ℕ) (a b : Bool) → IsPorts value a → IsPorts value b → a ≡ b
+same_value value a b is also = one_ports value (Some b) also a is
+
 pub one_time : (value : List ℕ) (r : Option (Option ℕ)) → IfSome r (λ t. IsSeconds value t) → IfSome r (λ t. (u : Option ℕ) → IsSeconds value u → u ≡ t)
 one_time value None is = tt
 one_time value (Some None) is = absurd is
@@ -249,14 +244,79 @@ one_time value (Some (Some n)) is = λ u also. go u also
     go None also = absurd also
     go (Some m) also = ap (λ (k : ℕ). Some k) (same_number value m n also.0 is.0)
 
+-- the ports' words, whose usual value is of all the settings
+module _ (words : List (List ℕ)) (value : List ℕ) (once : Once (codes "--ports") value words) where
+  ports_value : (shared : Bool) → Has (ArePorts shared) words → IsPorts value shared
+  ports_value shared has = go (holds_in (ArePorts shared) words once.0 once.1 has)
+    where
+      go : ArePorts shared once.0 → IsPorts value shared
+      go (inl (other, single, is)) =
+          let values : value ∷ [] ≡ other ∷ [] = sym once.2 ∙ single in
+          let one : value ≡ other = cc values in
+          subst (λ (v : List ℕ). IsPorts v shared) (sym one) is
+      go (inr (none, usual)) = absurd (cc (sym once.2 ∙ none))
+
+  pub ports_some : (r : Option Bool) → IfSome r (λ b. IsPorts value b) → IfSome r (λ b. Has (ArePorts b) words)
+  ports_some None is = tt
+  ports_some (Some b) is = (once.0, once.1, inl (value, once.2, is))
+
+  pub ports_only : (r : Option Bool) → IfSome r (λ b. IsPorts value b) → IfSome r (λ b. (d : Bool) → Has (ArePorts d) words → d ≡ b)
+  ports_only None is = tt
+  ports_only (Some b) is = λ d has. one_ports value (Some b) is d (ports_value d has)
+
+  pub ports_none : (r : Option Bool) → IfNone r ((b : Bool) → IsPorts value b → ⊥) → IfNone r ((b : Bool) → Has (ArePorts b) words → ⊥)
+  ports_none None none = λ b has. none b (ports_value b has)
+  ports_none (Some b) none = tt
+
+module _ (words : List (List ℕ)) (never : Never (codes "--ports") words) (usual : Bool) (is_usual : Has (λ settings. usual ≡ usually_shared settings) words) where
+  pub ports_usual : Has (ArePorts usual) words
+  ports_usual = (never.0, never.1, inr (never.2, holds_in _ words never.0 never.1 is_usual))
+
+  pub ports_usual_only : (d : Bool) → Has (ArePorts d) words → d ≡ usual
+  ports_usual_only d has = go (holds_in (ArePorts d) words never.0 never.1 has)
+    where
+      go : ArePorts d never.0 → d ≡ usual
+      go (inl (other, single, is)) = absurd (cc (sym never.2 ∙ single))
+      go (inr (none, shared)) = shared ∙ sym (holds_in (λ settings. usual ≡ usually_shared settings) words never.0 never.1 is_usual)
+
+-- an option is given where it has a value
+pub given_some : (name value : List ℕ) (more : List (List ℕ)) (ss : List Setting) → values_of name ss ≡ value ∷ more → is_given name ss ≡ true
+given_some name value more [] is = cc is
+given_some name value more (s ∷ ss) is = go (bytes_eq s.0 name) refl (given_some name value more ss)
+  where
+    go : (b : Bool) → bytes_eq s.0 name ≡ b → (values_of name ss ≡ value ∷ more → is_given name ss ≡ true) → is_given name (s ∷ ss) ≡ true
+    go true e rest = rw e refl
+    go false e rest = let h = rw e at is in rw e (rest h)
+
+pub given_none : (name : List ℕ) (ss : List Setting) → values_of name ss ≡ [] → is_given name ss ≡ false
+given_none name [] is = refl
+given_none name (s ∷ ss) is = go (bytes_eq s.0 name) refl (given_none name ss)
+  where
+    go : (b : Bool) → bytes_eq s.0 name ≡ b → (values_of name ss ≡ [] → is_given name ss ≡ false) → is_given name (s ∷ ss) ≡ false
+    go true e rest = let h = rw e at is in cc h
+    go false e rest = let h = rw e at is in rw e (rest h)
+
+-- what is usual, by what is given
+pub usual_by : (words : List (List ℕ)) (r a b c d e : Bool) → Has (λ settings. a ≡ is_given (codes "--feeds") settings) words → Has (λ settings. b ≡ is_given (codes "--askers") settings) words
+    → Has (λ settings. c ≡ is_given (codes "--feed-port") settings) words → Has (λ settings. d ≡ is_given (codes "--ask-port") settings) words → Has (λ settings. e ≡ is_given (codes "--rounds") settings) words
+    → r ≡ not (a && b && c && d && e) → Has (λ settings. r ≡ usually_shared settings) words
+usual_by words r a b c d e feeds askers feed_port ask_port rounds is =
+    let ss = feeds.0 in
+    let one = sym feeds.2 in
+    let two = sym (holds_in _ words ss feeds.1 askers) in
+    let three = sym (holds_in _ words ss feeds.1 feed_port) in
+    let four = sym (holds_in _ words ss feeds.1 ask_port) in
+    let five = sym (holds_in _ words ss feeds.1 rounds) in
+    (ss, feeds.1, rw (one, two, three, four, five) is)
+
 -- the same numbers are within the bounds
 pub same_bounds : (s t : ServeWords) → s.at.feeds ≡ t.at.feeds → s.at.askers ≡ t.at.askers → s.at.feed_port ≡ t.at.feed_port → s.at.ask_port ≡ t.at.ask_port → s.at.shared ≡ t.at.shared → MayServe s → MayServe t
 same_bounds s t feeds askers feed_port ask_port shared may =
     let lanes : ports_for s.at.shared s.at.feeds ≡ ports_for t.at.shared t.at.feeds = ap (λ (b : Bool). ports_for b s.at.feeds) shared ∙ ap (ports_for t.at.shared) feeds in
     let clients : ports_for s.at.shared s.at.askers ≡ ports_for t.at.shared t.at.askers = ap (λ (b : Bool). ports_for b s.at.askers) shared ∙ ap (ports_for t.at.shared) askers in
     record {
-      feeds = subst (λ (n : ℕ). (1 ≤ n) × (n ≤ 64)) feeds may.feeds;
-      askers = subst (λ (n : ℕ). (1 ≤ n) × (n ≤ 64)) askers may.askers;
+      feeds = subst (λ (n : ℕ). (1 ≤ n) × (n ≤ most_places)) feeds may.feeds;
+      askers = subst (λ (n : ℕ). (1 ≤ n) × (n ≤ most_places)) askers may.askers;
       feed_ports = (omega (arith, may.feed_ports.0, feed_port), omega (arith, may.feed_ports.1, feed_port, lanes));
       ask_ports = (omega (arith, may.ask_ports.0, ask_port), omega (arith, may.ask_ports.1, ask_port, clients));
       apart = elim may.apart [

@@ -1,5 +1,5 @@
 -- The settings of `serve` as `clap` has them.
-use Rattle.std.specs.Prelude.{◌≡◌, ℕ, Bool, true, false, List, [], ◌∷◌, ◌++◌, Option, Some, None, codes, map}
+use Rattle.std.specs.Prelude.{◌≡◌, ℕ, Bool, true, List, [], ◌∷◌, ◌++◌, Option, Some, None, codes, map}
 use Rattle.std.specs.Borrow.{Bor}
 use Rattle.std.specs.Str.{bytes_eq}
 use Rattle.clap.specs.Words.{App, Rule, first_value, found_of, new_app, new_rule, with_rule}
@@ -15,12 +15,12 @@ dashed name = 45 ∷ 45 ∷ name
 abbrev pub is_dashes : List ℕ → Bool
 is_dashes word = bytes_eq word (codes "--")
 
--- the option with this name, and whether it must be given
-abbrev pub option_rule : List ℕ × Bool → Rule
-option_rule named = record (new_rule named.0) { long = Some named.0; required = named.1 }
+-- the option with this name
+abbrev pub option_rule : List ℕ → Rule
+option_rule name = record (new_rule name) { long = Some name }
 
-abbrev pub option_names : List (List ℕ × Bool)
-option_names = (codes "feeds", true) ∷ (codes "askers", true) ∷ (codes "feed-port", true) ∷ (codes "ask-port", true) ∷ (codes "rounds", true) ∷ (codes "address", false) ∷ (codes "ports", false) ∷ (codes "idle", false) ∷ (codes "ask-idle", false) ∷ []
+abbrev pub option_names : List (List ℕ)
+option_names = codes "feeds" ∷ codes "askers" ∷ codes "feed-port" ∷ codes "ask-port" ∷ codes "rounds" ∷ codes "address" ∷ codes "ports" ∷ codes "idle" ∷ codes "ask-idle" ∷ codes "ask-address" ∷ []
 
 -- the flag, which has no value; where it stands the empty one is found
 abbrev pub flag_rule : Rule
@@ -31,9 +31,9 @@ abbrev pub with_rules : App → List Rule → App
 with_rules app [] = app
 with_rules app (rule ∷ rules) = with_rules (with_rule app rule) rules
 
--- the options with these names, and whether each must be given
-abbrev pub options_of : List (Bor (List ℕ) × Bool) → List Rule
-options_of names = map (λ named. option_rule (named.0.now, named.1)) names
+-- the options with these names
+abbrev pub options_of : List (Bor (List ℕ)) → List Rule
+options_of names = map (λ name. option_rule name.now) names
 
 -- the command `serve`
 abbrev pub serve_app : App

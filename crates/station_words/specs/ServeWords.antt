@@ -1,12 +1,13 @@
 -- The words of `serve`: settings in any order.
-use Rattle.std.specs.Prelude.{◌≡◌, ℕ, ◌+◌, ◌≤◌, ◌⊎◌, ◌++◌, Bool, true, false, if◌then◌else◌, List, [], ◌∷◌, map, codes, Option, None, Some}
-use Rattle.std.specs.List.{filter}
+use Rattle.std.specs.Prelude.{◌≡◌, ℕ, ◌+◌, ◌≤◌, ◌⊎◌, ◌++◌, Bool, true, false, not, ◌&&◌, if◌then◌else◌, List, [], ◌∷◌, map, codes, Option, None, Some}
+use Rattle.std.specs.List.{filter, list_any}
 use Rattle.std.specs.Str.{bytes_eq}
 use Rattle.bmp_specs.specs.declared.wire.Family.TheVariants.{V4}
 use Rattle.bmp_specs.specs.AddressText.{IsAddressText}
 use Rattle.bmp_specs.specs.NumberText.{IsNumberText}
 use Rattle.bmp_specs.specs.Prefix.{padded}
 use Rattle.bmp_specs.specs.Values.{AddressValue}
+use Rattle.station_doors.specs.Doors.{most_places}
 use Rattle.station_words.specs.declared.serve_words.ServeWords.{ServeWords}
 
 -- a setting: its name, and its value, which is empty where it has none
@@ -15,7 +16,7 @@ Setting = List ℕ × List ℕ
 
 -- the name of a setting that has a value
 abbrev pub IsOption : List ℕ → Type 0
-IsOption name = (name ≡ codes "--feeds") ⊎ ((name ≡ codes "--askers") ⊎ ((name ≡ codes "--feed-port") ⊎ ((name ≡ codes "--ask-port") ⊎ ((name ≡ codes "--rounds") ⊎ ((name ≡ codes "--address") ⊎ ((name ≡ codes "--ports") ⊎ ((name ≡ codes "--idle") ⊎ (name ≡ codes "--ask-idle"))))))))
+IsOption name = (name ≡ codes "--feeds") ⊎ ((name ≡ codes "--askers") ⊎ ((name ≡ codes "--feed-port") ⊎ ((name ≡ codes "--ask-port") ⊎ ((name ≡ codes "--rounds") ⊎ ((name ≡ codes "--address") ⊎ ((name ≡ codes "--ports") ⊎ ((name ≡ codes "--idle") ⊎ ((name ≡ codes "--ask-idle") ⊎ (name ≡ codes "--ask-address")))))))))
 
 -- the name of the one that has none
 abbrev pub flag : List ℕ
@@ -80,23 +81,37 @@ ports_for shared n = if shared then 1 else n
 -- The numbers are within what a station takes, and the ports of the lanes and those of the askers are ports and don't
 -- meet.
 pub record MayServe (serve : ServeWords) : Type 0 where
-  pub feeds : (1 ≤ serve.at.feeds) × (serve.at.feeds ≤ 64)
-  pub askers : (1 ≤ serve.at.askers) × (serve.at.askers ≤ 64)
+  pub feeds : (1 ≤ serve.at.feeds) × (serve.at.feeds ≤ most_places)
+  pub askers : (1 ≤ serve.at.askers) × (serve.at.askers ≤ most_places)
   pub feed_ports : (1 ≤ serve.at.feed_port) × (serve.at.feed_port + ports_for serve.at.shared serve.at.feeds ≤ 65536)
   pub ask_ports : (1 ≤ serve.at.ask_port) × (serve.at.ask_port + ports_for serve.at.shared serve.at.askers ≤ 65536)
   pub apart : (serve.at.feed_port + ports_for serve.at.shared serve.at.feeds ≤ serve.at.ask_port) ⊎ (serve.at.ask_port + ports_for serve.at.shared serve.at.askers ≤ serve.at.feed_port)
 
--- The words are the settings of this call, each once, in any order; those from the address on may be left out.
+-- the setting is given
+abbrev pub is_given : List ℕ → List Setting → Bool
+is_given name settings = list_any (λ setting. bytes_eq setting.0 name) settings
+
+-- Where the words don't say it, ports are shared, unless all of these are given: a station whose words say so much and
+-- nothing of its ports has one for each lane and each asker.
+abbrev pub usually_shared : List Setting → Bool
+usually_shared settings = not (is_given (codes "--feeds") settings && is_given (codes "--askers") settings && is_given (codes "--feed-port") settings && is_given (codes "--ask-port") settings && is_given (codes "--rounds") settings)
+
+-- whether the ports are shared
+abbrev pub ArePorts : Bool → List Setting → Type 0
+ArePorts shared settings = MayGive (codes "--ports") (λ value. IsPorts value shared) (shared ≡ usually_shared settings) settings
+
+-- The words are the settings of this call, each at most once, in any order. What isn't given is what stands here.
 pub record IsServe (serve : ServeWords) (lenient : Bool) (words : List (List ℕ)) : Type 0 where
   pub settings : List Setting
   pub are_settings : AreSettings settings words
-  pub feeds : Gives (codes "--feeds") (λ value. IsNumberText value serve.at.feeds) settings
-  pub askers : Gives (codes "--askers") (λ value. IsNumberText value serve.at.askers) settings
-  pub feed_port : Gives (codes "--feed-port") (λ value. IsNumberText value serve.at.feed_port) settings
-  pub ask_port : Gives (codes "--ask-port") (λ value. IsNumberText value serve.at.ask_port) settings
-  pub rounds : Gives (codes "--rounds") (λ value. IsRounds value serve.rounds) settings
+  pub feeds : MayGive (codes "--feeds") (λ value. IsNumberText value serve.at.feeds) (serve.at.feeds ≡ 64) settings
+  pub askers : MayGive (codes "--askers") (λ value. IsNumberText value serve.at.askers) (serve.at.askers ≡ 16) settings
+  pub feed_port : MayGive (codes "--feed-port") (λ value. IsNumberText value serve.at.feed_port) (serve.at.feed_port ≡ 11019) settings
+  pub ask_port : MayGive (codes "--ask-port") (λ value. IsNumberText value serve.at.ask_port) (serve.at.ask_port ≡ 11120) settings
+  pub rounds : MayGive (codes "--rounds") (λ value. IsRounds value serve.rounds) (serve.rounds ≡ forever) settings
   pub address : MayGive (codes "--address") (λ value. IsAddressText value serve.at.address) (serve.at.address ≡ loopback) settings
-  pub ports : MayGive (codes "--ports") (λ value. IsPorts value serve.at.shared) (serve.at.shared ≡ false) settings
+  pub ask_address : MayGive (codes "--ask-address") (λ value. IsAddressText value serve.at.ask_address) (serve.at.ask_address ≡ serve.at.address) settings
+  pub ports : ArePorts serve.at.shared settings
   pub idle : MayGive (codes "--idle") (λ value. IsSeconds value serve.at.idle) (serve.at.idle ≡ None) settings
   pub ask_idle : MayGive (codes "--ask-idle") (λ value. IsSeconds value serve.at.ask_idle) (serve.at.ask_idle ≡ None) settings
   pub flagged : MayGive flag (λ value. lenient ≡ true) (lenient ≡ false) settings

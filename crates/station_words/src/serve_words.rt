@@ -1,23 +1,35 @@
 //! The settings of `serve`, in any order and form.
 
-ghost use Rattle.std.specs.Prelude.{◌≡◌, ◌≢◌, ◌↔◌, ◌≤◌, ℕ, Bool, List, Option, Err, None, codes, map, IsTrue, IfSome, IfNone, IfOk, false, true};
+ghost use Rattle.std.specs.Prelude.{◌≡◌, ◌≢◌, ◌↔◌, ◌≤◌, ℕ, Bool, List, Option, Err, None, codes, map, IsTrue, IfSome, IfNone, IfOk, false, true, not, ◌&&◌};
 ghost use Rattle.std.specs.List.{list_any};
 ghost use Rattle.std.specs.String.{string_bytes};
 ghost use Rattle.bmp_specs.specs.AddressText.{IsAddressText};
 ghost use Rattle.bmp_specs.specs.NumberText.{IsNumberText};
 ghost use Rattle.bmp_specs.specs.Values.{AddressValue};
 ghost use Rattle.clap.specs.Words.{app_of, rule_of};
+ghost use Rattle.station_words.specs.Complaints.{OpenAsks, OpenFeeds, ServeComplains};
 ghost use Rattle.station_words.specs.ServeOptions.{AreMatches, dashed, flag_rule, is_dashes, option_rule, options_of, serve_app, with_rules};
-ghost use Rattle.station_words.specs.ServeWords.{Gives, Has, IsPorts, IsRounds, IsSeconds, IsServe, MayGive, MayServe, flag, loopback, ports_for};
+ghost use Rattle.station_words.specs.ServeWords.{Gives, Has, ArePorts, IsPorts, IsRounds, IsSeconds, IsServe, MayGive, MayServe, flag, forever, is_given, usually_shared, loopback, ports_for};
 ghost use Rattle.station_words.specs.declared.serve_words.ServeWords.{ServeWords as AnyServe};
 
+use crate::complaint::Complaint;
+use crate::serve_options::ServeOption;
 use crate::words::WordsFault;
 use clap::builder::ValueRange;
 use clap::error::ErrorKind;
 use clap::{Arg, ArgAction, ArgMatches, Command};
 use ip_prefix::{Addr, parse_addr, parse_number};
-use station_doors::Listening;
+use station_doors::{Listening, MOST_PLACES};
 use std::alloc::{AllocError, Global};
+
+// What is asked for where an option isn't given.
+const FEEDS: u32 = 64;
+
+const ASKERS: u32 = 16;
+
+const FEED_PORT: u32 = 11019;
+
+const ASK_PORT: u32 = 11120;
 
 /// What `serve` is asked for.
 #[derive(Clone, Copy)]
@@ -29,25 +41,25 @@ pub struct ServeWords {
     pub rounds: u32,
 }
 
-// An option with a value, as `--name value` or `--name=value`, and whether it must be given.
-fn option<'a>(alloc: Global, name: &'a str, required: bool) -> Arg<'a>
-    ensures rule { rule_of result ≡ option_rule (name.entry.now, required) }
+// An option with a value, as `--name value` or `--name=value`.
+fn option<'a>(alloc: Global, name: &'a str) -> Arg<'a>
+    ensures rule { rule_of result ≡ option_rule name.entry.now }
     ensures local { result.global ≡ false }
 {
-    Arg::new(alloc, name).long(name).required(required)
+    Arg::new(alloc, name).long(name)
 }
 
 // The command with these options.
 fn with_options<'a>(
     alloc: Global,
     command: Command<'a>,
-    names: &[(&'a str, bool)],
+    names: &[&'a str],
 ) -> Result<Command<'a>, AllocError>
     ensures { IfOk result (λ with. app_of with ≡ with_rules (app_of command.entry) (options_of names.entry.now)) }
 {
     let mut command = command;
-    for (name, required) in names {
-        command = command.arg(option(alloc, *name, *required))?;
+    for name in names {
+        command = command.arg(option(alloc, *name))?;
     }
     Ok(command)
 }
@@ -60,15 +72,16 @@ fn serve_command<'a>(alloc: Global) -> Result<Command<'a>, AllocError>
         .no_binary_name(true)
         .disable_help_flag(true);
     let options = [
-        ("feeds", true),
-        ("askers", true),
-        ("feed-port", true),
-        ("ask-port", true),
-        ("rounds", true),
-        ("address", false),
-        ("ports", false),
-        ("idle", false),
-        ("ask-idle", false),
+        "feeds",
+        "askers",
+        "feed-port",
+        "ask-port",
+        "rounds",
+        "address",
+        "ports",
+        "idle",
+        "ask-idle",
+        "ask-address",
     ];
     with_options(alloc, command, &options)?.arg(lenient(alloc))
 }
@@ -119,15 +132,15 @@ fn read_options<'a>(alloc: Global, words: &'a [String]) -> Result<ArgMatches<'a>
     }
 }
 
-// The number that the words give for an option, which is given once.
-fn find_number(matches: &ArgMatches<'_>, name: &str) -> Option<u32>
-    ensures some { (words : List (List ℕ)) → AreMatches words matches.now → IfSome result (λ n. Has (Gives (dashed name.now) (λ value. IsNumberText value n)) words) }
-    ensures only { (words : List (List ℕ)) → AreMatches words matches.now → IfSome result (λ n. (m : ℕ) → Has (Gives (dashed name.now) (λ value. IsNumberText value m)) words → m ≡ n) }
-    ensures none { (words : List (List ℕ)) → AreMatches words matches.now → IfNone result ((n : ℕ) → Has (Gives (dashed name.now) (λ value. IsNumberText value n)) words → ⊥) }
+// The number that the words give for an option, or this one where they give none.
+fn find_number(matches: &ArgMatches<'_>, name: &str, usual: u32) -> Option<u32>
+    ensures some { (words : List (List ℕ)) → AreMatches words matches.now → IfSome result (λ n. Has (MayGive (dashed name.now) (λ value. IsNumberText value n) (n ≡ usual)) words) }
+    ensures only { (words : List (List ℕ)) → AreMatches words matches.now → IfSome result (λ n. (m : ℕ) → Has (MayGive (dashed name.now) (λ value. IsNumberText value m) (m ≡ usual)) words → m ≡ n) }
+    ensures none { (words : List (List ℕ)) → AreMatches words matches.now → IfNone result ((n : ℕ) → Has (MayGive (dashed name.now) (λ value. IsNumberText value n) (n ≡ usual)) words → ⊥) }
 {
     match matches.get_str(name) {
         Some(value) => parse_number(value.as_bytes()),
-        None => None,
+        None => Some(usual),
     }
 }
 
@@ -145,7 +158,7 @@ fn may_be_rounds(number: u32) -> bool
 }
 
 // The rounds that a value stands for.
-fn rounds_of(value: &str) -> Option<u32>
+pub(crate) fn rounds_of(value: &str) -> Option<u32>
     ensures some { IfSome result (λ rounds. IsRounds value.now rounds) }
     ensures none { IfNone result ((rounds : ℕ) → IsRounds value.now rounds → ⊥) }
 {
@@ -162,36 +175,43 @@ fn rounds_of(value: &str) -> Option<u32>
     }
 }
 
-// The rounds that the words give, once.
+// The rounds that the words give, or `forever` where they give none.
 fn find_rounds(matches: &ArgMatches<'_>) -> Option<u32>
-    ensures some { (words : List (List ℕ)) → AreMatches words matches.now → IfSome result (λ n. Has (Gives (dashed (codes "rounds")) (λ value. IsRounds value n)) words) }
+    ensures some { (words : List (List ℕ)) → AreMatches words matches.now → IfSome result (λ n. Has (MayGive (dashed (codes "rounds")) (λ value. IsRounds value n) (n ≡ forever)) words) }
     ensures only { (words : List (List ℕ)) → AreMatches words matches.now
-        → IfSome result (λ n. (m : ℕ) → Has (Gives (dashed (codes "rounds")) (λ value. IsRounds value m)) words → m ≡ n) }
-    ensures none { (words : List (List ℕ)) → AreMatches words matches.now → IfNone result ((n : ℕ) → Has (Gives (dashed (codes "rounds")) (λ value. IsRounds value n)) words → ⊥) }
+        → IfSome result (λ n. (m : ℕ) → Has (MayGive (dashed (codes "rounds")) (λ value. IsRounds value m) (m ≡ forever)) words → m ≡ n) }
+    ensures none { (words : List (List ℕ)) → AreMatches words matches.now → IfNone result ((n : ℕ) → Has (MayGive (dashed (codes "rounds")) (λ value. IsRounds value n) (n ≡ forever)) words → ⊥) }
 {
     match matches.get_str("rounds") {
         Some(value) => rounds_of(value),
-        None => None,
+        None => Some(u32::MAX),
     }
 }
 
-// The address that the words give, where they give it once, or 127.0.0.1 where they give none.
-fn find_address(matches: &ArgMatches<'_>) -> Option<Addr>
+// The address that the words give for an option, or this one where they give none.
+fn find_address(matches: &ArgMatches<'_>, name: &str, usual: Addr) -> Option<Addr>
     ensures some { (words : List (List ℕ)) → AreMatches words matches.now
-        → IfSome result (λ address. Has (MayGive (dashed (codes "address")) (λ value. IsAddressText value address) (address ≡ loopback)) words) }
+        → IfSome result (λ address. Has (MayGive (dashed name.now) (λ value. IsAddressText value address) (address ≡ usual)) words) }
     ensures only { (words : List (List ℕ)) → AreMatches words matches.now
-        → IfSome result (λ address. (other : AddressValue) → Has (MayGive (dashed (codes "address")) (λ value. IsAddressText value other) (other ≡ loopback)) words → other ≡ address) }
+        → IfSome result (λ address. (other : AddressValue) → Has (MayGive (dashed name.now) (λ value. IsAddressText value other) (other ≡ usual)) words → other ≡ address) }
     ensures none { (words : List (List ℕ)) → AreMatches words matches.now
-        → IfNone result ((address : AddressValue) → Has (MayGive (dashed (codes "address")) (λ value. IsAddressText value address) (address ≡ loopback)) words → ⊥) }
+        → IfNone result ((address : AddressValue) → Has (MayGive (dashed name.now) (λ value. IsAddressText value address) (address ≡ usual)) words → ⊥) }
 {
-    match matches.get_str("address") {
+    match matches.get_str(name) {
         Some(value) => parse_addr(value.as_bytes()),
-        None => Some(Addr::v4([127, 0, 0, 1])),
+        None => Some(usual),
     }
+}
+
+// 127.0.0.1
+fn home() -> Addr
+    ensures { result ≡ loopback }
+{
+    Addr::v4([127, 0, 0, 1])
 }
 
 // Whether the ports are shared, by a value.
-fn ports_of(value: &str) -> Option<bool>
+pub(crate) fn ports_of(value: &str) -> Option<bool>
     ensures some { IfSome result (λ shared. IsPorts value.now shared) }
     ensures none { IfNone result ((shared : Bool) → IsPorts value.now shared → ⊥) }
 {
@@ -204,18 +224,45 @@ fn ports_of(value: &str) -> Option<bool>
     None
 }
 
+// Whether the words give an option.
+fn gives(matches: &ArgMatches<'_>, name: &str) -> bool
+    ensures { (words : List (List ℕ)) → AreMatches words matches.now → Has (λ settings. result ≡ is_given (dashed name.now) settings) words }
+{
+    match matches.get_str(name) {
+        Some(_) => true,
+        None => false,
+    }
+}
+
+// Whether one of these isn't given.
+fn is_short(feeds: bool, askers: bool, feed_port: bool, ask_port: bool, rounds: bool) -> bool
+    ensures { result ≡ not (feeds && askers && feed_port && ask_port && rounds) }
+{
+    !(feeds && askers && feed_port && ask_port && rounds)
+}
+
+// Whether the ports are shared where the words don't say it: not where they give each option that once had to be given.
+fn usual_ports(matches: &ArgMatches<'_>) -> bool
+    ensures { (words : List (List ℕ)) → AreMatches words matches.now → Has (λ settings. result ≡ usually_shared settings) words }
+{
+    is_short(
+        gives(matches, "feeds"),
+        gives(matches, "askers"),
+        gives(matches, "feed-port"),
+        gives(matches, "ask-port"),
+        gives(matches, "rounds"),
+    )
+}
+
 // Whether the ports are shared, by the words.
 fn find_ports(matches: &ArgMatches<'_>) -> Option<bool>
-    ensures some { (words : List (List ℕ)) → AreMatches words matches.now
-        → IfSome result (λ shared. Has (MayGive (dashed (codes "ports")) (λ value. IsPorts value shared) (shared ≡ false)) words) }
-    ensures only { (words : List (List ℕ)) → AreMatches words matches.now
-        → IfSome result (λ shared. (other : Bool) → Has (MayGive (dashed (codes "ports")) (λ value. IsPorts value other) (other ≡ false)) words → other ≡ shared) }
-    ensures none { (words : List (List ℕ)) → AreMatches words matches.now
-        → IfNone result ((shared : Bool) → Has (MayGive (dashed (codes "ports")) (λ value. IsPorts value shared) (shared ≡ false)) words → ⊥) }
+    ensures some { (words : List (List ℕ)) → AreMatches words matches.now → IfSome result (λ shared. Has (ArePorts shared) words) }
+    ensures only { (words : List (List ℕ)) → AreMatches words matches.now → IfSome result (λ shared. (other : Bool) → Has (ArePorts other) words → other ≡ shared) }
+    ensures none { (words : List (List ℕ)) → AreMatches words matches.now → IfNone result ((shared : Bool) → Has (ArePorts shared) words → ⊥) }
 {
     match matches.get_str("ports") {
         Some(value) => ports_of(value),
-        None => Some(false),
+        None => Some(usual_ports(matches)),
     }
 }
 
@@ -227,7 +274,7 @@ fn may_be_seconds(number: u32) -> bool
 }
 
 // The time that a value stands for.
-fn seconds_of(value: &str) -> Option<Option<u32>>
+pub(crate) fn seconds_of(value: &str) -> Option<Option<u32>>
     ensures some { IfSome result (λ time. IsSeconds value.now time) }
     ensures none { IfNone result ((time : Option ℕ) → IsSeconds value.now time → ⊥) }
 {
@@ -293,7 +340,7 @@ fn may_serve(serve: &ServeWords) -> bool
         shared,
         ..
     } = serve.at;
-    if !((1..=64).contains(&feeds) && (1..=64).contains(&askers)) {
+    if !((1..=MOST_PLACES).contains(&feeds) && (1..=MOST_PLACES).contains(&askers)) {
         return false;
     }
     let feed_end = feed_port as u32 + width(shared, feeds);
@@ -311,22 +358,25 @@ fn serve_of(matches: &ArgMatches<'_>) -> Option<ServeWords>
         → IfSome result (λ serve. IsServe serve lenient words) }
     ensures none { (words : List (List ℕ)) → AreMatches words matches.now → IfNone result ((serve : AnyServe) (lenient : Bool) → IsServe serve lenient words → ⊥) }
 {
-    let Some(feeds) = find_number(matches, "feeds") else {
+    let Some(feeds) = find_number(matches, "feeds", FEEDS) else {
         return None;
     };
-    let Some(askers) = find_number(matches, "askers") else {
+    let Some(askers) = find_number(matches, "askers", ASKERS) else {
         return None;
     };
-    let Some(feed_number) = find_number(matches, "feed-port") else {
+    let Some(feed_number) = find_number(matches, "feed-port", FEED_PORT) else {
         return None;
     };
-    let Some(ask_number) = find_number(matches, "ask-port") else {
+    let Some(ask_number) = find_number(matches, "ask-port", ASK_PORT) else {
         return None;
     };
     let Some(rounds) = find_rounds(matches) else {
         return None;
     };
-    let Some(address) = find_address(matches) else {
+    let Some(address) = find_address(matches, "address", home()) else {
+        return None;
+    };
+    let Some(ask_address) = find_address(matches, "ask-address", address) else {
         return None;
     };
     let Some(shared) = find_ports(matches) else {
@@ -347,6 +397,7 @@ fn serve_of(matches: &ArgMatches<'_>) -> Option<ServeWords>
     let serve = ServeWords {
         at: Listening {
             address,
+            ask_address,
             feeds,
             askers,
             feed_port,
@@ -360,10 +411,11 @@ fn serve_of(matches: &ArgMatches<'_>) -> Option<ServeWords>
     if may_serve(&serve) { Some(serve) } else { None }
 }
 
-/// What the words after `serve` ask for: `--feeds N --askers M --feed-port P --ask-port Q --rounds K`, in any order, and
-/// optionally `--address A`, `--ports each` or `shared`, `--idle S`, `--ask-idle S` and `--lenient`. Each is given once, as
-/// `--name value` or as `--name=value`, and `--lenient` alone. It answers too whether that one is given. `Usage` exactly
-/// where the words are no such settings.
+/// What the words after `serve` ask for: `--feeds N`, `--askers M`, `--feed-port P`, `--ask-port Q`, `--rounds K`,
+/// `--address A`, `--ask-address A`, `--ports each` or `shared`, `--idle S`, `--ask-idle S` and `--lenient`,
+/// in any order. Each may be left out, and is given at most once, as `--name value` or as `--name=value`, and `--lenient`
+/// alone. It answers too whether that one is given. `Usage` exactly where the words are no
+/// such settings.
 pub fn read_serve(alloc: Global, words: &[String]) -> Result<(ServeWords, bool), WordsFault>
     ensures ok { IfOk result (λ read. IsServe read.0 read.1 (map string_bytes words.now)) }
     ensures usage { result ≡ Err WordsFault.Usage → (serve : AnyServe) (lenient : Bool) → IsServe serve lenient (map string_bytes words.now) → ⊥ }
@@ -374,5 +426,68 @@ pub fn read_serve(alloc: Global, words: &[String]) -> Result<(ServeWords, bool),
             None => Err(WordsFault::Usage),
         },
         Err(fault) => Err(fault),
+    }
+}
+
+// What is wrong with so many ports from these two on, if something is.
+fn apart_complaint<'a>(feed: u32, feeds: u32, ask: u32, askers: u32) -> Option<Complaint<'a>>
+    ensures { (given : List (List ℕ)) → Has (λ settings. OpenFeeds feed feeds settings × OpenAsks ask askers settings) given → IfSome result (λ complaint. ServeComplains complaint given) }
+{
+    let feed_end = feed as u64 + feeds as u64;
+    let ask_end = ask as u64 + askers as u64;
+    if feed_end > 65_536 {
+        return Some(Complaint::PastEnd {
+            option: ServeOption::FeedPort,
+            first: feed,
+            count: feeds,
+        });
+    }
+    if ask_end > 65_536 {
+        return Some(Complaint::PastEnd {
+            option: ServeOption::AskPort,
+            first: ask,
+            count: askers,
+        });
+    }
+    if (ask as u64) < feed_end && (feed as u64) < ask_end {
+        return Some(Complaint::Meet {
+            feed,
+            feeds,
+            ask,
+            askers,
+        });
+    }
+    None
+}
+
+// What is wrong with the ports of settings.
+fn matches_complaint<'a>(matches: &ArgMatches<'_>) -> Option<Complaint<'a>>
+    ensures { (words : List (List ℕ)) → AreMatches words matches.now → IfSome result (λ complaint. ServeComplains complaint words) }
+{
+    let Some(feeds) = find_number(matches, "feeds", FEEDS) else {
+        return None;
+    };
+    let Some(askers) = find_number(matches, "askers", ASKERS) else {
+        return None;
+    };
+    let Some(feed) = find_number(matches, "feed-port", FEED_PORT) else {
+        return None;
+    };
+    let Some(ask) = find_number(matches, "ask-port", ASK_PORT) else {
+        return None;
+    };
+    let Some(shared) = find_ports(matches) else {
+        return None;
+    };
+    apart_complaint(feed, width(shared, feeds), ask, width(shared, askers))
+}
+
+// What is wrong with the ports that the words after `serve` ask for. None too where these are no settings.
+pub(crate) fn ports_complaint<'a>(alloc: Global, given: &[String]) -> Option<Complaint<'a>>
+    ensures { IfSome result (λ complaint. ServeComplains complaint (map string_bytes given.now)) }
+{
+    match read_options(alloc, given) {
+        Ok(matches) => matches_complaint(&matches),
+        Err(_) => None,
     }
 }

@@ -1,4 +1,4 @@
-ghost use Rattle.std.specs.Prelude.{◌≡◌, ◌≢◌, ◌↔◌, ℕ, List, [], IsTrue, IfSome, IfNone, IfOk, Err, false, map, get_or, codes};
+ghost use Rattle.std.specs.Prelude.{◌≡◌, ◌≢◌, ◌↔◌, ℕ, List, [], ◌∷◌, IsTrue, IfSome, IfNone, IfOk, Err, false, map, get_or, codes};
 ghost use Rattle.std.specs.List.{join_with_byte};
 ghost use Rattle.std.specs.String.{string_bytes};
 ghost use Rattle.bmp_specs.specs.PrefixText.{IsPrefixText};
@@ -74,10 +74,21 @@ pub enum WordsFault {
 }
 
 // Whether the word is this one.
-fn is_word(word: &str, name: &str) -> bool
+pub(crate) fn is_word(word: &str, name: &str) -> bool
     ensures { IsTrue result ↔ (word.now ≡ name.now) }
 {
     word == name
+}
+
+// The first of the words, and those after it.
+pub(crate) fn first_of(words: &[String]) -> Option<(&str, &[String])>
+    ensures some { IfSome result (λ parts. map string_bytes words.now ≡ parts.0.now ∷ map string_bytes parts.1.now) }
+    ensures none { IfNone result (map string_bytes words.now ≡ []) }
+{
+    match words {
+        [first, others @ ..] => Some((first.as_str(), others)),
+        [] => None,
+    }
 }
 
 // The query, where it has a reply.
@@ -103,7 +114,7 @@ fn read_query(line: &[u8]) -> Option<Query>
 }
 
 // The same of the words, joined by single spaces.
-fn read_asked(alloc: Global, words: &[String]) -> Result<Query, WordsFault>
+pub(crate) fn read_asked(alloc: Global, words: &[String]) -> Result<Query, WordsFault>
     ensures ok { IfOk result (λ query. IsAsking (join_with_byte space (map string_bytes words.now)) (query_value query)) }
     ensures usage { result ≡ Err WordsFault.Usage → (query : QueryValue) → IsAsking (join_with_byte space (map string_bytes words.now)) query → ⊥ }
 {
@@ -117,7 +128,7 @@ fn read_asked(alloc: Global, words: &[String]) -> Result<Query, WordsFault>
 }
 
 // Whether `--lenient` stands in front of the words, and the words without it.
-fn split_lenient(given: &[String]) -> (bool, &[String])
+pub(crate) fn split_lenient(given: &[String]) -> (bool, &[String])
     ensures { IsPlain result.0 (map string_bytes given.now) (map string_bytes result.1.now) }
 {
     match given {
@@ -167,7 +178,7 @@ fn read_lone(command: Command, given: &[String]) -> Result<Call, WordsFault>
 }
 
 // The prefix that a word is.
-fn read_prefix(word: &str) -> Option<Prefix>
+pub(crate) fn read_prefix(word: &str) -> Option<Prefix>
     ensures some { IfSome result (λ prefix. IsPrefixText word.now prefix) }
     ensures none { IfNone result ((prefix : PrefixValue) → IsPrefixText word.now prefix → ⊥) }
 {

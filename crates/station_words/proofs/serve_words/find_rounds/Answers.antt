@@ -1,20 +1,23 @@
-use Rattle.std.proofs.Common.{codes, sym}
-use Rattle.station_words.specs.ServeWords.{IsRounds}
-use Rattle.station_words.proofs.Settings.{none_given, not_given, one_rounds, only_given, some_given}
+use Rattle.std.proofs.Common.{◌≡◌, codes, refl, sym}
+use Rattle.station_words.specs.ServeWords.{IsRounds, forever}
+use Rattle.station_words.proofs.Settings.{else_may, left_out, none_may, one_rounds, only_may, some_may}
 use Rattle.station_words.proofs.OptionServe.{told_never, told_once}
 use Rattle.station_words.proofs.serve_words.find_rounds.Goals as goal
 
 pub returns-in-Some-clause-some : goal.returns-in-Some-clause-some
 returns-in-Some-clause-some c = λ words are.
-    some_given _ words (λ n v. IsRounds v n) _ (told_once words c.args.matches.now (codes "rounds") _ are (sym c.in-Some.ensures)) c.rounds_of.result c.rounds_of.ensures.some
+    some_may _ words (λ n v. IsRounds v n) _ (told_once words c.args.matches.now (codes "rounds") _ are (sym c.in-Some.ensures)) (λ n. n ≡ forever) c.rounds_of.result c.rounds_of.ensures.some
 
 pub returns-in-Some-clause-only : goal.returns-in-Some-clause-only
 returns-in-Some-clause-only c = λ words are.
-    only_given _ words (λ n v. IsRounds v n) _ (told_once words c.args.matches.now (codes "rounds") _ are (sym c.in-Some.ensures)) c.rounds_of.result (one_rounds _ c.rounds_of.result c.rounds_of.ensures.some)
+    only_may _ words (λ n v. IsRounds v n) _ (told_once words c.args.matches.now (codes "rounds") _ are (sym c.in-Some.ensures)) (λ n. n ≡ forever) c.rounds_of.result (one_rounds _ c.rounds_of.result c.rounds_of.ensures.some)
 
 pub returns-in-Some-clause-none : goal.returns-in-Some-clause-none
 returns-in-Some-clause-none c = λ words are.
-    none_given _ words (λ n v. IsRounds v n) _ (told_once words c.args.matches.now (codes "rounds") _ are (sym c.in-Some.ensures)) c.rounds_of.result c.rounds_of.ensures.none
+    none_may _ words (λ n v. IsRounds v n) _ (told_once words c.args.matches.now (codes "rounds") _ are (sym c.in-Some.ensures)) (λ n. n ≡ forever) c.rounds_of.result c.rounds_of.ensures.none
 
-pub returns-in-None-clause-none : goal.returns-in-None-clause-none
-returns-in-None-clause-none c = λ words are n has. not_given _ words _ (told_never words c.args.matches.now (codes "rounds") are (sym c.in-None.ensures)) has
+pub returns-in-None-clause-some : goal.returns-in-None-clause-some
+returns-in-None-clause-some c = λ words are. else_may _ words (λ n v. IsRounds v n) (λ n. n ≡ forever) forever (told_never words c.args.matches.now (codes "rounds") are (sym c.in-None.ensures)) refl
+
+pub returns-in-None-clause-only : goal.returns-in-None-clause-only
+returns-in-None-clause-only c = λ words are other has. left_out _ words _ _ (told_never words c.args.matches.now (codes "rounds") are (sym c.in-None.ensures)) has

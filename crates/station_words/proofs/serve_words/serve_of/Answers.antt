@@ -1,4 +1,7 @@
-use Rattle.std.proofs.Common.{sym, ◌∙◌, arith}
+use Rattle.std.proofs.Common.{◌≡◌, codes, sym, subst, ◌∙◌, arith}
+use Rattle.bmp_specs.specs.AddressText.{IsAddressText}
+use Rattle.bmp_specs.specs.Values.{AddressValue}
+use Rattle.station_words.specs.ServeWords.{MayGive}
 use Rattle.station_words.proofs.Settings.{holds_in, same_bounds, some_ports}
 use Rattle.station_words.proofs.serve_words.serve_of.Goals as goal
 
@@ -18,7 +21,13 @@ pub returns-in_default-find_rounds-clause-none : goal.returns-in_default-find_ro
 returns-in_default-find_rounds-clause-none c = λ words are serve lenient is. c.in_default-find_rounds.ensures.none words are serve.rounds (is.settings, is.are_settings, is.rounds)
 
 pub returns-in_default-find_address-clause-none : goal.returns-in_default-find_address-clause-none
-returns-in_default-find_address-clause-none c = λ words are serve lenient is. c.in_default-find_address.ensures.none words are serve.at.address (is.settings, is.are_settings, is.address)
+returns-in_default-find_address-clause-none c = λ words are serve lenient is.
+    c.in_default-find_address.ensures.none words are serve.at.address (is.settings, is.are_settings, subst (λ (a : AddressValue). MayGive (codes "--address") (λ value. IsAddressText value serve.at.address) (serve.at.address ≡ a) is.settings) (sym c.home.ensures) is.address)
+
+pub returns-in_default-find_address-2-clause-none : goal.returns-in_default-find_address-2-clause-none
+returns-in_default-find_address-2-clause-none c = λ words are serve lenient is.
+    let same = c.in-Some-find_address.ensures.only words are serve.at.address (is.settings, is.are_settings, subst (λ (a : AddressValue). MayGive (codes "--address") (λ value. IsAddressText value serve.at.address) (serve.at.address ≡ a) is.settings) (sym c.home.ensures) is.address) in
+    c.in_default-find_address-2.ensures.none words are serve.at.ask_address (is.settings, is.are_settings, subst (λ (a : AddressValue). MayGive (codes "--ask-address") (λ value. IsAddressText value serve.at.ask_address) (serve.at.ask_address ≡ a) is.settings) same is.ask_address)
 
 pub returns-in_default-find_ports-clause-none : goal.returns-in_default-find_ports-clause-none
 returns-in_default-find_ports-clause-none c = λ words are serve lenient is. c.in_default-find_ports.ensures.none words are serve.at.shared (is.settings, is.are_settings, is.ports)
@@ -50,7 +59,8 @@ returns-then-may_serve-clause-some c = λ words are lenient has.
       feed_port = rw c.in-Some-port_of.ensures.some (holds_in _ words first.0 first.1 (c.in-Some-find_number-2.ensures.some words are));
       ask_port = rw c.in-Some-port_of-2.ensures.some (holds_in _ words first.0 first.1 (c.in-Some-find_number-3.ensures.some words are));
       rounds = holds_in _ words first.0 first.1 (c.in-Some-find_rounds.ensures.some words are);
-      address = holds_in _ words first.0 first.1 (c.in-Some-find_address.ensures.some words are);
+      address = subst (λ (a : AddressValue). MayGive (codes "--address") (λ value. IsAddressText value c.in-Some-find_address.address) (c.in-Some-find_address.address ≡ a) first.0) c.home.ensures (holds_in _ words first.0 first.1 (c.in-Some-find_address.ensures.some words are));
+      ask_address = holds_in _ words first.0 first.1 (c.in-Some-find_address-2.ensures.some words are);
       ports = holds_in _ words first.0 first.1 (c.in-Some-find_ports.ensures.some words are);
       idle = holds_in _ words first.0 first.1 (c.in-Some-find_seconds.ensures.some words are);
       ask_idle = holds_in _ words first.0 first.1 (c.in-Some-find_seconds-2.ensures.some words are);

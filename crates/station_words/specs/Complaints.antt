@@ -1,0 +1,199 @@
+-- Why words are no command: what each reason says of them.
+use Rattle.std.specs.Prelude.{◌≡◌, ◌⊎◌, ℕ, ◌+◌, ◌≤◌, ◌<◌, ◌++◌, Bool, true, false, List, [], ◌∷◌, Option, slice_index_or, codes, length, map, take}
+use Rattle.std.specs.List.{join_with_byte}
+use Rattle.std.specs.String.{string_bytes}
+use Rattle.bmp_specs.specs.AddressText.{IsAddressText}
+use Rattle.bmp_specs.specs.NumberText.{IsNumberText}
+use Rattle.bmp_specs.specs.PrefixText.{IsPrefixText}
+use Rattle.bmp_specs.specs.Query.{QueryValue, IsQuery, quit, space}
+use Rattle.bmp_specs.specs.Values.{AddressValue, PrefixValue}
+use Rattle.station_doors.specs.Doors.{most_places}
+use Rattle.station_words.specs.ServeWords.{Setting, ArePorts, Has, IsInFront, IsOption, IsPorts, IsRounds, IsSeconds, MayGive, equals_sign, flag, ports_for, values_of}
+use Rattle.station_words.specs.Words.{IsAsking, IsCall, IsPlain}
+use Rattle.station_words.specs.declared.complaint.Complaint.{Complaint}
+use Rattle.station_words.specs.declared.complaint.Complaint.TheVariants.{NoWords, NoCommand, NoQuery, Quit, Needs, Extra, NotA, NoOption, NoValue, Twice, HasValue, BadValue, PastEnd, Meet, Other}
+use Rattle.station_words.specs.declared.serve_options.ServeOption.{ServeOption}
+use Rattle.station_words.specs.declared.serve_options.ServeOption.TheVariants.{Feeds, Askers, FeedPort, AskPort, Rounds, Address, AskAddress, Ports, Idle, AskIdle, Lenient}
+use Rattle.station_words.specs.declared.words.Call.{Call}
+
+-- the names of the commands
+abbrev pub IsCommandName : List ℕ → Type 0
+IsCommandName word = (word ≡ codes "replay") ⊎ ((word ≡ codes "check") ⊎ ((word ≡ codes "serve") ⊎ ((word ≡ codes "drill") ⊎ ((word ≡ codes "relay") ⊎ ((word ≡ codes "rov") ⊎ ((word ≡ codes "archive") ⊎ ((word ≡ codes "recall") ⊎ ((word ≡ codes "--help") ⊎ ((word ≡ codes "-h") ⊎ ((word ≡ codes "--version") ⊎ (word ≡ codes "-V")))))))))))
+
+-- these words follow the command's name, or `--lenient` after it
+abbrev pub Follow : List ℕ → List (List ℕ) → List (List ℕ) → Type 0
+Follow name plain words = (lenient : Bool) × (given : List (List ℕ)) × (words ≡ name ∷ given) × IsPlain lenient given plain
+
+-- these words are asked: they follow `replay`, or `recall` and a file
+abbrev pub AreAsked : List (List ℕ) → List (List ℕ) → Type 0
+AreAsked asked words = Follow (codes "replay") asked words ⊎ ((file : List ℕ) × Follow (codes "recall") (file ∷ asked) words)
+
+-- after the command too few words stand
+pub data LacksWords (command : List ℕ) (words : List (List ℕ)) : Type 0 where
+  no_query : command ≡ codes "replay" → Follow (codes "replay") [] words → LacksWords command words
+  no_recalled : command ≡ codes "recall" → Follow (codes "recall") [] words → LacksWords command words
+  no_question : command ≡ codes "recall" → (file : List ℕ) → Follow (codes "recall") (file ∷ []) words → LacksWords command words
+  no_archive : command ≡ codes "archive" → Follow (codes "archive") [] words → LacksWords command words
+  no_vrps : command ≡ codes "rov" → Follow (codes "rov") [] words → LacksWords command words
+  no_prefix : command ≡ codes "rov" → (file : List ℕ) → Follow (codes "rov") (file ∷ []) words → LacksWords command words
+  few_numbers : command ≡ codes "drill" → (given : List (List ℕ)) → words ≡ codes "drill" ∷ given → length given < 3 → LacksWords command words
+
+-- the names of the commands that ask for a text
+abbrev pub IsTextName : List ℕ → Type 0
+IsTextName command = ((command ≡ codes "--help") ⊎ (command ≡ codes "-h")) ⊎ ((command ≡ codes "--version") ⊎ (command ≡ codes "-V"))
+
+-- after the command the word stands where none may
+pub data HasExtra (command word : List ℕ) (words : List (List ℕ)) : Type 0 where
+  after_check : command ≡ codes "check" → (more : List (List ℕ)) → Follow (codes "check") (word ∷ more) words → HasExtra command word words
+  after_relay : command ≡ codes "relay" → (more : List (List ℕ)) → Follow (codes "relay") (word ∷ more) words → HasExtra command word words
+  after_file : command ≡ codes "archive" → (file : List ℕ) (more : List (List ℕ)) → Follow (codes "archive") (file ∷ word ∷ more) words → HasExtra command word words
+  after_prefix : command ≡ codes "rov" → (file prefix : List ℕ) (more : List (List ℕ)) → Follow (codes "rov") (file ∷ prefix ∷ word ∷ more) words → HasExtra command word words
+  after_numbers : command ≡ codes "drill" → (seed lanes messages : List ℕ) (more : List (List ℕ)) → words ≡ codes "drill" ∷ seed ∷ lanes ∷ messages ∷ word ∷ more → HasExtra command word words
+  after_text : IsTextName command → (more : List (List ℕ)) → words ≡ command ∷ word ∷ more → HasExtra command word words
+
+-- the text is a number between these
+abbrev pub IsNumberWithin : ℕ → ℕ → List ℕ → Type 0
+IsNumberWithin least most text = (n : ℕ) × IsNumberText text n × (least ≤ n) × (n ≤ most)
+
+-- the text is no number between these
+abbrev pub IsNoNumber : ℕ → ℕ → List ℕ → Type 0
+IsNoNumber least most text = (n : ℕ) → IsNumberText text n → least ≤ n → n ≤ most → ⊥
+
+-- the word stands where a prefix or a number must, and is none
+pub data IsMisfit (word : List ℕ) (words : List (List ℕ)) : Type 0 where
+  for_prefix : (file : List ℕ) → Follow (codes "rov") (file ∷ word ∷ []) words → ((prefix : PrefixValue) → IsPrefixText word prefix → ⊥) → IsMisfit word words
+  for_seed : (more : List (List ℕ)) → words ≡ codes "drill" ∷ word ∷ more → IsNoNumber 0 4294967295 word → IsMisfit word words
+  for_lanes : (seed : List ℕ) (more : List (List ℕ)) → words ≡ codes "drill" ∷ seed ∷ word ∷ more → IsNoNumber 1 16 word → IsMisfit word words
+  for_messages : (seed lanes : List ℕ) (more : List (List ℕ)) → words ≡ codes "drill" ∷ seed ∷ lanes ∷ word ∷ more → IsNoNumber 1 100000 word → IsMisfit word words
+
+-- ---- after `serve`
+
+-- the option as it is written
+abbrev pub name_of : ServeOption → List ℕ
+name_of Feeds = codes "--feeds"
+name_of Askers = codes "--askers"
+name_of FeedPort = codes "--feed-port"
+name_of AskPort = codes "--ask-port"
+name_of Rounds = codes "--rounds"
+name_of Address = codes "--address"
+name_of AskAddress = codes "--ask-address"
+name_of Ports = codes "--ports"
+name_of Idle = codes "--idle"
+name_of AskIdle = codes "--ask-idle"
+name_of Lenient = flag
+
+-- the value is of the option's form
+abbrev pub IsValueOf : ServeOption → List ℕ → Type 0
+IsValueOf Feeds value = (n : ℕ) × IsNumberText value n × (1 ≤ n) × (n ≤ most_places)
+IsValueOf Askers value = (n : ℕ) × IsNumberText value n × (1 ≤ n) × (n ≤ most_places)
+IsValueOf FeedPort value = (n : ℕ) × IsNumberText value n × (1 ≤ n) × (n ≤ 65535)
+IsValueOf AskPort value = (n : ℕ) × IsNumberText value n × (1 ≤ n) × (n ≤ 65535)
+IsValueOf Rounds value = (n : ℕ) × IsRounds value n
+IsValueOf Address value = (a : AddressValue) × IsAddressText value a
+IsValueOf AskAddress value = (a : AddressValue) × IsAddressText value a
+IsValueOf Ports value = (shared : Bool) × IsPorts value shared
+IsValueOf Idle value = (time : Option ℕ) × IsSeconds value time
+IsValueOf AskIdle value = (time : Option ℕ) × IsSeconds value time
+IsValueOf Lenient value = value ≡ []
+
+-- the word is an option, or an option with its value
+abbrev pub BeginsSetting : List ℕ → Type 0
+BeginsSetting word = (option : ServeOption) × ((word ≡ name_of option) ⊎ ((value : List ℕ) × (word ≡ name_of option ++ equals_sign ∷ value)))
+
+-- these settings stand in front of the words, one after another, and these are left
+abbrev pub StandInFront : List Setting → List (List ℕ) → List (List ℕ) → Type 0
+StandInFront [] words left = words ≡ left
+StandInFront (setting ∷ settings) words left = (others : List (List ℕ)) × IsInFront setting words others × StandInFront settings others left
+
+-- the word begins with `--`
+abbrev pub IsDashed : List ℕ → Type 0
+IsDashed word = (more : List ℕ) × (word ≡ 45 ∷ 45 ∷ more)
+
+-- there is nothing, or what begins with `--`
+abbrev pub LacksValue : List (List ℕ) → Type 0
+LacksValue words = (words ≡ []) ⊎ ((word : List ℕ) × (others : List (List ℕ)) × (words ≡ word ∷ others) × IsDashed word)
+
+-- the settings give the name
+abbrev pub IsGiven : List ℕ → List Setting → Type 0
+IsGiven name settings = (value : List ℕ) × (more : List (List ℕ)) × (values_of name settings ≡ value ∷ more)
+
+-- the options that were seen, by their places, are given
+abbrev pub index_of : ServeOption → ℕ
+index_of Feeds = 0
+index_of Askers = 1
+index_of FeedPort = 2
+index_of AskPort = 3
+index_of Rounds = 4
+index_of Address = 5
+index_of AskAddress = 6
+index_of Ports = 7
+index_of Idle = 8
+index_of AskIdle = 9
+index_of Lenient = 10
+
+abbrev pub is_seen : List Bool → ServeOption → Bool
+is_seen seen option = slice_index_or seen (index_of option) false
+
+abbrev pub Knows : List Bool → List Setting → Type 0
+Knows seen settings = (option : ServeOption) → is_seen seen option ≡ true → IsGiven (name_of option) settings
+
+-- what is wrong with the setting that these words begin with
+abbrev pub FrontComplains : Complaint → List ℕ → List (List ℕ) → Type 0
+FrontComplains (NoOption named) word more = (named.now ≡ word) × (BeginsSetting word → ⊥)
+FrontComplains (HasValue named) word more = (named.now ≡ word) × ((value : List ℕ) × (word ≡ flag ++ equals_sign ∷ value))
+FrontComplains (NoValue option) word more = (word ≡ name_of option) × IsOption (name_of option) × LacksValue more
+FrontComplains complaint word more = ⊥
+
+-- the settings open so many ports from the first one on
+pub record OpenPorts (port places : List ℕ) (usual_port usual_places first count : ℕ) (settings : List Setting) : Type 0 where
+  pub number : ℕ
+  pub shared : Bool
+  pub is_first : MayGive port (λ value. IsNumberText value first) (first ≡ usual_port) settings
+  pub is_number : MayGive places (λ value. IsNumberText value number) (number ≡ usual_places) settings
+  pub is_shared : ArePorts shared settings
+  pub counted : count ≡ ports_for shared number
+
+abbrev pub OpenFeeds : ℕ → ℕ → List Setting → Type 0
+OpenFeeds first count settings = OpenPorts (codes "--feed-port") (codes "--feeds") 11019 64 first count settings
+
+abbrev pub OpenAsks : ℕ → ℕ → List Setting → Type 0
+OpenAsks first count settings = OpenPorts (codes "--ask-port") (codes "--askers") 11120 16 first count settings
+
+-- what is wrong with the words after `serve`
+abbrev pub ServeComplains : Complaint → List (List ℕ) → Type 0
+ServeComplains (NoOption word) given = (settings : List Setting) × (left : List (List ℕ)) × StandInFront settings given (word.now ∷ left) × (BeginsSetting word.now → ⊥)
+ServeComplains (HasValue word) given = (settings : List Setting) × (left : List (List ℕ)) × StandInFront settings given (word.now ∷ left) × ((value : List ℕ) × (word.now ≡ flag ++ equals_sign ∷ value))
+ServeComplains (NoValue option) given = (settings : List Setting) × (left : List (List ℕ)) × StandInFront settings given (name_of option ∷ left) × IsOption (name_of option) × LacksValue left
+ServeComplains (Twice option) given = (settings : List Setting) × (left : List (List ℕ)) × StandInFront settings given left × IsGiven (name_of option) settings × ((value : List ℕ) × (others : List (List ℕ)) × IsInFront (name_of option, value) left others)
+ServeComplains (BadValue option value) given = (settings : List Setting) × (left others : List (List ℕ)) × StandInFront settings given left × IsInFront (name_of option, value.now) left others × (IsValueOf option value.now → ⊥)
+ServeComplains (PastEnd FeedPort first count) given = Has (λ settings. OpenFeeds first count settings) given × (65536 < first + count)
+ServeComplains (PastEnd AskPort first count) given = Has (λ settings. OpenAsks first count settings) given × (65536 < first + count)
+ServeComplains (PastEnd option first count) given = ⊥
+ServeComplains (Meet feed feeds ask askers) given = Has (λ settings. OpenFeeds feed feeds settings × OpenAsks ask askers settings) given × (ask < feed + feeds) × (feed < ask + askers)
+ServeComplains complaint given = ⊥
+
+-- the words are a call
+abbrev pub AreCall : List (List ℕ) → Type 0
+AreCall words = (call : Call) × IsCall call words
+
+-- that many of the first words are a query, or 0
+abbrev pub IsGoodBeginning : ℕ → List (List ℕ) → Type 0
+IsGoodBeginning good asked = (good ≡ 0) ⊎ ((query : QueryValue) × IsAsking (join_with_byte space (take good asked)) query)
+
+-- what is wrong with the words
+abbrev pub Complains : Complaint → List (List ℕ) → Type 0
+Complains NoWords words = words ≡ []
+Complains (NoCommand word) words = (given : List (List ℕ)) × (words ≡ word.now ∷ given) × (IsCommandName word.now → ⊥)
+Complains (NoQuery asked good) words =
+    AreAsked (map string_bytes asked.now) words × ((query : QueryValue) → IsQuery (join_with_byte space (map string_bytes asked.now)) query → ⊥)
+    × IsGoodBeginning good (map string_bytes asked.now)
+Complains Quit words = (asked : List (List ℕ)) × AreAsked asked words × IsQuery (join_with_byte space asked) quit × ((query : QueryValue) → IsQuery (join_with_byte space asked) query → query ≡ quit)
+Complains (Needs command needs) words = LacksWords command.now words
+Complains (Extra command word) words = HasExtra command.now word.now words
+Complains (NotA word wanted) words = IsMisfit word.now words
+Complains Other words = ((call : Call) → IsCall call words → ⊥) × ((given : List (List ℕ)) × (words ≡ codes "serve" ∷ given))
+Complains complaint words = (given : List (List ℕ)) × (words ≡ codes "serve" ∷ given) × ServeComplains complaint given
+
+-- a complaint is never about a command
+abbrev pub ComplainsOfNoCall : Type 0
+ComplainsOfNoCall = (complaint : Complaint) (words : List (List ℕ)) → Complains complaint words → (call : Call) → IsCall call words → ⊥

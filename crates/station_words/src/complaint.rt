@@ -1,0 +1,378 @@
+//! Why words are no command, for whoever wrote them.
+//!
+//! `why_no_command` is asked where `read_words` found no command. It takes the words apart once more, from the left, and
+//! names the first of them that no command has at its place. What it says decides nothing: `read_words` does.
+
+ghost use Rattle.std.specs.Prelude.{◌≡◌, ◌≤◌, ◌⊎◌, ◌∷◌, ℕ, List, true, IfSome, IfNone, codes, length, map};
+ghost use Rattle.std.specs.String.{string_bytes};
+ghost use Rattle.station_words.specs.Complaints.{AreAsked, AreCall, Complains, IsGoodBeginning, IsTextName};
+ghost use Rattle.station_words.specs.Words.{IsCall, TakeMemory, TakesMemory};
+ghost use Rattle.station_words.specs.declared.words.Call.{Call as AnyCall};
+
+use crate::serve_options::{ServeOption, is_number, words_complaint};
+use crate::serve_words::ports_complaint;
+use crate::words::{
+    WordsFault, first_of, is_word, read_asked, read_prefix, read_words, split_lenient,
+};
+use query_lang::{Query, parse};
+use std::alloc::Global;
+
+/// Why words are no command.
+#[derive(Clone, Copy)]
+pub enum Complaint<'a> {
+    /// There are none, or one of them is no text.
+    NoWords,
+
+    /// The first is no command.
+    NoCommand(&'a str),
+
+    /// These are no query: the first `good` of them are one, and no longer beginning is.
+    NoQuery {
+        asked: &'a [String],
+        good: usize,
+    },
+
+    /// `quit` has no reply.
+    Quit,
+
+    /// After the command must stand what it needs.
+    Needs {
+        command: &'a str,
+        needs: &'static str,
+    },
+
+    /// The command has no place for this word.
+    Extra {
+        command: &'a str,
+        word: &'a str,
+    },
+
+    /// The word isn't of this form.
+    NotA {
+        word: &'a str,
+        wanted: &'static str,
+    },
+
+    /// No option of `serve` has this name.
+    NoOption(&'a str),
+
+    /// After the option of `serve` stands no value.
+    NoValue(ServeOption),
+
+    /// The option is given twice.
+    Twice(ServeOption),
+
+    /// The flag has a value.
+    HasValue(&'a str),
+
+    /// The option has a value of another form than it takes.
+    BadValue {
+        option: ServeOption,
+        value: &'a str,
+    },
+
+    /// So many ports from this one on go past the last.
+    PastEnd {
+        option: ServeOption,
+        first: u32,
+        count: u32,
+    },
+
+    /// Routers and clients have a port in common.
+    Meet {
+        feed: u32,
+        feeds: u32,
+        ask: u32,
+        askers: u32,
+    },
+
+    /// They are none for a reason that wasn't found. They begin with `serve`.
+    Other,
+}
+
+// So many words, where the first of these are a query that has a reply, or else as many as before.
+fn more_good(alloc: Global, asked: &[String], good: usize, count: usize) -> usize
+    requires within { count ≤ length asked.now }
+    requires good { IsGoodBeginning good (map string_bytes asked.now) }
+    ensures { IsGoodBeginning result (map string_bytes asked.now) }
+{
+    match read_asked(alloc, &asked[..count]) {
+        Ok(_) => count,
+        Err(_) => good,
+    }
+}
+
+// How many of the first words are a query that has a reply: the most that are found, and not all. 0 where none are, or
+// where memory is wanting.
+fn good_words(alloc: Global, asked: &[String]) -> usize
+    ensures { IsGoodBeginning result (map string_bytes asked.now) }
+{
+    let mut good = 0;
+    for count in 0..asked.len() {
+        good = more_good(alloc, asked, good, count);
+    }
+    good
+}
+
+// Why the words that are asked are no query with a reply. None where they are one, or where memory is wanting.
+fn query_complaint<'a>(alloc: Global, asked: &'a [String]) -> Option<Complaint<'a>>
+    ensures { (words : List (List ℕ)) → AreAsked (map string_bytes asked.now) words → IfSome result (λ complaint. Complains complaint words) }
+{
+    let Ok(line) = asked.join(alloc, " ") else {
+        return None;
+    };
+    match parse(line.as_bytes()) {
+        Some(Query::Quit) => Some(Complaint::Quit),
+        Some(_) => None,
+        None => Some(Complaint::NoQuery {
+            asked,
+            good: good_words(alloc, asked),
+        }),
+    }
+}
+
+fn replay_complaint<'a>(alloc: Global, given: &'a [String]) -> Option<Complaint<'a>>
+    ensures { IfSome result (λ complaint. Complains complaint (codes "replay" ∷ map string_bytes given.now)) }
+{
+    let (_, asked) = split_lenient(given);
+    if asked.is_empty() {
+        return Some(Complaint::Needs {
+            command: "replay",
+            needs: "a query",
+        });
+    }
+    query_complaint(alloc, asked)
+}
+
+fn recall_complaint<'a>(alloc: Global, given: &'a [String]) -> Option<Complaint<'a>>
+    ensures { IfSome result (λ complaint. Complains complaint (codes "recall" ∷ map string_bytes given.now)) }
+{
+    let (_, plain) = split_lenient(given);
+    let Some((_, asked)) = first_of(plain) else {
+        return Some(Complaint::Needs {
+            command: "recall",
+            needs: "a file and a query",
+        });
+    };
+    if asked.is_empty() {
+        return Some(Complaint::Needs {
+            command: "recall",
+            needs: "a file and a query",
+        });
+    }
+    query_complaint(alloc, asked)
+}
+
+fn check_complaint<'a>(given: &'a [String]) -> Option<Complaint<'a>>
+    ensures some { IfSome result (λ complaint. Complains complaint (codes "check" ∷ map string_bytes given.now)) }
+    ensures none { IfNone result (AreCall (codes "check" ∷ map string_bytes given.now)) }
+{
+    let (_, plain) = split_lenient(given);
+    match first_of(plain) {
+        Some((word, _)) => Some(Complaint::Extra {
+            command: "check",
+            word,
+        }),
+        None => None,
+    }
+}
+
+fn relay_complaint<'a>(given: &'a [String]) -> Option<Complaint<'a>>
+    ensures some { IfSome result (λ complaint. Complains complaint (codes "relay" ∷ map string_bytes given.now)) }
+    ensures none { IfNone result (AreCall (codes "relay" ∷ map string_bytes given.now)) }
+{
+    let (_, plain) = split_lenient(given);
+    match first_of(plain) {
+        Some((word, _)) => Some(Complaint::Extra {
+            command: "relay",
+            word,
+        }),
+        None => None,
+    }
+}
+
+fn archive_complaint<'a>(given: &'a [String]) -> Option<Complaint<'a>>
+    ensures some { IfSome result (λ complaint. Complains complaint (codes "archive" ∷ map string_bytes given.now)) }
+    ensures none { IfNone result (AreCall (codes "archive" ∷ map string_bytes given.now)) }
+{
+    let (_, plain) = split_lenient(given);
+    let Some((_, others)) = first_of(plain) else {
+        return Some(Complaint::Needs {
+            command: "archive",
+            needs: "a file",
+        });
+    };
+    match first_of(others) {
+        Some((word, _)) => Some(Complaint::Extra {
+            command: "archive",
+            word,
+        }),
+        None => None,
+    }
+}
+
+fn rov_complaint<'a>(given: &'a [String]) -> Option<Complaint<'a>>
+    ensures some { IfSome result (λ complaint. Complains complaint (codes "rov" ∷ map string_bytes given.now)) }
+    ensures none { IfNone result (AreCall (codes "rov" ∷ map string_bytes given.now)) }
+{
+    let (_, plain) = split_lenient(given);
+    let Some((_, others)) = first_of(plain) else {
+        return Some(Complaint::Needs {
+            command: "rov",
+            needs: "a file and a prefix",
+        });
+    };
+    let Some((text, left)) = first_of(others) else {
+        return Some(Complaint::Needs {
+            command: "rov",
+            needs: "a file and a prefix",
+        });
+    };
+    if let Some((word, _)) = first_of(left) {
+        return Some(Complaint::Extra {
+            command: "rov",
+            word,
+        });
+    }
+    match read_prefix(text) {
+        Some(_) => None,
+        None => Some(Complaint::NotA {
+            word: text,
+            wanted: "a prefix",
+        }),
+    }
+}
+
+fn drill_complaint<'a>(given: &'a [String]) -> Option<Complaint<'a>>
+    ensures some { IfSome result (λ complaint. Complains complaint (codes "drill" ∷ map string_bytes given.now)) }
+    ensures none { IfNone result (AreCall (codes "drill" ∷ map string_bytes given.now)) }
+{
+    let Some((seed, after_seed)) = first_of(given) else {
+        return Some(Complaint::Needs {
+            command: "drill",
+            needs: "SEED LANES MESSAGES, three numbers,",
+        });
+    };
+    if !is_number(seed, 0, u32::MAX) {
+        return Some(Complaint::NotA {
+            word: seed,
+            wanted: "a number",
+        });
+    }
+    let Some((lanes, after_lanes)) = first_of(after_seed) else {
+        return Some(Complaint::Needs {
+            command: "drill",
+            needs: "SEED LANES MESSAGES, three numbers,",
+        });
+    };
+    if !is_number(lanes, 1, 16) {
+        return Some(Complaint::NotA {
+            word: lanes,
+            wanted: "a number from 1 to 16",
+        });
+    }
+    let Some((messages, after_messages)) = first_of(after_lanes) else {
+        return Some(Complaint::Needs {
+            command: "drill",
+            needs: "SEED LANES MESSAGES, three numbers,",
+        });
+    };
+    if !is_number(messages, 1, 100_000) {
+        return Some(Complaint::NotA {
+            word: messages,
+            wanted: "a number from 1 to 100000",
+        });
+    }
+    match first_of(after_messages) {
+        Some((word, _)) => Some(Complaint::Extra {
+            command: "drill",
+            word,
+        }),
+        None => None,
+    }
+}
+
+// After `--help` or `--version`.
+fn lone_complaint<'a>(command: &'a str, given: &'a [String]) -> Option<Complaint<'a>>
+    ensures some { IsTextName command.now → IfSome result (λ complaint. Complains complaint (command.now ∷ map string_bytes given.now)) }
+    ensures none { IsTextName command.now → IfNone result (AreCall (command.now ∷ map string_bytes given.now)) }
+{
+    match first_of(given) {
+        Some((word, _)) => Some(Complaint::Extra { command, word }),
+        None => None,
+    }
+}
+
+fn serve_complaint<'a>(alloc: Global, given: &'a [String]) -> Option<Complaint<'a>>
+    ensures { IfSome result (λ complaint. Complains complaint (codes "serve" ∷ map string_bytes given.now)) }
+{
+    match words_complaint(given) {
+        Some(complaint) => Some(complaint),
+        None => ports_complaint(alloc, given),
+    }
+}
+
+// Why a word and those after it are no command. None where no reason is found.
+fn complaint_at<'a>(alloc: Global, first: &'a str, given: &'a [String]) -> Option<Complaint<'a>>
+    ensures some { IfSome result (λ complaint. Complains complaint (first.now ∷ map string_bytes given.now)) }
+    ensures none { IfNone result (AreCall (first.now ∷ map string_bytes given.now) ⊎ TakesMemory first.now) }
+{
+    match first {
+        "replay" => replay_complaint(alloc, given),
+        "check" => check_complaint(given),
+        "serve" => serve_complaint(alloc, given),
+        "drill" => drill_complaint(given),
+        "relay" => relay_complaint(given),
+        "rov" => rov_complaint(given),
+        "archive" => archive_complaint(given),
+        "recall" => recall_complaint(alloc, given),
+        "--help" | "-h" | "--version" | "-V" => lone_complaint(first, given),
+        _ => Some(Complaint::NoCommand(first)),
+    }
+}
+
+// The same of all the words.
+fn complaint_of<'a>(alloc: Global, words: &'a [String]) -> Option<Complaint<'a>>
+    ensures some { IfSome result (λ complaint. Complains complaint (map string_bytes words.now)) }
+    ensures none { IfNone result (AreCall (map string_bytes words.now) ⊎ TakeMemory (map string_bytes words.now)) }
+{
+    match first_of(words) {
+        Some((first, given)) => complaint_at(alloc, first, given),
+        None => Some(Complaint::NoWords),
+    }
+}
+
+// Whether the words begin with `serve`.
+fn is_serving(words: &[String]) -> bool
+    ensures { result ≡ true → (given : List (List ℕ)) × (map string_bytes words.now ≡ codes "serve" ∷ given) }
+{
+    match first_of(words) {
+        Some((first, _)) => is_word(first, "serve"),
+        None => false,
+    }
+}
+
+/// Why the words are no command. None only where they are one, or where they begin with `replay`, `serve` or `recall` and
+/// there may have been no memory to read them.
+pub fn why_no_command<'a>(alloc: Global, words: &'a [String]) -> Option<Complaint<'a>>
+    // What it says is so.
+    ensures some { IfSome result (λ complaint. Complains complaint (map string_bytes words.now)) }
+
+    // The words are no call.
+    ensures none_read { IfSome result (λ complaint. (call : AnyCall) → IsCall call (map string_bytes words.now) → ⊥) }
+
+    ensures none { IfNone result (AreCall (map string_bytes words.now) ⊎ TakeMemory (map string_bytes words.now)) }
+{
+    match read_words(alloc, words) {
+        Ok(_) => None,
+        Err(WordsFault::NoMemory) => None,
+        Err(WordsFault::Usage) => match complaint_of(alloc, words) {
+            Some(complaint) => Some(complaint),
+            None => if is_serving(words) {
+                Some(Complaint::Other)
+            } else {
+                None
+            },
+        },
+    }
+}
