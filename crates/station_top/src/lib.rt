@@ -37,6 +37,9 @@ mod take;
 mod top;
 
 pub use law::drills_have_one_text;
-pub use station_words::{Call, Command, DrillWords, ServeWords, WordsFault, read_words};
+pub use station_words::{
+    Call, Command, Complaint, DrillWords, ServeWords, Shown, WordsFault, file_word, read_words,
+    why_no_command,
+};
 pub use status::Status;
 pub use top::station;
