@@ -16,3 +16,4 @@ pub mod Judging
 pub mod Recalling
 pub mod Archiving
 pub mod InputKept
+mod Refuted
