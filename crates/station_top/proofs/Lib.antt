@@ -17,3 +17,4 @@ pub mod Recalling
 pub mod Archiving
 pub mod InputKept
 mod Refuted
+mod OneCall

@@ -1,0 +1,323 @@
+-- Words are one call at most: its command with what it is asked with, and its reading.
+use Rattle.std.proofs.Common.{◌≡◌, ◌≢◌, ℕ, Bool, true, false, cond, List, [], ◌∷◌, ◌++◌, Option, None, Some, codes, inl, inr, refl, sym, ap, ◌∙◌, subst, arith, get_or, append-nil, append_assoc}
+use Rattle.std.specs.List.{join_with_byte}
+use Rattle.std.specs.Str.{bytes_eq}
+use Rattle.bmp_specs.specs.AddressText.{IsAddressText}
+use Rattle.bmp_specs.specs.NumberText.{IsNumberText, IsStepText}
+use Rattle.bmp_specs.specs.PeerText.{IsKeyText, IsViewText}
+use Rattle.bmp_specs.specs.PrefixText.{IsPrefixText}
+use Rattle.bmp_specs.specs.Query.{QueryValue, routers, cut, peers, marks, table, count, exact, longest, within, origin, stats, changes, quit, ArePeerSelectors, AreQueryWords, AreSelectors, IsFamilyText, IsPeersQuery, IsQuery, IsSelection, IsSelector, IsSought, IsStatsQuery, IsChangesQuery, space}
+use Rattle.bmp_specs.specs.Selection.{SelectValue}
+use Rattle.bmp_specs.specs.Values.{AddressValue, KeyValue, PrefixValue}
+use Rattle.bmp_frames.proofs.OneText.{key_one}
+use Rattle.ip_prefix.proofs.OneValue.{address_one, prefix_one}
+use Rattle.query_lang.specs.Queries.{query_value}
+use Rattle.query_lang.specs.Reading.{Takes, Unnamed, words_of}
+use Rattle.query_lang.specs.Verbs.{verb_of}
+use Rattle.query_lang.specs.declared.query.Query.{Query}
+use Rattle.query_lang.specs.declared.query.Query.TheVariants.{Routers, Cut, Peers, Marks, Table, Count, Exact, Longest, Within, Origin, Stats, Changes, Quit}
+use Rattle.query_lang.proofs.LineWords.{query_asks}
+use Rattle.query_lang.proofs.OneNumber.{number_one, step_one}
+use Rattle.query_lang.proofs.SelectorLaws.{four_taken, other_front, two_taken, unnamed_none}
+use Rattle.query_lang.proofs.VerbLaws.{begins, same_verb}
+use Rattle.station_words.specs.DrillWords.{IsDrill}
+use Rattle.station_words.specs.ServeWords.{Gives, IsPorts, IsRounds, IsSeconds, IsServe, MayGive, Setting, flag, loopback}
+use Rattle.station_words.specs.Words.{IsArchive, IsCall, IsCommand, IsRecall, IsReplay, IsRov}
+use Rattle.station_words.specs.declared.drill_words.DrillWords.{DrillWords}
+use Rattle.station_words.specs.declared.serve_words.ServeWords.{ServeWords}
+use Rattle.station_words.specs.declared.words.Call.{Call}
+use Rattle.station_words.specs.declared.words.Command.{Command}
+use Rattle.station_words.specs.declared.words.Command.TheVariants.{Replay, Check, Serve, Drill, Relay, Rov, Archive, Recall, Help, Version}
+use Rattle.station_words.proofs.Commands.{same_plain}
+use Rattle.station_words.proofs.Settings.{one_ports, one_rounds, one_time, same_settings}
+
+-- ---- selectors
+-- a selector, with nothing that names it after it
+taken : {A : Type 0} (word : List ℕ) (IsText : List ℕ → A → Type 0) (value : Option A) (front others words : List (List ℕ)) → IsSelector word IsText value front → Unnamed word others → words ≡ front ++ others → Takes word IsText words value others
+taken word IsText None front others words is none spelled = record { front = front; is_selector = is; spelled = spelled; unnamed = none }
+taken word IsText (Some value) front others words is none spelled = record { front = front; is_selector = is; spelled = spelled; unnamed = tt }
+
+-- two words that differ in their first byte
+differ : (a b : List ℕ) → get_or a 0 0 ≢ get_or b 0 0 → a ≢ b
+differ a b other same = other (ap (λ (l : List ℕ). get_or l 0 0) same)
+
+-- a selector alone doesn't name another word
+alone : {A : Type 0} (word other : List ℕ) (IsText : List ℕ → A → Type 0) (value : Option A) (front : List (List ℕ)) → other ≢ word → IsSelector other IsText value front → Unnamed word front
+alone word other IsText value front differs is text others e = other_front word other IsText value front [] differs is (unnamed_none word) text others (append-nil front ∙ e)
+
+peers_taken : (r s : Option ℕ) (p q : Option KeyValue) (front words : List (List ℕ)) → ArePeerSelectors r p front → ArePeerSelectors s q words → words ≡ front → (s ≡ r) × (q ≡ p)
+peers_taken r s p q front words are also same =
+    let behind = alone (codes "router") (codes "peer") IsKeyText p are.peer_words (differ (codes "peer") (codes "router") (λ e. omega (arith, e))) are.is_peer in
+    let one = taken (codes "router") IsNumberText r are.router_words are.peer_words front are.is_router behind are.spelled in
+    let two = taken (codes "peer") IsKeyText p are.peer_words [] are.peer_words are.is_peer (unnamed_none (codes "peer")) (sym (append-nil are.peer_words)) in
+    let both = two_taken front are.peer_words [] r p one two s q words [] also (unnamed_none (codes "router")) (unnamed_none (codes "peer")) (sym same ∙ sym (append-nil words)) in
+    (both.0, both.1)
+
+selectors_one : (words : List (List ℕ)) (s t : SelectValue) → AreSelectors s words → AreSelectors t words → t ≡ s
+selectors_one words s t are also =
+    let back = are.view_words ++ are.family_words in
+    let no_view = alone (codes "view") (codes "family") IsFamilyText s.family are.family_words (differ (codes "family") (codes "view") (λ e. omega (arith, e))) are.is_family in
+    let behind : (word : List ℕ) → codes "view" ≢ word → codes "family" ≢ word → Unnamed word back =
+    λ word a b. other_front word (codes "view") IsViewText s.view are.view_words are.family_words a are.is_view (alone word (codes "family") IsFamilyText s.family are.family_words b are.is_family) in
+    let no_peer = behind (codes "peer") (differ (codes "view") (codes "peer") (λ e. omega (arith, e))) (differ (codes "family") (codes "peer") (λ e. omega (arith, e))) in
+    let no_router = other_front (codes "router") (codes "peer") IsKeyText s.peer are.are_peer.peer_words back (differ (codes "peer") (codes "router") (λ e. omega (arith, e))) are.are_peer.is_peer
+    (behind (codes "router") (differ (codes "view") (codes "router") (λ e. omega (arith, e))) (differ (codes "family") (codes "router") (λ e. omega (arith, e)))) in
+    let whole : words ≡ are.are_peer.router_words ++ (are.are_peer.peer_words ++ back) = are.spelled ∙ ap (λ (l : List (List ℕ)). l ++ back) are.are_peer.spelled ∙ append_assoc are.are_peer.router_words are.are_peer.peer_words back in
+    let one = taken (codes "router") IsNumberText s.router are.are_peer.router_words (are.are_peer.peer_words ++ back) words are.are_peer.is_router no_router whole in
+    let two = taken (codes "peer") IsKeyText s.peer are.are_peer.peer_words back (are.are_peer.peer_words ++ back) are.are_peer.is_peer no_peer refl in
+    let three = taken (codes "view") IsViewText s.view are.view_words are.family_words back are.is_view no_view refl in
+    let four = taken (codes "family") IsFamilyText s.family are.family_words [] are.family_words are.is_family (unnamed_none (codes "family")) (sym (append-nil are.family_words)) in
+    (four_taken words (are.are_peer.peer_words ++ back) back are.family_words [] s one two three four t also).0
+
+-- ---- queries
+selection_one : (word : List ℕ) (words : List (List ℕ)) (s t : SelectValue) → IsSelection word s words → IsSelection word t words → s ≡ t
+selection_one word words s t p q =
+    let both : word ∷ p.selectors ≡ word ∷ q.selectors = sym p.spelled ∙ q.spelled in
+    let same : p.selectors ≡ q.selectors = cc in
+    sym (selectors_one q.selectors s t (subst (AreSelectors s) same p.are_selectors) q.are_selectors)
+
+peers_one : (words : List (List ℕ)) (r s : Option ℕ) (p q : Option KeyValue) → IsPeersQuery r p words → IsPeersQuery s q words → (s ≡ r) × (q ≡ p)
+peers_one words r s p q a b =
+    let both : codes "peers" ∷ a.selectors ≡ codes "peers" ∷ b.selectors = sym a.spelled ∙ b.spelled in
+    let same : b.selectors ≡ a.selectors = cc in
+    peers_taken r s p q a.selectors b.selectors a.are_selectors b.are_selectors same
+
+-- what is sought, and the selectors
+record SoughtSame {A : Type 0} (a b : A) (s t : SelectValue) : Type 0 where
+  value : a ≡ b
+  select : s ≡ t
+
+sought_one : {A : Type 0} (word : List ℕ) (IsText : List ℕ → A → Type 0) → ((text : List ℕ) (a b : A) → IsText text a → IsText text b → a ≡ b) → (words : List (List ℕ)) (a b : A) (s t : SelectValue)
+    → IsSought word IsText a s words → IsSought word IsText b t words → SoughtSame a b s t
+sought_one word IsText one words a b s t p q =
+    let both : word ∷ p.text ∷ p.selectors ≡ word ∷ q.text ∷ q.selectors = sym p.spelled ∙ q.spelled in
+    let text : p.text ≡ q.text = cc in
+    let same : p.selectors ≡ q.selectors = cc in
+    record {
+      value = one q.text a b (subst (λ (l : List ℕ). IsText l a) text p.is_text) q.is_text;
+      select = sym (selectors_one q.selectors s t (subst (AreSelectors s) same p.are_selectors) q.are_selectors);
+    }
+
+stats_one : (words : List (List ℕ)) (a b : KeyValue) → IsStatsQuery a words → IsStatsQuery b words → a ≡ b
+stats_one words a b p q =
+    let both : codes "stats" ∷ p.text ∷ [] ≡ codes "stats" ∷ q.text ∷ [] = sym p.spelled ∙ q.spelled in
+    let text : p.text ≡ q.text = cc in
+    key_one q.text a b (subst (λ (l : List ℕ). IsKeyText l a) text p.is_text) q.is_text
+
+changes_one : (words : List (List ℕ)) (lane from lane' from' : ℕ) (p q : PrefixValue) → IsChangesQuery lane from p words → IsChangesQuery lane' from' q words → changes lane from p ≡ changes lane' from' q
+changes_one words lane from lane' from' p q a b =
+    let both : codes "changes" ∷ a.lane_text ∷ a.from_text ∷ a.prefix_text ∷ [] ≡ codes "changes" ∷ b.lane_text ∷ b.from_text ∷ b.prefix_text ∷ [] = sym a.spelled ∙ b.spelled in
+    let x : a.lane_text ≡ b.lane_text = cc in
+    let y : a.from_text ≡ b.from_text = cc in
+    let z : a.prefix_text ≡ b.prefix_text = cc in
+    let same_lane = number_one b.lane_text lane lane' (subst (λ (l : List ℕ). IsNumberText l lane) x a.is_lane) b.is_lane in
+    let same_from = step_one b.from_text from from' (subst (λ (l : List ℕ). IsStepText l from) y a.is_from) b.is_from in
+    let same_prefix = prefix_one b.prefix_text p q (subst (λ (l : List ℕ). IsPrefixText l p) z a.is_prefix) b.is_prefix in
+    λ i. changes (same_lane i) (same_from i) (same_prefix i)
+
+query_words_one : (q r : QueryValue) (words : List (List ℕ)) → AreQueryWords q words → AreQueryWords r words → verb_of q ≡ verb_of r → q ≡ r
+query_words_one routers routers words p k e = refl
+query_words_one cut cut words p k e = refl
+query_words_one (peers a b) (peers c d) words p k e = let same = peers_one words a c b d p k in λ i. peers (sym same.0 i) (sym same.1 i)
+query_words_one (marks s) (marks t) words p k e = ap (λ (x : SelectValue). marks x) (selection_one (codes "marks") words s t p k)
+query_words_one (table s) (table t) words p k e = ap (λ (x : SelectValue). table x) (selection_one (codes "table") words s t p k)
+query_words_one (count s) (count t) words p k e = ap (λ (x : SelectValue). count x) (selection_one (codes "count") words s t p k)
+query_words_one (exact a s) (exact b t) words p k e = let same = sought_one (codes "prefix") IsPrefixText prefix_one words a b s t p k in λ i. exact (same.value i) (same.select i)
+query_words_one (longest a s) (longest b t) words p k e = let same = sought_one (codes "match") IsAddressText address_one words a b s t p k in λ i. longest (same.value i) (same.select i)
+query_words_one (within a s) (within b t) words p k e = let same = sought_one (codes "within") IsPrefixText prefix_one words a b s t p k in λ i. within (same.value i) (same.select i)
+query_words_one (origin a s) (origin b t) words p k e = let same = sought_one (codes "origin") IsNumberText number_one words a b s t p k in λ i. origin (same.value i) (same.select i)
+query_words_one (stats a) (stats b) words p k e = ap (λ (x : KeyValue). stats x) (stats_one words a b p k)
+query_words_one (changes a b p') (changes c d q') words p k e = changes_one words a b c d p' q' p k
+query_words_one quit quit words p k e = refl
+query_words_one q r words p k e = absurd cc
+
+-- a line is one query at most
+query_one : (line : List ℕ) (q r : QueryValue) → IsQuery line q → IsQuery line r → q ≡ r
+query_one line q r p k =
+    let words = words_of line in
+    let a = query_asks line q p in
+    let b = query_asks line r k in
+    let first = begins q words a in
+    let verb : verb_of q ≡ verb_of r = same_verb (verb_of q) r first.0 (subst (AreQueryWords r) first.1 b) in
+    query_words_one q r words a b verb
+
+-- and a value is one query
+query_at : QueryValue → Query
+query_at routers = Routers
+query_at cut = Cut
+query_at (peers router peer) = Peers router peer
+query_at (marks select) = Marks select
+query_at (table select) = Table select
+query_at (count select) = Count select
+query_at (exact prefix select) = Exact prefix select
+query_at (longest address select) = Longest address select
+query_at (within prefix select) = Within prefix select
+query_at (origin number select) = Origin number select
+query_at (stats key) = Stats key
+query_at (changes lane from prefix) = Changes lane from prefix
+query_at quit = Quit
+
+query_back : (q : Query) → query_at (query_value q) ≡ q
+unfolding query_at
+query_back Routers = refl
+query_back Cut = refl
+query_back (Peers router peer) = refl
+query_back (Marks select) = refl
+query_back (Table select) = refl
+query_back (Count select) = refl
+query_back (Exact prefix select) = refl
+query_back (Longest address select) = refl
+query_back (Within prefix select) = refl
+query_back (Origin number select) = refl
+query_back (Stats key) = refl
+query_back (Changes lane from prefix) = refl
+query_back Quit = refl
+
+same_query : (q r : Query) → query_value q ≡ query_value r → q ≡ r
+same_query q r same = sym (query_back q) ∙ ap query_at same ∙ query_back r
+
+-- ---- the settings of `serve`
+gives_one : {A : Type 0} (name : List ℕ) (Is : A → List ℕ → Type 0) → ((value : List ℕ) (a b : A) → Is a value → Is b value → a ≡ b) → (ss : List Setting) (a b : A) → Gives name (Is a) ss → Gives name (Is b) ss → a ≡ b
+gives_one name Is one ss a b (v, has, is) (w, has', is') =
+    let both : v ∷ [] ≡ w ∷ [] = sym has ∙ has' in
+    let same : v ≡ w = cc in
+    one w a b (subst (Is a) same is) is'
+
+may_one : {A : Type 0} (name : List ℕ) (Is : A → List ℕ → Type 0) (Else : A → Type 0) → ((value : List ℕ) (a b : A) → Is a value → Is b value → a ≡ b) → ((a b : A) → Else a → Else b → a ≡ b) → (ss : List Setting) (a b : A)
+    → MayGive name (Is a) (Else a) ss → MayGive name (Is b) (Else b) ss → a ≡ b
+may_one name Is Else one other ss a b (inl p) (inl q) = gives_one name Is one ss a b p q
+may_one name Is Else one other ss a b (inl (v, has, is)) (inr (none, q)) = let both : v ∷ [] ≡ [] = sym has ∙ none in absurd cc
+may_one name Is Else one other ss a b (inr (none, p)) (inl (v, has, is)) = let both : v ∷ [] ≡ [] = sym has ∙ none in absurd cc
+may_one name Is Else one other ss a b (inr (none, p)) (inr (none', q)) = other a b p q
+
+same_else : {A : Type 0} (value a b : A) → a ≡ value → b ≡ value → a ≡ b
+same_else value a b p q = p ∙ sym q
+
+serve_one : (given : List (List ℕ)) (a b : ServeWords) (l m : Bool) → IsServe a l given → IsServe b m given → (a ≡ b) × (l ≡ m)
+serve_one given a b l m p q =
+    let ss = p.settings in
+    let back = same_settings q.settings ss given q.are_settings p.are_settings in
+    let number : (value : List ℕ) (x y : ℕ) → IsNumberText value x → IsNumberText value y → x ≡ y = number_one in
+    let feeds = gives_one (codes "--feeds") (λ (n : ℕ) value. IsNumberText value n) number ss a.at.feeds b.at.feeds p.feeds (subst (Gives (codes "--feeds") (λ value. IsNumberText value b.at.feeds)) back q.feeds) in
+    let askers = gives_one (codes "--askers") (λ (n : ℕ) value. IsNumberText value n) number ss a.at.askers b.at.askers p.askers (subst (Gives (codes "--askers") (λ value. IsNumberText value b.at.askers)) back q.askers) in
+    let feed_port = gives_one (codes "--feed-port") (λ (n : ℕ) value. IsNumberText value n) number ss a.at.feed_port b.at.feed_port p.feed_port (subst (Gives (codes "--feed-port") (λ value. IsNumberText value b.at.feed_port)) back q.feed_port) in
+    let ask_port = gives_one (codes "--ask-port") (λ (n : ℕ) value. IsNumberText value n) number ss a.at.ask_port b.at.ask_port p.ask_port (subst (Gives (codes "--ask-port") (λ value. IsNumberText value b.at.ask_port)) back q.ask_port) in
+    let rounds = gives_one (codes "--rounds") (λ (n : ℕ) value. IsRounds value n) (λ value x y i j. one_rounds value (Some y) j x i) ss a.rounds b.rounds p.rounds (subst (Gives (codes "--rounds") (λ value. IsRounds value b.rounds)) back q.rounds) in
+    let address = may_one (codes "--address") (λ (x : AddressValue) value. IsAddressText value x) (λ (x : AddressValue). x ≡ loopback) address_one (same_else loopback) ss a.at.address b.at.address p.address
+    (subst (MayGive (codes "--address") (λ value. IsAddressText value b.at.address) (b.at.address ≡ loopback)) back q.address) in
+    let ports = may_one (codes "--ports") (λ (x : Bool) value. IsPorts value x) (λ (x : Bool). x ≡ false) (λ value x y i j. one_ports value (Some y) j x i) (same_else false) ss a.at.shared b.at.shared p.ports
+    (subst (MayGive (codes "--ports") (λ value. IsPorts value b.at.shared) (b.at.shared ≡ false)) back q.ports) in
+    let idle = may_one (codes "--idle") (λ (x : Option ℕ) value. IsSeconds value x) (λ (x : Option ℕ). x ≡ None) (λ value x y i j. one_time value (Some y) j x i) (same_else None) ss a.at.idle b.at.idle p.idle
+    (subst (MayGive (codes "--idle") (λ value. IsSeconds value b.at.idle) (b.at.idle ≡ None)) back q.idle) in
+    let ask_idle = may_one (codes "--ask-idle") (λ (x : Option ℕ) value. IsSeconds value x) (λ (x : Option ℕ). x ≡ None) (λ value x y i j. one_time value (Some y) j x i) (same_else None) ss a.at.ask_idle b.at.ask_idle p.ask_idle
+    (subst (MayGive (codes "--ask-idle") (λ value. IsSeconds value b.at.ask_idle) (b.at.ask_idle ≡ None)) back q.ask_idle) in
+    let lenient = may_one flag (λ (x : Bool) value. x ≡ true) (λ (x : Bool). x ≡ false) (λ value x y i j. i ∙ sym j) (same_else false) ss l m p.flagged (subst (MayGive flag (λ value. m ≡ true) (m ≡ false)) back q.flagged) in (
+      λ i. record {
+        at = record { address = address i; feeds = feeds i; askers = askers i; feed_port = feed_port i; ask_port = ask_port i; shared = ports i; idle = idle i; ask_idle = ask_idle i };
+        rounds = rounds i;
+      },
+      lenient,
+    )
+
+-- ---- the words of the other commands
+drill_one : (given : List (List ℕ)) (a b : DrillWords) → IsDrill a given → IsDrill b given → a ≡ b
+drill_one given a b p q =
+    let both : p.seed ∷ p.lanes ∷ p.messages ∷ [] ≡ q.seed ∷ q.lanes ∷ q.messages ∷ [] = sym p.spelled ∙ q.spelled in
+    let x : p.seed ≡ q.seed = cc in
+    let y : p.lanes ≡ q.lanes = cc in
+    let z : p.messages ≡ q.messages = cc in
+    let seed = number_one q.seed a.seed b.seed (subst (λ (l : List ℕ). IsNumberText l a.seed) x p.is_seed) q.is_seed in
+    let lanes = number_one q.lanes a.lanes b.lanes (subst (λ (l : List ℕ). IsNumberText l a.lanes) y p.is_lanes) q.is_lanes in
+    let messages = number_one q.messages a.messages b.messages (subst (λ (l : List ℕ). IsNumberText l a.messages) z p.is_messages) q.is_messages in
+    λ i. record { seed = seed i; lanes = lanes i; messages = messages i }
+
+replay_one : (given : List (List ℕ)) (a b : QueryValue) (l m : Bool) → IsReplay a l given → IsReplay b m given → (a ≡ b) × (l ≡ m)
+replay_one given a b l m (asked, plain, asks) (more, also, asks') =
+    let same = same_plain l m given asked more plain also in
+    let here = subst (λ (words : List (List ℕ)). IsQuery (join_with_byte space words) a) same.0 asks.is_query in
+    (query_one (join_with_byte space more) a b here asks'.is_query, same.1)
+
+rov_one : (given : List (List ℕ)) (a b : PrefixValue) (l m : Bool) → IsRov a l given → IsRov b m given → (a ≡ b) × (l ≡ m)
+rov_one given a b l m (file, (asked, plain, names)) (file', (more, also, names')) =
+    let same = same_plain l m given asked more plain also in
+    let both : file ∷ names.text ∷ [] ≡ file' ∷ names'.text ∷ [] = sym names.spelled ∙ same.0 ∙ names'.spelled in
+    let text : names.text ≡ names'.text = cc both in
+    (prefix_one names'.text a b (subst (λ (t : List ℕ). IsPrefixText t a) text names.is_prefix) names'.is_prefix, same.1)
+
+archive_one : (given : List (List ℕ)) (l m : Bool) → IsArchive l given → IsArchive m given → l ≡ m
+archive_one given l m (file, plain) (file', also) = (same_plain l m given (file ∷ []) (file' ∷ []) plain also).1
+
+recall_one : (given : List (List ℕ)) (a b : QueryValue) (l m : Bool) → IsRecall a l given → IsRecall b m given → (a ≡ b) × (l ≡ m)
+recall_one given a b l m (file, (asked, plain, asks)) (file', (more, also, asks')) =
+    let same = same_plain l m given asked more plain also in
+    let both : file ∷ asks.asked ≡ file' ∷ asks'.asked = sym asks.spelled ∙ same.0 ∙ asks'.spelled in
+    let words : asks.asked ≡ asks'.asked = cc both in
+    let here = subst (λ (ws : List (List ℕ)). IsQuery (join_with_byte space ws) a) words asks.is_asking.is_query in
+    (query_one (join_with_byte space asks'.asked) a b here asks'.is_asking.is_query, same.1)
+
+-- ---- the first word
+abbrev number_of : Command → ℕ
+number_of (Replay query) = 0
+number_of Check = 1
+number_of (Serve serve) = 2
+number_of (Drill drill) = 3
+number_of Relay = 4
+number_of (Rov prefix) = 5
+number_of Archive = 6
+number_of (Recall query) = 7
+number_of Help = 8
+number_of Version = 9
+
+-- the number of the command that a first word names
+number_in : List ℕ → ℕ
+number_in first =
+    cond (bytes_eq first (codes "replay")) 0
+    (cond (bytes_eq first (codes "check")) 1
+    (cond (bytes_eq first (codes "serve")) 2
+    (cond (bytes_eq first (codes "drill")) 3
+    (cond (bytes_eq first (codes "relay")) 4
+    (cond (bytes_eq first (codes "rov")) 5
+    (cond (bytes_eq first (codes "archive")) 6
+    (cond (bytes_eq first (codes "recall")) 7
+    (cond (bytes_eq first (codes "--help")) 8
+    (cond (bytes_eq first (codes "-h")) 8 9)))))))))
+
+named : (c : Command) (lenient : Bool) (first : List ℕ) (given : List (List ℕ)) → IsCommand c lenient first given → number_in first ≡ number_of c
+unfolding number_in
+named (Replay query) lenient first given is = ap number_in is.0
+named Check lenient first given is = ap number_in is.0
+named (Serve serve) lenient first given is = ap number_in is.0
+named (Drill drill) lenient first given is = ap number_in is.0
+named Relay lenient first given is = ap number_in is.0
+named (Rov prefix) lenient first given is = ap number_in is.0
+named Archive lenient first given is = ap number_in is.0
+named (Recall query) lenient first given is = ap number_in is.0
+named Help lenient first given (inl first_is, none, strict) = ap number_in first_is
+named Help lenient first given (inr first_is, none, strict) = ap number_in first_is
+named Version lenient first given (inl first_is, none, strict) = ap number_in first_is
+named Version lenient first given (inr first_is, none, strict) = ap number_in first_is
+
+-- ---- the call
+command_one : (a b : Command) (l m : Bool) (first : List ℕ) (given : List (List ℕ)) → number_of a ≡ number_of b → IsCommand a l first given → IsCommand b m first given → (a ≡ b) × (l ≡ m)
+command_one (Replay q) (Replay r) l m first given e p k = let same = replay_one given (query_value q) (query_value r) l m p.1 k.1 in (ap (λ (x : Query). Replay x) (same_query q r same.0), same.1)
+command_one Check Check l m first given e p k = (refl, (same_plain l m given [] [] p.1 k.1).1)
+command_one (Serve s) (Serve t) l m first given e p k = let same = serve_one given s t l m p.1 k.1 in (ap (λ (x : ServeWords). Serve x) same.0, same.1)
+command_one (Drill s) (Drill t) l m first given e p k = (ap (λ (x : DrillWords). Drill x) (drill_one given s t p.1 k.1), p.2 ∙ sym k.2)
+command_one Relay Relay l m first given e p k = (refl, (same_plain l m given [] [] p.1 k.1).1)
+command_one (Rov s) (Rov t) l m first given e p k = let same = rov_one given s t l m p.1 k.1 in (ap (λ (x : PrefixValue). Rov x) same.0, same.1)
+command_one Archive Archive l m first given e p k = (refl, archive_one given l m p.1 k.1)
+command_one (Recall q) (Recall r) l m first given e p k = let same = recall_one given (query_value q) (query_value r) l m p.1 k.1 in (ap (λ (x : Query). Recall x) (same_query q r same.0), same.1)
+command_one Help Help l m first given e p k = (refl, p.2 ∙ sym k.2)
+command_one Version Version l m first given e p k = (refl, p.2 ∙ sym k.2)
+command_one a b l m first given e p k = absurd (omega (arith, e))
+
+-- Words that are a call are no other call: the command, what it is asked with and the reading are one.
+one_call : (a b : Call) (words : List (List ℕ)) → IsCall a words → IsCall b words → a ≡ b
+one_call a b words p q =
+    let both : p.first ∷ p.given ≡ q.first ∷ q.given = sym p.spelled ∙ q.spelled in
+    let first : p.first ≡ q.first = cc in
+    let given : p.given ≡ q.given = cc in
+    let here = subst (λ (w : List ℕ). IsCommand a.command a.lenient w q.given) first (subst (λ (ws : List (List ℕ)). IsCommand a.command a.lenient p.first ws) given p.is_command) in
+    let number = sym (named a.command a.lenient q.first q.given here) ∙ named b.command b.lenient q.first q.given q.is_command in
+    let same = command_one a.command b.command a.lenient b.lenient q.first q.given number here q.is_command in
+    λ i. record { command = same.0 i; lenient = same.1 i }
