@@ -18,3 +18,4 @@ pub mod Archiving
 pub mod InputKept
 mod Refuted
 mod OneCall
+mod Complete
