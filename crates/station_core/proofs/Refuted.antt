@@ -1,5 +1,5 @@
 -- What mistaken bodies would come to, which the clauses refuse.
-use Rattle.std.proofs.Common.{◌≡◌, ℕ, ◌+◌, ◌≤◌, max, min, List, [], ◌∷◌, ◌++◌, length, get_or, Some, Option, inl, inr, refl, sym, ap, ◌∙◌, arith, append-nil, length-append, unwrap_or}
+use Rattle.std.proofs.Common.{◌≡◌, ℕ, ◌+◌, max, min, List, [], ◌∷◌, ◌++◌, length, get_or, Option, inl, inr, refl, ap, ◌∙◌, arith, append-nil, length-append, unwrap_or}
 use Rattle.bmp_specs.specs.declared.causes.Cause.{Cause}
 use Rattle.bmp_specs.specs.declared.causes.Cause.TheVariants.{Ended, Terminated, CutShort, Broken}
 use Rattle.bmp_specs.specs.Life.{gave_none, Fits}
