@@ -1,8 +1,7 @@
 -- The last steps of a lane, when more come.
-use Rattle.std.proofs.Common.{◌≡◌, ℕ, ◌+◌, ◌<◌, ◌≤◌, ◌^◌, ◌-◌, min, List, [], ◌∷◌, ◌++◌, length, map, take, drop, get_or, refl, sym, ap, ◌∙◌, append_assoc, arith, length-append}
+use Rattle.std.proofs.Common.{◌≡◌, ℕ, ◌+◌, ◌<◌, ◌^◌, ◌-◌, min, List, [], ◌∷◌, ◌++◌, length, map, take, get_or, refl, sym, ap, ◌∙◌, append_assoc, arith, length-append}
 use Rattle.std.specs.Prelude.{filter_map}
-use Rattle.std.proofs.lemmas.List.{map-append, length-map, take_more, flat_map_more}
-use Rattle.std.proofs.Math.Seq.{drop-append-add}
+use Rattle.std.proofs.lemmas.List.{map-append, take_more, flat_map_more}
 use Rattle.std.proofs.lemmas.List.Elements.{filter_map-append}
 use Rattle.bmp_specs.specs.declared.peers.View.{View}
 use Rattle.bmp_specs.specs.Steps.{step_of, steps_in, steps_of}
@@ -35,40 +34,6 @@ more_steps f all ns i n within is =
     ∙ append_assoc all (map f (take i ns)) (f (get_or ns i n) ∷ [])
     ∙ ap (λ (l : List StepValue). all ++ l) (sym (map-append f (take i ns) (get_or ns i n ∷ [])))
     ∙ ap (λ (l : List NlriValue). all ++ map f l) (sym (take_more ns i n within))
-
--- ---- steps that fall out again tell only their number
-last_of : (front zs : List StepValue) → 1024 ≤ length zs → last_items (front ++ zs) ≡ last_items zs
-last_of front zs long =
-    let whole : length (front ++ zs) ≡ length front + length zs = length-append front zs in
-    let n : length (front ++ zs) - 1024 ≡ length front + (length zs - 1024) = omega arith in
-    ap (λ (k : ℕ). drop k (front ++ zs)) n ∙ drop-append-add front zs (length zs - 1024)
-
-fallen : (all xs ys zs : List StepValue) → length xs ≡ length ys → (0 < length xs → 1024 ≤ length zs) → recent ((all ++ xs) ++ zs) ≡ recent ((all ++ ys) ++ zs)
-fallen all [] [] zs same long = refl
-fallen all [] (y ∷ ys) zs same long = absurd (omega arith)
-fallen all (x ∷ xs) [] zs same long = absurd (omega arith)
-fallen all (x ∷ xs) (y ∷ ys) zs same long =
-    let enough : 1024 ≤ length zs = long (omega arith) in
-    let a : length ((all ++ x ∷ xs) ++ zs) ≡ length (all ++ x ∷ xs) + length zs = length-append (all ++ x ∷ xs) zs in
-    let b : length (all ++ x ∷ xs) ≡ length all + length (x ∷ xs) = length-append all (x ∷ xs) in
-    let d : length ((all ++ y ∷ ys) ++ zs) ≡ length (all ++ y ∷ ys) + length zs = length-append (all ++ y ∷ ys) zs in
-    let e : length (all ++ y ∷ ys) ≡ length all + length (y ∷ ys) = length-append all (y ∷ ys) in
-    let n : length ((all ++ x ∷ xs) ++ zs) ≡ length ((all ++ y ∷ ys) ++ zs) = omega arith in
-    let total = ap (λ (k : ℕ). min k (2 ^ 64 - 1)) n in
-    let items = last_of (all ++ x ∷ xs) zs enough ∙ sym (last_of (all ++ y ∷ ys) zs enough) in
-    λ i. record { total = total i; items = items i }
-
--- the steps on the last prefixes behind any others, of which there are as many as there are prefixes before them
-pub steps_late : (f g : NlriValue → StepValue) (all : List StepValue) (ns early last : List NlriValue) → ns ≡ early ++ last → (0 < length early → 1024 ≤ length last)
-    → recent ((all ++ map g early) ++ map f last) ≡ recent (all ++ map f ns)
-steps_late f g all ns early last is long =
-    let m : length (map g early) ≡ length early = length-map early g in
-    let k : length (map f early) ≡ length early = length-map early f in
-    let l : length (map f last) ≡ length last = length-map last f in
-    fallen all (map g early) (map f early) (map f last) (m ∙ sym k) (λ some. let h : 1024 ≤ length last = long (omega arith) in omega arith)
-    ∙ ap (λ (s : List StepValue). recent s) (append_assoc all (map f early) (map f last))
-    ∙ ap (λ (s : List StepValue). recent (all ++ s)) (sym (map-append f early last))
-    ∙ ap (λ (s : List NlriValue). recent (all ++ map f s)) (sym is)
 
 pub steps_announced : (key : KeyValue) (view : View) (route : AttrsValue) (ns : List NlriValue) → map (λ n. announce_step key view n route) ns ≡ filter_map step_of (map (λ n. announce key view n route) ns)
 steps_announced key view route [] = refl

@@ -15,9 +15,6 @@ use rib_model::{Effect, Entry, Route, Step};
 use std::sync::Arc;
 use wire_io::NoMemory;
 
-// How many steps are kept.
-const KEPT: usize = 1024;
-
 // Keeps a step for each of these routes, which are announced with the same attributes.
 fn keep_each(
     steps: &mut Recent<Step>,
@@ -55,23 +52,6 @@ fn keep_withdrawn(steps: &mut Recent<Step>, key: &PeerKey, view: View, nlris: &[
     }
 }
 
-// Keeps a step for each of these routes, which are announced. Those before the last 1,024 fall out again at once: they
-// are only counted, and take no counter of the attributes.
-fn keep_announced(
-    steps: &mut Recent<Step>,
-    key: &PeerKey,
-    view: View,
-    nlris: &[Nlri],
-    route: &Route,
-) -> Result<(), NoMemory>
-    ensures { OnOk result ((all : List StepValue) → steps_told steps.old ≡ recent all
-        → steps_told steps.new ≡ recent (all ++ map (λ n. announce_step key.now view n (arc_value route.now)) nlris.now)) }
-{
-    let (early, last) = nlris.split_at(nlris.len().saturating_sub(KEPT));
-    keep_withdrawn(steps, key, view, early);
-    keep_each(steps, key, view, last, route)
-}
-
 // Keeps the steps of an effect, or of those on many routes.
 fn keep_effect(steps: &mut Recent<Step>, effect: &Effect) -> Result<(), NoMemory>
     ensures { OnOk result ((all : List StepValue) → steps_told steps.old ≡ recent all
@@ -91,7 +71,7 @@ fn keep_effect(steps: &mut Recent<Step>, effect: &Effect) -> Result<(), NoMemory
             view,
             nlris,
             route,
-        } => keep_announced(steps, key, *view, nlris.as_slice(), route),
+        } => keep_each(steps, key, *view, nlris.as_slice(), route),
         Effect::Withdraw { key, view, nlris } => {
             keep_withdrawn(steps, key, *view, nlris.as_slice());
             Ok(())

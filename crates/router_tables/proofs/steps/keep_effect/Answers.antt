@@ -12,8 +12,8 @@ pub returns-in-Down : goal.returns-in-Down
 returns-in-Down c = rw c.in-Down.is (λ all was. kept c.args.steps.now c.push-in-Down.new.self _ c.push-in-Down.ensures.items c.push-in-Down.ensures.total all was)
 
 pub returns-in-Announce : goal.returns-in-Announce
-returns-in-Announce c = rw (c.in-Announce.is, ← c.as_slice.ensures) (on_ok_weaker c.keep_announced.result
-    (λ keeps all was. keeps all was ∙ ap (λ (l : List StepValue). recent (all ++ l)) (steps_announced _ _ _ _)) c.keep_announced.ensures)
+returns-in-Announce c = rw (c.in-Announce.is, ← c.as_slice.ensures) (on_ok_weaker c.keep_each.result
+    (λ keeps all was. keeps all was ∙ ap (λ (l : List StepValue). recent (all ++ l)) (steps_announced _ _ _ _)) c.keep_each.ensures)
 
 pub returns-in-Withdraw : goal.returns-in-Withdraw
 returns-in-Withdraw c = rw (c.in-Withdraw.is, ← c.as_slice-in-Withdraw.ensures)
