@@ -21,7 +21,7 @@ use Rattle.query_lang.proofs.OneNumber.{number_one, step_one}
 use Rattle.query_lang.proofs.SelectorLaws.{four_taken, other_front, two_taken, unnamed_none}
 use Rattle.query_lang.proofs.VerbLaws.{begins, same_verb}
 use Rattle.station_words.specs.DrillWords.{IsDrill}
-use Rattle.station_words.specs.ServeWords.{Gives, IsPorts, IsRounds, IsSeconds, IsServe, MayGive, Setting, flag, loopback}
+use Rattle.station_words.specs.ServeWords.{ArePorts, Gives, IsPorts, IsRounds, IsSeconds, IsServe, MayGive, Setting, flag, forever, loopback, usually_shared}
 use Rattle.station_words.specs.Words.{IsArchive, IsCall, IsCommand, IsRecall, IsReplay, IsRov}
 use Rattle.station_words.specs.declared.drill_words.DrillWords.{DrillWords}
 use Rattle.station_words.specs.declared.serve_words.ServeWords.{ServeWords}
@@ -198,22 +198,30 @@ serve_one given a b l m p q =
     let ss = p.settings in
     let back = same_settings q.settings ss given q.are_settings p.are_settings in
     let number : (value : List ℕ) (x y : ℕ) → IsNumberText value x → IsNumberText value y → x ≡ y = number_one in
-    let feeds = gives_one (codes "--feeds") (λ (n : ℕ) value. IsNumberText value n) number ss a.at.feeds b.at.feeds p.feeds (subst (Gives (codes "--feeds") (λ value. IsNumberText value b.at.feeds)) back q.feeds) in
-    let askers = gives_one (codes "--askers") (λ (n : ℕ) value. IsNumberText value n) number ss a.at.askers b.at.askers p.askers (subst (Gives (codes "--askers") (λ value. IsNumberText value b.at.askers)) back q.askers) in
-    let feed_port = gives_one (codes "--feed-port") (λ (n : ℕ) value. IsNumberText value n) number ss a.at.feed_port b.at.feed_port p.feed_port (subst (Gives (codes "--feed-port") (λ value. IsNumberText value b.at.feed_port)) back q.feed_port) in
-    let ask_port = gives_one (codes "--ask-port") (λ (n : ℕ) value. IsNumberText value n) number ss a.at.ask_port b.at.ask_port p.ask_port (subst (Gives (codes "--ask-port") (λ value. IsNumberText value b.at.ask_port)) back q.ask_port) in
-    let rounds = gives_one (codes "--rounds") (λ (n : ℕ) value. IsRounds value n) (λ value x y i j. one_rounds value (Some y) j x i) ss a.rounds b.rounds p.rounds (subst (Gives (codes "--rounds") (λ value. IsRounds value b.rounds)) back q.rounds) in
+    let feeds = may_one (codes "--feeds") (λ (n : ℕ) value. IsNumberText value n) (λ (n : ℕ). n ≡ 64) number (same_else 64) ss a.at.feeds b.at.feeds p.feeds
+    (subst (MayGive (codes "--feeds") (λ value. IsNumberText value b.at.feeds) (b.at.feeds ≡ 64)) back q.feeds) in
+    let askers = may_one (codes "--askers") (λ (n : ℕ) value. IsNumberText value n) (λ (n : ℕ). n ≡ 16) number (same_else 16) ss a.at.askers b.at.askers p.askers
+    (subst (MayGive (codes "--askers") (λ value. IsNumberText value b.at.askers) (b.at.askers ≡ 16)) back q.askers) in
+    let feed_port = may_one (codes "--feed-port") (λ (n : ℕ) value. IsNumberText value n) (λ (n : ℕ). n ≡ 11019) number (same_else 11019) ss a.at.feed_port b.at.feed_port p.feed_port
+    (subst (MayGive (codes "--feed-port") (λ value. IsNumberText value b.at.feed_port) (b.at.feed_port ≡ 11019)) back q.feed_port) in
+    let ask_port = may_one (codes "--ask-port") (λ (n : ℕ) value. IsNumberText value n) (λ (n : ℕ). n ≡ 11120) number (same_else 11120) ss a.at.ask_port b.at.ask_port p.ask_port
+    (subst (MayGive (codes "--ask-port") (λ value. IsNumberText value b.at.ask_port) (b.at.ask_port ≡ 11120)) back q.ask_port) in
+    let rounds = may_one (codes "--rounds") (λ (n : ℕ) value. IsRounds value n) (λ (n : ℕ). n ≡ forever) (λ value x y i j. one_rounds value (Some y) j x i) (same_else forever) ss a.rounds b.rounds p.rounds
+    (subst (MayGive (codes "--rounds") (λ value. IsRounds value b.rounds) (b.rounds ≡ forever)) back q.rounds) in
     let address = may_one (codes "--address") (λ (x : AddressValue) value. IsAddressText value x) (λ (x : AddressValue). x ≡ loopback) address_one (same_else loopback) ss a.at.address b.at.address p.address
     (subst (MayGive (codes "--address") (λ value. IsAddressText value b.at.address) (b.at.address ≡ loopback)) back q.address) in
-    let ports = may_one (codes "--ports") (λ (x : Bool) value. IsPorts value x) (λ (x : Bool). x ≡ false) (λ value x y i j. one_ports value (Some y) j x i) (same_else false) ss a.at.shared b.at.shared p.ports
-    (subst (MayGive (codes "--ports") (λ value. IsPorts value b.at.shared) (b.at.shared ≡ false)) back q.ports) in
+    let ask_address = may_one (codes "--ask-address") (λ (x : AddressValue) value. IsAddressText value x) (λ (x : AddressValue). x ≡ b.at.address) address_one (same_else b.at.address) ss a.at.ask_address b.at.ask_address
+    (subst (λ (x : AddressValue). MayGive (codes "--ask-address") (λ value. IsAddressText value a.at.ask_address) (a.at.ask_address ≡ x) ss) address p.ask_address)
+    (subst (MayGive (codes "--ask-address") (λ value. IsAddressText value b.at.ask_address) (b.at.ask_address ≡ b.at.address)) back q.ask_address) in
+    let ports = may_one (codes "--ports") (λ (x : Bool) value. IsPorts value x) (λ (x : Bool). x ≡ usually_shared ss) (λ value x y i j. one_ports value (Some y) j x i) (same_else (usually_shared ss)) ss a.at.shared b.at.shared p.ports
+    (subst (ArePorts b.at.shared) back q.ports) in
     let idle = may_one (codes "--idle") (λ (x : Option ℕ) value. IsSeconds value x) (λ (x : Option ℕ). x ≡ None) (λ value x y i j. one_time value (Some y) j x i) (same_else None) ss a.at.idle b.at.idle p.idle
     (subst (MayGive (codes "--idle") (λ value. IsSeconds value b.at.idle) (b.at.idle ≡ None)) back q.idle) in
     let ask_idle = may_one (codes "--ask-idle") (λ (x : Option ℕ) value. IsSeconds value x) (λ (x : Option ℕ). x ≡ None) (λ value x y i j. one_time value (Some y) j x i) (same_else None) ss a.at.ask_idle b.at.ask_idle p.ask_idle
     (subst (MayGive (codes "--ask-idle") (λ value. IsSeconds value b.at.ask_idle) (b.at.ask_idle ≡ None)) back q.ask_idle) in
     let lenient = may_one flag (λ (x : Bool) value. x ≡ true) (λ (x : Bool). x ≡ false) (λ value x y i j. i ∙ sym j) (same_else false) ss l m p.flagged (subst (MayGive flag (λ value. m ≡ true) (m ≡ false)) back q.flagged) in (
       λ i. record {
-        at = record { address = address i; feeds = feeds i; askers = askers i; feed_port = feed_port i; ask_port = ask_port i; shared = ports i; idle = idle i; ask_idle = ask_idle i };
+        at = record { address = address i; ask_address = ask_address i; feeds = feeds i; askers = askers i; feed_port = feed_port i; ask_port = ask_port i; shared = ports i; idle = idle i; ask_idle = ask_idle i };
         rounds = rounds i;
       },
       lenient,
