@@ -1,0 +1,12 @@
+pub mod Items
+pub mod Traits
+pub mod TraitText
+pub mod Asking
+pub mod Offer
+pub mod FullLine
+pub mod AskReply
+pub mod StepRows
+pub mod Mirror
+pub mod Wrong
+pub mod MirrorReply
+pub mod Lives

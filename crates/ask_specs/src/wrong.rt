@@ -1,0 +1,44 @@
+//! Wrong cases, at values: what no line asks, and what would be lost if less were told or kept. The functions do nothing.
+ghost use Rattle.std.specs.Prelude.{codes};
+ghost use Rattle.ask_specs.specs.Offer.{AsksMore};
+ghost use Rattle.ask_specs.specs.Wrong.{AsksNothing, NamesNone, FlagsTell, DivisionTells, DownTells, UpTells, PremisesCanBeMet};
+
+/// Words in another order are no query: `steps` stands before `full`, and `other` behind the other selectors.
+pub fn another_order_asks_nothing()
+    ensures { AsksNothing (codes "full steps table") × AsksNothing (codes "table other 35 through 64500") }
+{}
+
+/// Full lines, and selectors of path attributes, are asked by lines that nothing is offered to.
+pub fn some_lines_ask_more()
+    ensures { AsksMore (codes "full table") × AsksMore (codes "table other 35") }
+{}
+
+/// A community of an AS of four octets has no number of more than two.
+pub fn a_number_too_large_names_none()
+    ensures { NamesNone (codes "rt:65536:65536") }
+{}
+
+/// Two routes may differ in their attributes' flags alone, and the full line tells which is which.
+pub fn flags_tell()
+    ensures { FlagsTell }
+{}
+
+/// Two paths may have one text, and the full line tells which is which.
+pub fn division_tells()
+    ensures { DivisionTells }
+{}
+
+/// A copy that takes no heed of a peer that goes down isn't exact.
+pub fn down_tells()
+    ensures { DownTells }
+{}
+
+/// Where a peer that isn't up announced, the steps would leave a row that the lane hasn't.
+pub fn up_tells()
+    ensures { UpTells }
+{}
+
+/// The premises of the laws can be met: a row is as the readings give rows, and a lane announces of peers that are up.
+pub fn premises_can_be_met()
+    ensures { PremisesCanBeMet }
+{}
