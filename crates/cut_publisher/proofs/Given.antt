@@ -6,7 +6,7 @@ use native.Mathlib.Decide.{ℕ_discrete}
 use Rattle.cut_publisher.specs.declared.history.Event.{Event}
 use Rattle.cut_publisher.specs.declared.history.Event.TheVariants.{Of, Finish}
 use Rattle.cut_publisher.specs.History.{part, revision, IsWithin}
-use Rattle.cut_publisher.specs.Cuts.{total, Stands, IsCutOf}
+use Rattle.cut_publisher.specs.Cuts.{most_passes, total, Stands, IsCutOf}
 
 module _ {E : Type 0} where
   part_same : (k : ℕ) (e : E) (h : List (Event E)) → part k (Of k e ∷ h) ≡ e ∷ part k h
@@ -44,7 +44,7 @@ module _ {S E : Type 0} where
       omega (arith, rest, sums, counts k y within.0, ap length (part_same k e h))
 
 module _ {S E : Type 0} (stands : S → List E → Type 0) where
-  pub stands_given : (given c : List (S × ℕ)) → c ≡ given → length given ≤ 64 → All (λ (x : S × ℕ). x.1 ≤ 2 ^ 57) given → IsCutOf stands given c
+  pub stands_given : (given c : List (S × ℕ)) → c ≡ given → length given ≤ most_passes → All (λ (x : S × ℕ). x.1 ≤ 2 ^ 57) given → IsCutOf stands given c
   stands_given given c is few room h within lanes =
       subst (λ (z : List (S × ℕ)). Stands stands z h) (sym is) (record {
         lanes = lanes;

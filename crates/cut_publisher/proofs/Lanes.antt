@@ -1,7 +1,7 @@
 -- A cut with one lane further stands for the history with its entries.
 use Rattle.std.proofs.Common.{◌≡◌, ◌≢◌, ℕ, ◌+◌, ◌*◌, ◌^◌, ◌<◌, ◌≤◌, eqb, cond, Bool, true, false, List, [], ◌∷◌, ◌++◌, length, get_or, set, refl, ap, sym, ◌∙◌, subst, arith, length-append, length-set, eq-eqb, ne_eqb, get_or-set_other, get_or-set_same}
 use Rattle.std.proofs.lemmas.List.{append-nil}
-use Rattle.std.proofs.lemmas.List.Sums.{sum_by-set, sum_by-le}
+use Rattle.std.proofs.lemmas.List.Sums.{sum_by-set}
 use Rattle.std.specs.Prelude.{All}
 use native.Mathlib.Decide.{ℕ_discrete}
 use Rattle.cut_publisher.specs.declared.history.Event.{Event}
@@ -45,12 +45,6 @@ module _ {E : Type 0} where
   begins_whole xs ys p e = prefix_whole xs ys (p.rest, p.is) (omega (arith, e))
 
 module _ {S E : Type 0} (stands : S → List E → Type 0) where
-  -- the revision is small
-  pub stands_small : (c : List (S × ℕ)) (h : List (Event E)) → Stands stands c h → total c ≤ 64 * 2 ^ 57
-  stands_small c h s =
-      let le = sum_by-le (λ (x : S × ℕ). x.1) (2 ^ 57) c s.room in
-      omega (arith, s.few, le)
-
   lane_more : (c c' : List (S × ℕ)) (h : List (Event E)) (lane : ℕ) (v : S) (n : ℕ) (es : List E) → Stands stands c h → lane < length c
       → c' ≡ set c lane (v, n) → stands v (part lane h ++ es) → n ≡ length (part lane h ++ es)
       → (k : ℕ) (d : S × ℕ) → k < length c → Dec (k ≡ lane) → IsLane stands (part k (h ++ batch lane es)) (get_or c' k d)

@@ -4,6 +4,10 @@ use Rattle.std.specs.List.{sum_by}
 use Rattle.cut_publisher.specs.declared.history.Event.{Event}
 use Rattle.cut_publisher.specs.History.{part, revision, IsWithin}
 
+-- the most lanes of a station, each of which has a pass, and the most askers
+abbrev pub most_passes : ℕ
+most_passes = 1024
+
 -- the number of entries that a cut stands for
 abbrev pub total : {S : Type 0} → List (S × ℕ) → ℕ
 total c = sum_by (λ x. x.1) c
@@ -26,7 +30,7 @@ module _ {S E : Type 0} (stands : S → List E → Type 0) where
   pub record Stands (c : List (S × ℕ)) (h : List (Event E)) : Type 0 where
     pub lanes : AreLanes c h
     pub rev : total c ≡ revision h
-    pub few : length c ≤ 64
+    pub few : length c ≤ most_passes
     pub room : All (λ (x : S × ℕ). x.1 ≤ 2 ^ 57) c
 
   -- the cut stands for each history whose lane parts are those that these lanes stand for

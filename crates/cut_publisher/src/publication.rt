@@ -11,7 +11,7 @@ ghost use Rattle.cut_publisher.specs.Refusals.{handed_back};
 
 use crate::cell::{CellWriter, Shown};
 use crate::cut::Cut;
-use crate::desk::{Desk, MOST_STEPS, Publisher, never, within};
+use crate::desk::{Desk, MOST_REVISION, MOST_STEPS, Publisher, never, within};
 use crate::feed::FeedPass;
 use crate::log::{LogWord, add_batch};
 use crate::note::Note;
@@ -34,7 +34,8 @@ pub enum Refused<S: Drop> {
 /// It may wait for the lock, and for askers to leave a copy of the cell. It takes its memory before
 /// the history grows. Under the lock it compares the lane's numbers with the pass's; were they to
 /// differ, it would wait for ever. They never do, since each lane has one pass, which alone adds to
-/// it, but no proof says so. Beyond the making of the value it costs a few microseconds at most, and
+/// it, but no proof says so. It also waits for ever where the history has 2^63 entries or more: the
+/// lanes' counts, each at most 2^57, are one number of 64 bits together. Beyond the making of the value it costs a few microseconds at most, and
 /// when it returns, nothing of the publisher holds an older cut.
 pub fn publish<S: Subject + Drop, J: Naming, R: Wait>(
     rt: &R,
@@ -166,6 +167,9 @@ impl<S: Subject + Drop, J: Naming> Desk<S, J, CellWriter<S>> {
             of,
         } = self;
         if shown.steps >= MOST_STEPS {
+            match never(rt) {}
+        }
+        if shown.cut.rev() >= MOST_REVISION {
             match never(rt) {}
         }
         if !follows(&shown, &pass) {
@@ -303,6 +307,7 @@ fn extend<S: Subject + Drop, R: Wait>(
     requires good { Good S.stands shown }
     requires unmarked { IsOpen shown.seen.log }
     requires steps { shown.steps < 2 ^ 62 }
+    requires revision { total (arc_value shown.cut) < 2 ^ 63 }
     requires spare { IfSome spare (λ c. arc_value c ≡ arc_value shown.cut) }
     requires lane { lane < length (arc_value shown.cut) }
     requires value { S.stands (arc_value value.now) (part lane (told shown.seen.log) ++ entries.now) }

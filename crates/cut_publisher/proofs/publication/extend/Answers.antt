@@ -1,7 +1,6 @@
 use Rattle.std.proofs.Common.{◌≡◌, ◌+◌, ℕ, List, length, get_or, set, rules, arith, refl, ap, sym, ◌∙◌, subst, length-append, length-set}
 use Rattle.logbook.specs.Pages.{Book}
 use Rattle.std.specs.Arc.{arc_value}
-use Rattle.cut_publisher.proofs.Lanes.{stands_small}
 use Rattle.cut_publisher.proofs.Moves.{alike_site}
 use Rattle.cut_publisher.proofs.Extends.{good_more, open_more}
 use Rattle.cut_publisher.proofs.publication.extend.Goals as goal
@@ -18,7 +17,7 @@ pub three_owners-requires-clause-rev : goal.three_owners-requires-clause-rev
 three_owners-requires-clause-rev g c =
     let S = g.row.S.Denot in
     let d : c.deref.result.now ≡ arc_value c.args.shown.cut = search rules in
-    omega (arith, ap (λ (z : List (S × ℕ)). total z) d, stands_small g.S.Subject.stands (arc_value c.args.shown.cut) (told c.args.shown.seen.log) c.requires.good.cut, c.requires.room, length-append (part c.args.lane (told c.args.shown.seen.log)) c.args.entries.now)
+    omega (arith, ap (λ (z : List (S × ℕ)). total z) d, c.requires.revision, c.requires.room, length-append (part c.args.lane (told c.args.shown.seen.log)) c.args.entries.now)
 
 pub three_owners-requires-clause-count : goal.three_owners-requires-clause-count
 three_owners-requires-clause-count g c =
