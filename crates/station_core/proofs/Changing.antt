@@ -22,7 +22,7 @@ use Rattle.router_tables.specs.Tables.{TablesValue, StandsFor}
 use Rattle.station_core.specs.declared.lane.Lane.{Lane}
 use Rattle.station_core.specs.declared.lane.Present.{Present}
 use Rattle.station_core.specs.Machine.{AreDue, ChangesLane, IsAnswered, IsTold, LaneValue, MachineValue, Publishes, WhereNamed, next_of, parts_from, with_seen}
-use Rattle.station_core.specs.Schedule.{AreFirstDue, unused}
+use Rattle.station_core.specs.Schedule.{AreFirstDue, most_lanes, unused}
 use Rattle.station_core.specs.Standing.{AreFew, MovesLane, MovesAt, Shows, ShowsAt, ShowsLane, ShowsNext, Stands, TellsOn, valued}
 use Rattle.station_core.specs.Taking.{Follows}
 use Rattle.station_core.proofs.Dues.{due_few, due_more, so_far}
@@ -215,12 +215,12 @@ module _ {B : Type 0} (meaning : Meaning) (state : B → meaning.State) where
         let due = due_few meaning (get_or v.lanes k unused).connections (entry_values lane.due) (follows_due lane.due lane.present (get_or v.lanes k unused).connections (s.kept k d unused here)) in
         omega (arith, sh.count, ap length sh.split, length-append (part k s.entries) sh.rest, due, length-map lane.due entry_value, few k unused (omega (arith, here, s.lane_count)))
 
-    pub shown_few : length shown ≤ 64
+    pub shown_few : length shown ≤ most_lanes
     shown_few = omega (arith, s.few, s.shown_count)
 
     -- as many entries are published as the history has
     pub total_is : AreFew v → total shown ≡ revision v.history
-    total_is few = (stands_given (λ tables entries. StandsFor tables (entry_values entries)) shown shown refl shown_few (counts_fit few) s.entries within_shown are_lanes).rev ∙ sym (valued-revision s.entries) ∙ ap revision (sym s.history)
+    total_is few = (stands_given (λ tables entries. StandsFor tables (entry_values entries)) shown shown refl (omega (arith, shown_few)) (counts_fit few) s.entries within_shown are_lanes).rev ∙ sym (valued-revision s.entries) ∙ ap revision (sym s.history)
 
     -- another length that an asker has seen
     seen_at : (asker n : ℕ) → Stands meaning state lanes shown (set seen asker n) finished (with_seen v asker n)

@@ -20,7 +20,7 @@ use Rattle.station_core.specs.declared.lane.Present.{Present}
 use Rattle.station_core.specs.declared.schedule.ScheduleFault.{ScheduleFault}
 use Rattle.station_core.specs.declared.schedule.ScheduleFault.TheVariants.{Failed, NoMemory}
 use Rattle.station_core.specs.Machine.{Begins, ComesTo, LaneValue, MachineValue, with_end, with_piece, with_seen}
-use Rattle.station_core.specs.Schedule.{start_of, unused}
+use Rattle.station_core.specs.Schedule.{most_lanes, start_of, unused}
 use Rattle.station_core.specs.Standing.{AreFew, AsksOn, Goes, HasRoom, HasStepped, MovesLane, Shows, ShowsLane, Stands, TellsOn, as_fault}
 use Rattle.station_core.specs.Taking.{Follows, IsSound}
 use Rattle.station_core.proofs.Changing.{are_lanes, asks, changes, counts_fit, finishes, publishes, stands_asked, tells, within_shown}
@@ -41,7 +41,7 @@ module _ {B : Type 0} (meaning : Meaning) (state : B → meaning.State) where
       (subst (λ (y : TablesValue × ℕ). Shows none y (get_or (replicate n unused) k f) []) (sym (get_or-replicate n k x e lt))
       (subst (λ (v : LaneValue). Shows none x v []) (sym (get_or-replicate n k unused f lt)) (record { number = sym zero_count; count = zero_count; tables = stand; rest = []; split = no_due })))
 
-  replicated : (seen : List ℕ) (n askers : ℕ) (tables : TablesValue) → (0 < n) × (n ≤ 64) → StandsFor tables [] → seen ≡ replicate askers 0 → Stands meaning state (replicate n (record { due = []; present = None })) (replicate n (tables, 0)) seen false (start_of n askers)
+  replicated : (seen : List ℕ) (n askers : ℕ) (tables : TablesValue) → (0 < n) × (n ≤ most_lanes) → StandsFor tables [] → seen ≡ replicate askers 0 → Stands meaning state (replicate n (record { due = []; present = None })) (replicate n (tables, 0)) seen false (start_of n askers)
   replicated seen n askers tables range stand seen_is = let none : Lane B = record { due = []; present = None } in let x : TablesValue × ℕ = (tables, 0) in let size : length (replicate n none) ≡ n = length-replicate n none in record {
     entries = [];
     history = refl;
@@ -56,7 +56,7 @@ module _ {B : Type 0} (meaning : Meaning) (state : B → meaning.State) where
     mark = tt;
   }
 
-  pub stands_start : (lanes : List (Lane B)) (shown : List (TablesValue × ℕ)) (seen : List ℕ) (n askers : ℕ) (tables : TablesValue) → (0 < n) × (n ≤ 64) → lanes ≡ replicate n (record { due = []; present = None }) → StandsFor tables [] → shown ≡ replicate n (tables, 0)
+  pub stands_start : (lanes : List (Lane B)) (shown : List (TablesValue × ℕ)) (seen : List ℕ) (n askers : ℕ) (tables : TablesValue) → (0 < n) × (n ≤ most_lanes) → lanes ≡ replicate n (record { due = []; present = None }) → StandsFor tables [] → shown ≡ replicate n (tables, 0)
       → seen ≡ replicate askers 0 → Stands meaning state lanes shown seen false (start_of n askers)
   stands_start lanes shown seen n askers tables range lanes_are stand shown_are seen_is =
       subst (λ (ls : List (Lane B)). Stands meaning state ls shown seen false (start_of n askers)) (sym lanes_are)
@@ -81,7 +81,7 @@ module _ {B : Type 0} (meaning : Meaning) (state : B → meaning.State) where
   pub room_some : (lanes : List (Lane B)) (shown : List (TablesValue × ℕ)) (seen : List ℕ) (finished : Bool) → HasRoom meaning state lanes shown seen finished → 0 < length shown
   room_some lanes shown seen finished (v, s, few) = omega (arith, s.shown_count, s.some)
 
-  pub room_few : (lanes : List (Lane B)) (shown : List (TablesValue × ℕ)) (seen : List ℕ) (finished : Bool) → HasRoom meaning state lanes shown seen finished → length shown ≤ 64
+  pub room_few : (lanes : List (Lane B)) (shown : List (TablesValue × ℕ)) (seen : List ℕ) (finished : Bool) → HasRoom meaning state lanes shown seen finished → length shown ≤ most_lanes
   room_few lanes shown seen finished (v, s, few) = omega (arith, s.shown_count, s.few)
 
   module _ {O : Type 0} (faults : O → ℕ) (told : O → Option (List ℕ)) (aside : O → Aside) (lanes : List (Lane B)) (shown : List (TablesValue × ℕ)) (seen : List ℕ) (v : MachineValue) where

@@ -12,6 +12,10 @@ use Rattle.station_core.specs.declared.schedule.ScheduleFault.{ScheduleFault}
 use Rattle.station_core.specs.declared.schedule.ScheduleFault.TheVariants.{Failed, NoMemory}
 use Rattle.station_core.specs.Machine.{AreDue, LaneValue, MachineValue, Steps}
 
+-- the most lanes of a schedule, and the most askers
+abbrev pub most_lanes : ℕ
+most_lanes = 64
+
 -- the event begins a connection of this lane
 abbrev pub begins_on : ℕ → Event → Bool
 begins_on lane (Begin l) = l == lane

@@ -21,6 +21,7 @@ use Rattle.station_core.specs.declared.lane.Lane.{Lane}
 use Rattle.station_core.specs.declared.schedule.ScheduleFault.{ScheduleFault}
 use Rattle.station_core.specs.declared.schedule.ScheduleFault.TheVariants.{Failed, NoMemory}
 use Rattle.station_core.specs.Machine.{History, LaneValue, MachineValue, Steps, next_of}
+use Rattle.station_core.specs.Schedule.{most_lanes}
 use Rattle.station_core.specs.Taking.{Follows, Moves}
 
 -- a history, its entries as values
@@ -45,7 +46,7 @@ pub record Stands {B : Type 0} (meaning : Meaning) (state : B → meaning.State)
   pub lane_count : length v.lanes ≡ length lanes
   pub shown_count : length shown ≡ length lanes
   pub some : 0 < length lanes
-  pub few : length lanes ≤ 64
+  pub few : length lanes ≤ most_lanes
   pub kept : (k : ℕ) (d : Lane B) (f : LaneValue) → k < length lanes → Follows meaning state (slice_index_or lanes k d).due (slice_index_or lanes k d).present (slice_index_or v.lanes k f).connections
   pub shows : (k : ℕ) (d : Lane B) (e : TablesValue × ℕ) (f : LaneValue) → k < length lanes → Shows (slice_index_or lanes k d) (slice_index_or shown k e) (slice_index_or v.lanes k f) (part k entries)
   pub askers : v.askers ≡ seen

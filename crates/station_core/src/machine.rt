@@ -8,7 +8,7 @@ ghost use Rattle.query_lang.specs.Queries.{query_value};
 ghost use Rattle.rib_model.specs.Entries.{entry_value, entry_values};
 ghost use Rattle.station_core.specs.Machine.{Begins, ComesTo, MachineValue, with_end, with_piece, is_closing as closes, next_of};
 ghost use Rattle.router_tables.specs.Tables.{StandsFor, TablesValue};
-ghost use Rattle.station_core.specs.Schedule.{start_of};
+ghost use Rattle.station_core.specs.Schedule.{most_lanes, start_of};
 ghost use Rattle.station_core.specs.Standing.{AreFew, AsksOn, HasRoom, HasStepped, MovesLane, ShowsLane, ShowsNext, Stands, TellsOn, as_fault};
 ghost use Rattle.station_core.specs.Taking.{IsSound};
 
@@ -145,7 +145,7 @@ fn publish_on<B: BodyReading + Drop>(
 
 // How many entries are published of all lanes.
 fn revision_of(shown: &[CutLane<RouterTables>]) -> u64
-    requires lanes { length shown.now ≤ 64 }
+    requires lanes { length shown.now ≤ most_lanes }
     requires counts { All (λ x. x.1 ≤ 2 ^ 57) shown.now }
     ensures { result ≡ total shown.now }
 {
@@ -158,7 +158,7 @@ fn revision_of(shown: &[CutLane<RouterTables>]) -> u64
 
 // Tells an asker of a revision.
 fn tell_on(shown: &[CutLane<RouterTables>], seen: &mut [u64], asker: u32, rev: u64)
-    requires lanes { length shown.now ≤ 64 }
+    requires lanes { length shown.now ≤ most_lanes }
     requires counts { All (λ x. x.1 ≤ 2 ^ 57) shown.now }
     ensures { TellsOn shown.now asker rev seen.old seen.new }
 {
@@ -187,7 +187,7 @@ fn ask_on<O: Sink>(
     out: &mut O,
 ) -> Result<(), ScheduleFault>
     requires some { 0 < length shown.now }
-    requires lanes { length shown.now ≤ 64 }
+    requires lanes { length shown.now ≤ most_lanes }
     requires counts { All (λ x. x.1 ≤ 2 ^ 57) shown.now }
     ensures { AsksOn O.faults O.told O.aside shown.now asker (query_value query.now) seen.old seen.new out.old out.new result }
 {
@@ -260,7 +260,7 @@ fn new_shown(alloc: Global, count: u32) -> Result<Vec<CutLane<RouterTables>>, No
 impl<B: BodyReading + Drop> Machine<B> {
     /// So many lanes without connections, so many askers that have seen nothing, and the empty history.
     pub(crate) fn new(alloc: Global, lanes: u32, askers: u32) -> Result<Machine<B>, NoMemory>
-        requires { (0 < lanes) × (lanes ≤ 64) }
+        requires { (0 < lanes) × (lanes ≤ most_lanes) }
         ensures { IfOk result (λ m. Stands B.meaning B.state m.lanes.items m.shown.items m.seen.items m.finished (start_of lanes askers)) }
     {
         Ok(Machine {

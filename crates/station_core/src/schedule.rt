@@ -1,7 +1,7 @@
 //! Schedules of events, run one after another.
 ghost use Rattle.std.specs.Prelude.{◌≡◌, ◌<◌, ◌≤◌, ℕ};
 ghost use Rattle.bmp_specs.specs.MessageEffects.{strict};
-ghost use Rattle.station_core.specs.Schedule.{Leaves, begun_on, start_of};
+ghost use Rattle.station_core.specs.Schedule.{Leaves, begun_on, most_lanes, start_of};
 
 use crate::event::Event;
 use crate::machine::Machine;
@@ -30,7 +30,7 @@ fn run<B: BodyReading + Drop, O: Sink>(
     events: &[Event],
     out: &mut O,
 ) -> Result<u64, ScheduleFault>
-    requires lanes { (0 < lanes) × (lanes ≤ 64) }
+    requires lanes { (0 < lanes) × (lanes ≤ most_lanes) }
     requires begun { (lane : ℕ) → lane < lanes → begun_on lane events.now ≤ 4096 }
     ensures leaves { Leaves O.faults O.told B.meaning events.now (start_of lanes askers) out.old out.new result }
     ensures kept { O.aside out.new ≡ O.aside out.old }
@@ -66,8 +66,8 @@ pub fn run_schedule<O: Sink>(
     events: &[Event],
     out: &mut O,
 ) -> Result<u64, ScheduleFault>
-    requires lanes { (0 < lanes) × (lanes ≤ 64) }
-    requires askers { (0 < askers) × (askers ≤ 64) }
+    requires lanes { (0 < lanes) × (lanes ≤ most_lanes) }
+    requires askers { (0 < askers) × (askers ≤ most_lanes) }
     requires begun { (lane : ℕ) → lane < lanes → begun_on lane events.now ≤ 4096 }
     ensures leaves { Leaves O.faults O.told strict events.now (start_of lanes askers) out.old out.new result }
     ensures kept { O.aside out.new ≡ O.aside out.old }
