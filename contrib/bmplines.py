@@ -300,7 +300,7 @@ def parse(line):
 
 
 class Station:
-    """One connection to an asker's port of a station, for one query after another."""
+    """One connection to a station's port for clients, for one query after another."""
 
     def __init__(self, host, port, seconds):
         try:
