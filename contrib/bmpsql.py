@@ -1,8 +1,10 @@
 """What a station has, as a stream for psql. It is no part of what is proved.
 
 One transaction makes new partitions beside those of the station that are there, fills them, and puts them in their
-place; so who reads sees the old answer or the new one, and nobody waits but for the moment of the change.
+place; so who reads sees the old answer or the new one, and nobody waits but for the moment of the change. All of the
+stream stands between `\\if` and `\\endif`, so that psql fails where the stream breaks off, whoever ended bmpq.
 """
+import datetime
 import functools
 import re
 
@@ -28,6 +30,10 @@ TABLES = {
             ("USING gist (prefix inet_ops)", "(origin_as)", "(router, peer, view)")),
 }
 
+# When each station was asked last, and the revision of its routes.
+STATIONS = "bmp_station"
+STATION_COLUMNS = "station text PRIMARY KEY, taken_at timestamptz NOT NULL, revision numeric NOT NULL"
+
 # Who makes the tables at the same time as another waits for it; so does who writes the same station.
 SCHEMA_LOCK = "DO $$ BEGIN PERFORM pg_advisory_xact_lock(hashtext('bmpstation')); END $$;"
 STATION_LOCK = "DO $$ BEGIN PERFORM pg_advisory_xact_lock(hashtext('bmpstation'), hashtext('{station}')); END $$;"
@@ -37,12 +43,18 @@ def columns_of(table):
     return ", ".join(("station text NOT NULL", "revision numeric NOT NULL") + TABLES[table][0])
 
 
-def schema():
+def begin():
+    """The first lines, which stand there before the station is asked: an error ends psql with a status of its own."""
     yield "\\set ON_ERROR_STOP on"
+    yield "\\if true"
+
+
+def schema():
     yield "SET client_encoding = 'UTF8';"
     yield "SET client_min_messages = warning;"
     yield "BEGIN;"
     yield SCHEMA_LOCK
+    yield f"CREATE TABLE IF NOT EXISTS {STATIONS} ({STATION_COLUMNS});"
     for table, (_, indexes) in TABLES.items():
         yield f"CREATE TABLE IF NOT EXISTS {table} ({columns_of(table)}) PARTITION BY LIST (station);"
         for place, index in enumerate(indexes):
@@ -154,8 +166,19 @@ def swap(station):
         yield f"ALTER TABLE {table} ATTACH PARTITION {old} FOR VALUES IN ('{station}');"
 
 
-def transaction(station, routers, peers, marks, routes):
-    """The lines of the whole stream. The first three are pairs of a revision and its rows, the last one of a revision and
+def now():
+    """The time of this machine, as PostgreSQL reads it."""
+    return datetime.datetime.now(datetime.timezone.utc).isoformat(timespec="milliseconds")
+
+
+def tell(station, taken_at, revision):
+    """What says how old the rows of the station are."""
+    yield (f"INSERT INTO {STATIONS} (station, taken_at, revision) VALUES ('{station}', '{taken_at}', {revision}) "
+           "ON CONFLICT (station) DO UPDATE SET taken_at = EXCLUDED.taken_at, revision = EXCLUDED.revision;")
+
+
+def transaction(station, taken_at, routers, peers, marks, routes):
+    """The lines behind the first ones. The tables are pairs of a revision and its rows, the last one of a revision and
     pairs of a route and the text of its attributes."""
     complete = {}
     for mark in marks[1]:
@@ -168,13 +191,15 @@ def transaction(station, routers, peers, marks, routes):
     yield from load(station, PEER, peers[0], (joined(peer_cells(row, complete)) for row in peers[1]))
     yield from load(station, ROUTE, routes[0], (route_line(row, attributes) for row, attributes in routes[1]))
     yield from swap(station)
+    yield from tell(station, taken_at, routes[0])
     yield "COMMIT;"
+    yield "\\endif"
 
 
-def failed(fault):
-    """What makes psql leave a stream that breaks off: no row of it stays."""
+def failed(fault, is_begun):
+    """What makes psql fail, so that no row of the stream stays. Where the transaction is begun it is among a table's rows."""
     text = re.sub(r"[^ -~]|['\\%]", "?", str(fault))
-    yield ""
-    yield "\\."
-    yield "ROLLBACK;"
+    if is_begun:
+        yield ""
+        yield "\\."
     yield f"DO $$ BEGIN RAISE EXCEPTION 'bmpq: {text}'; END $$;"
