@@ -9,8 +9,10 @@ from bmplines import ROUTE_FIELDS, UnknownLine, parse
 from bmprows import prefix_in
 
 BEFORE, AFTER = "adj-in-pre", "adj-in-post"
-# A route that is on one side alone is `unknown` where the other table waits for its End-of-RIB.
-KINDS = ("kept", "changed", "dropped", "added", "unknown")
+# A route is `uncompared` where all that is read of both sides is the same, but both have attributes of which the type code
+# alone is known: policy may have changed these. One that is on one side alone is `unknown` where the other table waits for
+# its End-of-RIB.
+KINDS = ("kept", "uncompared", "changed", "dropped", "added", "unknown")
 
 
 def complete_tables(marks):
@@ -59,6 +61,11 @@ def beside(before, after):
             right = next(after, None)
 
 
+def uncompared(before, after):
+    """The type codes of the attributes that both sides have, and of which nothing else is known."""
+    return [code for code in before["other"] if code in after["other"]] if before and after else []
+
+
 def attributes(row):
     return [row[name] for name in ROUTE_FIELDS]
 
@@ -84,7 +91,7 @@ def judged(before, after, complete):
     family = 6 if ":" in row["prefix"] else 4
     if before and after:
         changes = [name for name in ROUTE_FIELDS if before[name] != after[name]]
-        return ("changed" if changes else "kept"), changes
+        return ("changed" if changes else "uncompared" if uncompared(before, after) else "kept"), changes
     missing, what = (BEFORE, "added") if after else (AFTER, "dropped")
     is_known = complete is None or (row["router"], missing, family) in complete
     return (what if is_known else "unknown"), []
@@ -111,4 +118,4 @@ def fields_of(what, changes, before, after):
     row = before or after
     sides = [side and {name: side[name] for name in ROUTE_FIELDS} for side in (before, after)]
     return {"line": "policy", "router": row["router"], "peer": row["peer"], "prefix": row["prefix"], "id": row["id"],
-            "what": what, "changes": changes, "before": sides[0], "after": sides[1]}
+            "what": what, "changes": changes, "uncompared": uncompared(before, after), "before": sides[0], "after": sides[1]}

@@ -232,7 +232,8 @@ def files_of_payloads():
 
 
 def compared(stream, key):
-    """What became of each route of a peer, by other means, where both tables are complete."""
+    """What became of each route of a peer, by other means, where both tables are complete. Of what stands in `other=` the values
+    aren't known."""
     sides = {"adj-in-pre": {}, "adj-in-post": {}}
     for _, found, view, prefix, attributes in table_of(stream):
         if found == key and view in sides:
@@ -241,7 +242,8 @@ def compared(stream, key):
     wanted = {}
     for place in before.keys() | after.keys():
         if place in before and place in after:
-            wanted[place] = "kept" if before[place] == after[place] else "changed"
+            alike = "kept" if before[place]["other"] == "-" else "uncompared"
+            wanted[place] = alike if before[place] == after[place] else "changed"
         else:
             wanted[place] = "dropped" if place in before else "added"
     return wanted
@@ -265,7 +267,7 @@ def what_a_policy_does():
             same(counts, {kind: str(list(wanted.values()).count(kind)) for kind in counts}, f"{stream.name}: {key}")
             same(lines[-1], f"end {len(wanted) + 2}", key)
             seen |= set(wanted.values())
-    same(seen >= {"kept", "changed", "dropped"}, True, f"what was seen: {seen}")
+    same(seen >= {"kept", "uncompared", "changed", "dropped"}, True, f"what was seen: {seen}")
     stream = EXAMPLES / "frr10-sessions-come-and-go.bmp"
     lines = bmpq("--policy", KEY, "--only", "changed", *recorded(stream), "router 0", "family 4").decode().splitlines()
     same(lines[1], f"policy 0 {KEY} 198.51.100.0/24 changed next=10.0.0.11 origin=igp path=65001_65011_64500_64501 med=50>77 pref=- "
@@ -302,6 +304,28 @@ def a_policy_of_paths_with_identifiers():
             lines = [json.loads(line) for line in bmpq("--json", "--port", stub.port, "--policy", key.decode()).splitlines()]
             found = sorted(f"{'-' if line['id'] is None else line['id']} {line['what']}" for line in lines if line["line"] == "policy")
             same(found, wanted, f"{marks} {rows}")
+
+
+@test
+def what_a_policy_does_to_attributes_that_are_not_read():
+    """Of attributes in `other=` the codes alone are known: nothing is said of their values but that they aren't compared."""
+    marks = reply(*(b"mark 0 0-0000000000000000-192.0.2.1 %s 4 complete" % view for view in (b"adj-in-pre", b"adj-in-post")))
+    key = b"0-0000000000000000-192.0.2.1"
+    row = ROUTE % (key, b"10.0.0.0/8", b"64500")
+    for before, after, med, what, changes, codes in (
+            (b"-", b"-", b"-", "kept", [], []), (b"32", b"32", b"-", "uncompared", [], [32]), (b"16,32", b"16,32", b"-", "uncompared", [], [16, 32]),
+            (b"-", b"32", b"-", "changed", ["other"], []), (b"16", b"16,32", b"-", "changed", ["other"], [16]),
+            (b"32", b"-", b"-", "changed", ["other"], []), (b"32", b"32", b"5", "changed", ["med"], [32]), (b"-", b"-", b"5", "changed", ["med"], [])):
+        first, second = (row.replace(b"other=-", b"other=" + other) for other in (before, after))
+        second = second.replace(b"adj-in-pre", b"adj-in-post").replace(b"med=-", b"med=" + med)
+        with Stub({"marks peer " + key.decode(): marks, "table peer " + key.decode(): reply(first, second)}.get) as stub:
+            words = ("--port", stub.port, "--policy", key.decode())
+            [line, counts, told] = [json.loads(line) for line in bmpq("--json", *words).splitlines()]
+            same((line["what"], line["changes"], line["uncompared"]), (what, changes, codes), f"{before} {after} {med}")
+            same({kind: counts[kind] for kind in counts if counts[kind] == 1}, {what: 1}, "counts")
+            same([name for name in told if told[name] == 1], changes, "changes")
+            same(bmpq(*words, "--only", what).splitlines()[1].split(b" ")[4], what.encode(), "text")
+            same(len(bmpq(*words, "--only", "dropped").splitlines()), 4, "others")
 
 
 # Faults of the station.
