@@ -37,6 +37,10 @@ class StationError(Exception):
     """The station answered `error query` or `error line`."""
 
 
+class NoSuchRouter(StationError):
+    """No connected router has a name, or several have it."""
+
+
 # Most words of a table stand in it often, so what was read last is kept.
 @functools.lru_cache(maxsize=65536)
 def number(text):
@@ -366,6 +370,31 @@ def check_reply(at, count, end):
 def is_query(query):
     """Whether a station can be sent this as a query that it replies to, whatever its grammar says."""
     return query != "quit" and query.isascii() and query.isprintable() and 0 < len(query) <= MOST_LINE
+
+
+def is_lane(text):
+    """Whether digits alone stand for a router: its lane. Anything else is its name."""
+    return text.isascii() and text.isdigit()
+
+
+def escaped(text):
+    """A text as a station writes it."""
+    return "".join(chr(byte) if 0x21 <= byte <= 0x7E and byte != 0x25 else f"%{byte:02X}" for byte in text.encode("utf-8"))
+
+
+def lane_of(name, routers):
+    """The lane of the one router that is connected by this name, or by the one that this text is in its escaped form. A name
+    in whose place the station has bytes that are no UTF-8 is known by its escaped form, or by `\\xHH` for each such byte."""
+    try:
+        names = {name, unescaped(name)}
+    except ValueError:
+        names = {name}
+    found = [row["router"] for row in routers if row["state"] == "live" and row["name"] in names]
+    if len(found) == 1:
+        return found[0]
+    if found:
+        raise NoSuchRouter(f"{len(found)} connected routers have the name {name}: they are at lanes {' and '.join(map(str, found))}")
+    raise NoSuchRouter(f"no connected router has the name {name}")
 
 
 def selectors_of(query):

@@ -110,8 +110,9 @@ class SharedStation:
             raise Unreachable(f"the station can't be reached ({fault.strerror or fault})") from fault
 
     async def ask(self, *queries):
-        """The replies to these queries, each with how many lines are read of it. Where a connection that was kept turns out to
-        be lost, the station is asked again, once."""
+        """The replies to these queries, each with how many lines are read of it, all on one connection but for what comes
+        after a reply that was cut. A query is a text, or what gives it by the replies so far. Where a connection that was
+        kept turns out to be lost, the station is asked again, once."""
         try:
             return await asyncio.wait_for(self.ask_one(queries), self.seconds)
         except asyncio.TimeoutError:
@@ -142,7 +143,7 @@ class SharedStation:
             for query, most in queries:
                 if link is None:
                     link = await self.open()
-                replies.append(await link.ask(query, most))
+                replies.append(await link.ask(query(replies) if callable(query) else query, most))
                 if replies[-1].is_cut:
                     # Nothing more is read of it: so the station's place is free again.
                     link.close()

@@ -88,11 +88,14 @@ export async function livePage(parameters) {
   const rows = [...names.routers.values()];
   const live = rows.filter(row => row.state === 'live');
   $('w-router').replaceChildren(...rows.map(row => h('option', {value: row.router}, `${names.router(row.router)} (${row.router}, ${row.state})`)));
-  const chosen = parameters.has('router') ? Number(parameters.get('router')) : (live[0] || rows[0] || {}).router;
+  const meant = parameters.has('router') ? names.meant(parameters.get('router')) : [];
+  const chosen = meant.length ? meant[0] : (live[0] || rows[0] || {}).router;
   $('w-router').value = String(chosen);
   if (!prefix) return $('w-prefix').focus();
-  if (!parameters.has('router') && live.length > 1) {
-    $('answer').replaceChildren(h('p', {class: 'note'}, 'Several routers are live: choose one and press Watch.'));
+  if (meant.length !== 1 && (parameters.has('router') || live.length > 1)) {
+    const why = !parameters.has('router') ? 'Several routers are live'
+      : meant.length ? 'Several routers have this name' : 'No connected router has this name';
+    $('answer').replaceChildren(...names.notes(meant), h('p', {class: 'note'}, why + ': choose one and press Watch.'));
     return undefined;
   }
   const watch = new Watch(prefix, chosen, names, parameters.has('past'));

@@ -23,7 +23,15 @@ export function distinguisherOf(digits) {
   return digits;
 }
 
-// Who a peer is.
+// An address as RFC 5952, section 5, has those that map an IPv4 address; the station writes the last 32 bits in hexadecimal.
+export function addressOf(text) {
+  const found = /^::ffff:([0-9a-f]{1,4}):([0-9a-f]{1,4})$/.exec(text);
+  if (!found) return text;
+  const [high, low] = found.slice(1).map(digits => parseInt(digits, 16));
+  return '::ffff:' + [high >> 8, high & 255, low >> 8, low & 255].join('.');
+}
+
+// Who a router and a peer are.
 
 export class Names {
   constructor(routers, peers) {
@@ -35,9 +43,28 @@ export class Names {
     return new Names(...await Promise.all([api('/api/routers'), api('/api/peers')]));
   }
 
+  // The routers that are connected by this name, by their numbers.
+  lanes(name) {
+    return [...this.routers.values()].filter(row => row.name === name).map(row => row.router);
+  }
+
+  // The numbers of the routers that a text means: digits are a number, anything else is a name.
+  meant(text) {
+    return /^[0-9]+$/.test(text) ? [Number(text)] : this.lanes(text);
+  }
+
+  // Two connections of one name are told apart by their numbers.
   router(n) {
     const row = this.routers.get(n);
-    return row && row.name ? row.name : 'Router ' + n;
+    if (!row || !row.name) return 'Router ' + n;
+    return this.lanes(row.name).length > 1 ? `${row.name} (router ${n})` : row.name;
+  }
+
+  // What is to be said of names that several of these routers have.
+  notes(routers) {
+    const names = new Set(routers.map(n => (this.routers.get(n) || {}).name).filter(name => name && this.lanes(name).length > 1));
+    return [...names].map(name => h('p', {class: 'note'}, `Routers ${this.lanes(name).join(' and ')} have the name ${name}: `
+      + 'two routers, or one that connected again before its old connection was given up.'));
   }
 
   peer(n, key) {

@@ -79,17 +79,19 @@ function routerCard(row, names, peers, marks) {
 export async function routersPage(parameters, title) {
   const [routers, peers, marks] = await Promise.all([api('/api/routers'), api('/api/peers'), api('/api/marks')]);
   const names = new Names(routers, peers);
-  const chosen = parameters.getAll('router').map(Number);
-  const rows = routers.rows.filter(row => !chosen.length || chosen.includes(row.router));
+  const isChosen = parameters.has('router');
+  const chosen = parameters.getAll('router').flatMap(text => names.meant(text));
+  const rows = routers.rows.filter(row => !isChosen || chosen.includes(row.router));
   const all = routers.truncated || peers.truncated || marks.truncated;
   document.title = 'Routers and peers – Looking glass';
   $('status').textContent = '';
   $('answer').replaceChildren(...[
     h('h1', {}, title || 'Routers and peers'),
     told(routers, `: ${routers.rows.filter(row => row.state === 'live').length} of ${plural(routers.rows.length, 'router')} live`),
-    chosen.length ? h('p', {class: 'more'}, h('a', {href: '/routers'}, 'All routers')) : null,
+    isChosen ? h('p', {class: 'more'}, h('a', {href: '/routers'}, 'All routers')) : null,
     all ? h('p', {class: 'note'}, 'There are more peers or tables than were read.') : null,
     rows.length ? null : h('p', {class: 'note'}, 'The station has no such router.'),
+    names.notes(rows.map(row => row.router)),
     rows.map(row => routerCard(row, names, peers.rows.filter(peer => peer.router === row.router),
       marks.rows.filter(mark => mark.router === row.router))),
   ].flat().filter(Boolean));

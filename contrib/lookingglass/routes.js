@@ -1,7 +1,7 @@
 // Routes by router, prefix and peer, with their views side by side.
 
 import {badge, family, h, link, look, plural} from './elements.js';
-import {distinguisherOf} from './names.js';
+import {addressOf, distinguisherOf} from './names.js';
 
 const SHOWN = 200; // prefixes at once
 const ATTRIBUTES = ['next', 'origin', 'path', 'med', 'pref', 'atomic', 'agg', 'comm', 'other'];
@@ -29,7 +29,7 @@ function fact(name, route, other, text) {
 export function routeOf(route, other) {
   const facts = [];
   const add = (label, name, text) => facts.push(facts.length ? ', ' : '', label + ' ', fact(name, route, other, text));
-  if (route.next !== null) add('next hop', 'next', route.next.replaceAll(',', ', '));
+  if (route.next !== null) add('next hop', 'next', route.next.split(',').map(addressOf).join(', '));
   if (route.med !== null || other && other.med !== null) add('MED', 'med', route.med === null ? 'none' : String(route.med));
   if (route.pref !== null || other && other.pref !== null) {
     add('local preference', 'pref', route.pref === null ? 'none' : String(route.pref));
@@ -45,6 +45,14 @@ export function routeOf(route, other) {
   return h('div', {class: 'route'}, pathOf(route, other), h('span', {class: 'facts'}, facts),
     communities.length ? h('span', {}, communities) : null,
     gone.length ? h('span', {class: 'facts'}, 'without ', gone.map(c => h('span', {class: 'comm changed'}, h('s', {}, c)))) : null);
+}
+
+// The type codes of the attributes that both have: the station tells nothing else of these, so they can't be compared.
+const uncompared = (a, b) => a.other.filter(code => b.other.includes(code));
+
+function uncomparedText(a, b) {
+  const codes = a && b ? uncompared(a, b) : [];
+  return codes.length ? h('span', {class: 'facts'}, `other attributes ${codes.join(', ')}: not compared`) : null;
 }
 
 const sameRoute = (a, b) => ATTRIBUTES.every(name => JSON.stringify(a[name]) === JSON.stringify(b[name]));
@@ -103,9 +111,11 @@ export class Answer {
   after(router, row, prefix, group) {
     const was = row['adj-in-pre'], now = row['adj-in-post'];
     if (now) {
-      const what = !was ? null : sameRoute(was, now) ? badge('plain', 'as before policy') : badge('warn', 'changed by policy');
+      const isAlike = was && sameRoute(was, now);
+      const alike = () => badge('plain', uncompared(was, now).length ? 'no change in what is read' : 'as before policy');
+      const what = [!was ? null : isAlike ? alike() : badge('warn', 'changed by policy'), uncomparedText(was, now)];
       const state = this.state(router, row.peer, 'adj-in-post', prefix);
-      if (was && sameRoute(was, now)) return [what, state];
+      if (isAlike) return [what, state];
       return [routeOf(now, was), h('span', {class: 'state'}, what), state];
     }
     if (!was) return null;

@@ -67,6 +67,7 @@ export async function searchPage(parameters) {
       `There are more: only the first ${plural(many, 'route')} were read. Ask for a longer prefix.`) : null,
     many ? null : h('p', {class: 'note'}, `No table has such a route${answer.counts && !answer.counts.waiting ? '' : ' so far'}.`),
     completeness(answer.counts),
+    names.notes([...new Set(answer.rows.map(row => row.router))]),
     new Answer(answer, names, isWhole).sections(),
   ].flat().filter(Boolean));
 }

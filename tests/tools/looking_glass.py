@@ -62,6 +62,39 @@ def a_looking_glass_answers_what_the_station_does():
 
 
 @test
+def a_router_by_its_name():
+    """A name stands for the one router that has it, and is sought on the connection that is asked; two of a name are told apart."""
+    names = [b"r1", b"twice", b"", b"a%20b%C3%A9", b"twice", b"12"]
+    routers = [b"router %d live peers=0 messages=1 bytes=1 orphans=0 unread=0 mirrored=0 passed=0 name=%s descr=" % row for row in enumerate(names)]
+    queries = []
+
+    def say(query):
+        queries.append(query)
+        return reply(*routers, b"router 6 idle") if query == "routers" else reply(b"count 3") if query.startswith("count") else \
+            reply(b"steps 3 7") if query.startswith("changes") else reply()
+
+    with Stub(say) as stub, LookingGlass(stub.port, "--connections", 1) as glass:
+        for name, lane in (("r1", 0), ("a b\u00e9", 3), ("a%20b%C3%A9", 3)):
+            for target, wanted in (("routes?prefix=10.0.0.0/8&view=loc", [f"marks router {lane} view loc family 4",
+                                    f"prefix 10.0.0.0/8 router {lane} view loc family 4", f"marks router {lane} view loc family 4"]),
+                                   ("count?family=6", [f"count router {lane} family 6"]), ("peers", [f"peers router {lane}"]),
+                                   ("marks", [f"marks router {lane}"]), ("changes?prefix=10.0.0.0/8&from=5", [f"changes {lane} 5 10.0.0.0/8"])):
+                queries.clear()
+                sign = "&" if "?" in target else "?"
+                asked(glass, f"/api/{target}{sign}{urllib.parse.urlencode({'router': name})}")
+                same(queries, ["routers", *wanted], target)
+        same(stub.connections, 1, "connections")
+        for name, words in (("twice", ("lanes 1 and 4", "2 connected routers")), ("R1", ("no connected router",)), ("b", ("no connected router",))):
+            queries.clear()
+            told = asked(glass, f"/api/count?router={name}", 400)["error"]
+            same(([word for word in words if word not in told], queries), ([], ["routers"]), told)
+        queries.clear()
+        asked(glass, "/api/count?router=12")
+        same(queries, ["count router 12"], "digits are a number")
+        asked(glass, "/api/count?router=", 400)
+
+
+@test
 def a_looking_glass_refuses_with_a_reason():
     long = "1" * 100_000
     with Stub(lambda query: reply()) as stub, LookingGlass(stub.port) as glass:
@@ -259,6 +292,39 @@ def the_page_in_a_browser():
         with Stub(lambda query: said[query.split(" ")[0]]) as stub, LookingGlass(stub.port) as glass:
             text, _ = dom(glass, target)
             same((wanted in text, "dropped by policy" in text), (True, wanted == "dropped by policy"), f"{target}: {text}")
+    # Attributes of which the code alone is known aren't compared, and the page says so; an IPv4 address in a next hop is shown as one.
+    before = ROW.replace(b"next=192.0.2.1", b"next=::ffff:c000:201,fe80::1") % b"2001:db8::/32"
+    said["marks"] = reply(*(b"mark 0 %s %s 6 complete" % (key, view) for view in (b"adj-in-pre", b"adj-in-post")))
+    for one, other, med, wanted, unwanted in (
+            (b"-", b"-", b"-", ("as before policy",), ("not compared", "in what is read", "changed by")),
+            (b"16,32", b"16,32", b"-", ("no change in what is read", "other attributes 16, 32: not compared"), ("as before policy", "changed by")),
+            (b"32", b"32", b"5", ("changed by policy", "other attributes 32: not compared"), ("as before policy", "in what is read")),
+            (b"-", b"32", b"-", ("changed by policy",), ("not compared", "as before policy"))):
+        first, second = (before.replace(b"other=-", b"other=" + codes) for codes in (one, other))
+        second = second.replace(b"adj-in-pre", b"adj-in-post").replace(b"med=-", b"med=" + med)
+        said["prefix"] = reply(first, second)
+        with Stub(lambda query: said[query.split(" ")[0]]) as stub, LookingGlass(stub.port) as glass:
+            text, _ = dom(glass, "/?q=2001:db8::/32")
+            same(([word for word in (*wanted, "::ffff:192.0.2.1, fe80::1") if word not in text], [word for word in unwanted if word in text]),
+                 ([], []), f"{one} {other}: {text}")
+    # Two connections of a name are told apart, and it is said; a name that one has leads to it.
+    said["count"] = reply(b"count 0")
+    live = b"router %d live peers=0 messages=1 bytes=1 orphans=0 unread=0 mirrored=0 passed=0 name=%s descr="
+    said["routers"] = reply(live % (0, b"twice"), live % (1, b"once"), live % (2, b"twice"))
+    note = "Routers 0 and 2 have the name twice"
+    with Stub(lambda query: said[query.split(" ")[0]] if not query.startswith("changes") else reply(b"steps 1 0")) as stub, \
+            LookingGlass(stub.port) as glass:
+        for target, wanted, unwanted in (("/routers", (note, "twice (router 0)", "twice (router 2)", "once"), ("once (router",)),
+                                         ("/routers?router=once", ("once",), (note, "(router 0)")),
+                                         ("/routers?router=nobody", ("The station has no such router",), (note,)),
+                                         ("/?q=2001:db8::/32", (note, "twice (router 0)"), ()), ("/?q=twice", (note, "twice (router 2)"), ("once",)),
+                                         ("/live?router=twice&prefix=10.0.0.0/8", (note, "Several routers have this name"), ("No change yet",)),
+                                         ("/live?router=nobody&prefix=10.0.0.0/8", ("No connected router has this name",), ("No change yet",)),
+                                         ("/live?router=once&prefix=10.0.0.0/8", ("No change yet",), ("have this name",))):
+            text, _ = dom(glass, target)
+            text = text[text.index('Answer">'):] if 'Answer">' in text else text
+            same(([word for word in wanted if word not in text], [word for word in unwanted if word in text]), ([], []), f"{target}: {text}")
+    said["routers"] = reply(b"router 0 idle")
     # What was missed, a station that began anew, one that goes away: each is said, and the next question goes on from there.
     asked_from = []
 
