@@ -8,11 +8,14 @@ import collections
 import functools
 import re
 import socket
+import time
 
 # Of a query, and of a line of a reply: a BGP message of 65,535 bytes can't give as much text.
 MOST_LINE = 1024
 MOST_REPLY_LINE = 1 << 20
 PIECE = 1 << 18
+# How long to wait before a connection is tried for again.
+PAUSE = 1
 
 # The selectors, in the order in which they stand, and the queries that take all of them.
 SELECTORS = ("router", "peer", "view", "family")
@@ -304,13 +307,20 @@ def parse(line):
 
 
 class Station:
-    """One connection to a station's port for clients, for one query after another."""
+    """One connection to an asker's port of a station, for one query after another. Where there is none it is tried for again
+    for as many seconds as `retry` says."""
 
-    def __init__(self, host, port, seconds):
-        try:
-            self.socket = socket.create_connection((host, port), timeout=seconds)
-        except OSError as fault:
-            raise Unreachable(f"{host} port {port}: {fault}") from fault
+    def __init__(self, host, port, seconds, retry=0):
+        end = time.monotonic() + retry
+        while True:
+            try:
+                self.socket = socket.create_connection((host, port), timeout=seconds)
+                break
+            except OSError as fault:
+                left = end - time.monotonic()
+                if left <= 0:
+                    raise Unreachable(f"{host} port {port}: {fault}") from fault
+            time.sleep(min(PAUSE, left))
         self.whole = collections.deque()
         self.rest = b""
 

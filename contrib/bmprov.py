@@ -12,6 +12,8 @@ from bmprows import WIDTHS, prefix_in, prefix_of
 MOST_FILE = 1 << 26
 MOST_AS = (1 << 32) - 1
 LOC_RIB = "3"
+# The byte order mark of UTF-8.
+MARK = b"\xef\xbb\xbf"
 
 # A route's verdict. The last is no word of RFC 6811: a payload covers the route, but its origin is the router's own AS,
 # of which nothing tells.
@@ -20,8 +22,8 @@ OWN = object()
 
 
 class BadFile(Exception):
-    """`longfile`, or `badfile N`, where record N is the first that isn't of the form; the headings are record 0. Or why
-    the file can't be read."""
+    """`longfile`, or `badfile N`, where record N is the first that isn't of the form; the headings are record 0, which are
+    bad where the file is JSON. Or why the file can't be read."""
 
 
 def payload_of(record):
@@ -38,7 +40,7 @@ def payload_of(record):
 def records_of(data):
     """The records of a CSV text as RFC 4180 has them; CR, LF or both end one, and an empty line is none."""
     csv.field_size_limit(MOST_FILE)
-    text = io.TextIOWrapper(io.BytesIO(data.removeprefix(b"\xef\xbb\xbf")), encoding="latin-1", newline="")
+    text = io.TextIOWrapper(io.BytesIO(data.removeprefix(MARK)), encoding="latin-1", newline="")
     return filter(None, csv.reader(text))
 
 
@@ -48,6 +50,8 @@ class Payloads:
     def __init__(self, data):
         if len(data) > MOST_FILE:
             raise BadFile("longfile")
+        if data.removeprefix(MARK).lstrip(b" \t\r\n").startswith((b"{", b"[")):
+            raise BadFile("badfile 0: this is JSON, and payloads are read as CSV")
         # Of each family the lengths, in order, and the payloads of each by the first bits: a number of longest length
         # and AS, or a list of such numbers.
         found = {4: {}, 6: {}}

@@ -22,9 +22,12 @@ class Live:
             self.station.close()
             self.station = None
 
-    def ask(self, query):
+    def open(self):
         if self.station is None:
-            self.station = Station(self.given.host, self.given.port, self.given.timeout)
+            self.station = Station(self.given.host, self.given.port, self.given.timeout, self.given.retry)
+
+    def ask(self, query):
+        self.open()
         yield from self.station.ask(query)
 
 

@@ -206,7 +206,7 @@ def files_of_payloads():
            HEAD + "# a comment\n": 1, HEAD + "AS01,10.0.0.0/8,8\n": 1, HEAD + "AS4294967296,10.0.0.0/8,8\n": 1, HEAD + "AS1,10.0.0.0/33,33\n": 1,
            HEAD + "AS1,10.0.0.0/8,33\n": 1, HEAD + "AS1,2001:db8::/32,129\n": 1, HEAD + "AS1, 10.0.0.0/8,8\n": 1, HEAD + "AS1,10.0.0/8,8\n": 1,
            HEAD + "AS1,::ffff:1.2.3.4/128,128\n": 1, HEAD + "\n\nAS1,10.0.0.0/8,8\r\rAS1,x/8,8\n": 2, HEAD + "AS-1,10.0.0.0/8,8\n": 1,
-           "URI,ASN,IP Prefix,Max\nrsync://x,AS1,10.0.0.0/8,8\n": 1, HEAD + '"AS1"1,10.0.0.0/8,8\nAS1,10.0.0.0/8,+8\n': 2, '{"roas": [\n{}]}\n': 1,
+           "URI,ASN,IP Prefix,Max\nrsync://x,AS1,10.0.0.0/8,8\n": 1, HEAD + '"AS1"1,10.0.0.0/8,8\nAS1,10.0.0.0/8,+8\n': 2,
            HEAD + "AS1,10.0.0.0/08,8\n": 1, HEAD + "AS\u0661,10.0.0.0/8,8\n": 1}
     for text, count in good.items():
         same(bmprov.Payloads(text.encode()).count, count, repr(text))
@@ -216,9 +216,17 @@ def files_of_payloads():
         except bmprov.BadFile as fault:
             found = str(fault)
         same(found, f"badfile {line}", repr(text))
+    # JSON in one line would be the headings, and every route not-found.
+    for text in ('{"roas": [{"asn": "AS1", "prefix": "10.0.0.0/8", "maxLength": 8}]}', '{"roas": [\n{}]}\n', '\ufeff {"roas": []}\n', "\n[1]", "[]"):
+        try:
+            found = bmprov.Payloads(text.encode()).count
+        except bmprov.BadFile as fault:
+            found = str(fault)
+        same(found, "badfile 0: this is JSON, and payloads are read as CSV", text)
     with Stub(lambda query: reply()) as stub:
         for text, wanted in ((HEAD + "AS1,10.0.0.0/8,8\n", (0, b"at 7\nend 0\n", b"")),
                              (HEAD + "AS1,10.0.0.0/8,7\n", (1, b"", b"bmpq: badfile 1\n")),
+                             ('{"roas": []}', (1, b"", b"bmpq: badfile 0: this is JSON, and payloads are read as CSV\n")),
                              (b"\n" * ((1 << 26) + 1), (1, b"", b"bmpq: longfile\n"))):
             with file_of(text) as path:
                 done = run([CONTRIB / "bmpq", "--port", stub.port, "--vrps", path, "table"])
