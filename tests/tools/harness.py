@@ -35,8 +35,8 @@ def same(found, wanted, what=""):
 # Running things.
 
 
-def run(words, **more):
-    return subprocess.run([str(word) for word in words], capture_output=True, timeout=SECONDS, **more)
+def run(words, timeout=SECONDS, **more):
+    return subprocess.run([str(word) for word in words], capture_output=True, timeout=timeout, **more)
 
 
 def bmpq(*words, status=0):
