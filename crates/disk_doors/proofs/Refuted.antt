@@ -1,9 +1,11 @@
 -- What the clauses refuse: for each mistake that someone could make here, its result at one value.
-use Rattle.std.proofs.Common.{◌≡◌, inl, ℕ, ◌+◌, ◌<◌, List, [], ◌∷◌, length, ap, subst, sym, arith, Ok, Err}
+use Rattle.std.proofs.Common.{◌≡◌, true, false, inl, ℕ, ◌+◌, ◌<◌, List, [], ◌∷◌, length, ap, subst, sym, arith, Ok, Err}
+use Rattle.std.specs.Fs.{asks_create, asks_truncate, with_truncate}
 use Rattle.wire_io.specs.Faults.{HasCause, Rose}
 use Rattle.wire_io.specs.declared.sink.Failed.{Failed}
 use Rattle.disk_doors.specs.Images.{Range, Moment, IsIn, settled, wrote, AfterWrite}
 use Rattle.disk_doors.specs.Disk.{DiskValue, goes_to, WritesAt}
+use Rattle.disk_doors.specs.Opening.{as_it_is, made_where_none}
 use Rattle.disk_doors.specs.Put.{Puts}
 
 -- an empty file, with room for ten bytes
@@ -45,3 +47,13 @@ a_fault_is_counted_once r = absurd (omega (arith, r))
 
 no_fault_is_counted_where_none_was : HasCause {T = ℕ} {E = Failed} 0 1 (Ok 0) → ⊥
 no_fault_is_counted_where_none_was c = absurd (omega (arith, c.fine))
+
+-- What must be there isn't made where it is missing, and no file is emptied as it is opened.
+a_file_that_must_be_there_is_not_made : made_where_none ≡ as_it_is → ⊥
+a_file_that_must_be_there_is_not_made e = let made : true ≡ false = ap asks_create e in absurd cc
+
+a_file_is_not_emptied : with_truncate made_where_none true ≡ made_where_none → ⊥
+a_file_is_not_emptied e = let emptied : true ≡ false = ap asks_truncate e in absurd cc
+
+a_file_that_must_be_there_is_not_emptied : with_truncate as_it_is true ≡ as_it_is → ⊥
+a_file_that_must_be_there_is_not_emptied e = let emptied : true ≡ false = ap asks_truncate e in absurd cc

@@ -2,6 +2,7 @@ ghost use Rattle.std.specs.Prelude.{◌≡◌, ◌≤◌, true, false, length, I
 ghost use Rattle.std.specs.Io.{ReadsAtMost};
 ghost use Rattle.wire_io.specs.Faults.{HasCause, Rose};
 ghost use Rattle.disk_doors.specs.Disk.{Sizes, ReadsAt, WritesAt, Syncs, nothing};
+ghost use Rattle.disk_doors.specs.Opening.{made_where_none, as_it_is};
 
 use crate::Disk;
 use std::fs::{File, Files, OpenOptions};
@@ -16,6 +17,8 @@ use wire_io::Failed;
 #[derive(Drop)]
 pub struct HostDisk {
     file: File,
+    // How it was opened.
+    opened: OpenOptions,
     faults: u64,
     // A sync failed.
     broken: bool,
@@ -32,13 +35,43 @@ fn folder(path: &str) -> &str {
     }
 }
 
-// Opens the file of this path, and makes it where there is none.
-fn open_file<R: Files<File = File>>(files: &R, path: &str) -> io::Result<File> {
-    OpenOptions::new()
-        .read(true)
-        .write(true)
-        .create(true)
-        .open(files, path)
+// How a file is opened that is made where there is none. What it holds stays.
+fn making() -> OpenOptions
+    ensures { result ≡ made_where_none }
+{
+    let mut options = finding();
+    options.create(true);
+    options
+}
+
+// How a file is opened that must be there. Nothing is made, and what it holds stays. It is opened for writing too: a folder
+// is refused then, and a pipe that nobody writes isn't waited for.
+fn finding() -> OpenOptions
+    ensures { result ≡ as_it_is }
+{
+    let mut options = OpenOptions::new();
+    options.read(true).write(true);
+    options
+}
+
+// Locks a file that was opened. It fails where this is no file, or where another holds its lock.
+fn lock(file: &File) -> io::Result<()> {
+    if !file.metadata()?.is_file() {
+        return Err(io::ErrorKind::InvalidInput.into());
+    }
+    if file.try_lock().is_err() {
+        return Err(io::ErrorKind::WouldBlock.into());
+    }
+    Ok(())
+}
+
+// Syncs the folder of an empty file, so that its name is kept.
+fn keep_name<R: Files<File = File>>(files: &R, path: &str, file: &File) -> io::Result<()> {
+    if file.metadata()?.len() == 0 {
+        let parent = OpenOptions::new().read(true).open(files, folder(path))?;
+        parent.sync_all()?;
+    }
+    Ok(())
 }
 
 // The most times that a read is made which signals break off.
@@ -77,30 +110,46 @@ fn fill(file: &File, place: u64, buf: &mut [u8]) -> io::Result<usize>
 }
 
 impl HostDisk {
-    /// The file of this path, which is made where there is none. An empty file is kept in its folder before this
-    /// answers. It fails too where the path is no file, as a folder or a device, or where another holds its lock.
-    pub fn open<R: Files<File = File>>(files: &R, path: &str) -> io::Result<HostDisk>
-        ensures fine { IfOk result (λ d. d.faults ≡ 0) }
-        ensures whole { IfOk result (λ d. d.broken ≡ false) }
+    // A file that was opened so and locked, of which no call was made.
+    fn over(file: File, opened: OpenOptions) -> HostDisk
+        ensures opened { result.opened ≡ opened }
+        ensures fine { result.faults ≡ 0 }
+        ensures whole { result.broken ≡ false }
     {
-        let file = open_file(files, path)?;
-        let about = file.metadata()?;
-        if !about.is_file() {
-            return Err(io::ErrorKind::InvalidInput.into());
-        }
-        if file.try_lock().is_err() {
-            return Err(io::ErrorKind::WouldBlock.into());
-        }
-        if about.len() == 0 {
-            let parent = OpenOptions::new().read(true).open(files, folder(path))?;
-            parent.sync_all()?;
-        }
-        Ok(HostDisk {
+        HostDisk {
             file,
+            opened,
             faults: 0,
             broken: false,
             error: None,
-        })
+        }
+    }
+
+    /// The file of this path, which is made where there is none. An empty file is kept in its folder before this
+    /// answers. It fails too where the path is no file, as a folder or a device, or where another holds its lock.
+    pub fn open<R: Files<File = File>>(files: &R, path: &str) -> io::Result<HostDisk>
+        ensures opened { IfOk result (λ d. d.opened ≡ made_where_none) }
+        ensures fine { IfOk result (λ d. d.faults ≡ 0) }
+        ensures whole { IfOk result (λ d. d.broken ≡ false) }
+    {
+        let opened = making();
+        let file = opened.open(files, path)?;
+        lock(&file)?;
+        keep_name(files, path, &file)?;
+        Ok(HostDisk::over(file, opened))
+    }
+
+    /// The file of this path as it is. It fails where there is none, and makes nothing. It fails too where the path is no
+    /// file, as a folder or a device, or where another holds its lock.
+    pub fn open_kept<R: Files<File = File>>(files: &R, path: &str) -> io::Result<HostDisk>
+        ensures opened { IfOk result (λ d. d.opened ≡ as_it_is) }
+        ensures fine { IfOk result (λ d. d.faults ≡ 0) }
+        ensures whole { IfOk result (λ d. d.broken ≡ false) }
+    {
+        let opened = finding();
+        let file = opened.open(files, path)?;
+        lock(&file)?;
+        Ok(HostDisk::over(file, opened))
     }
 
     /// What the system said at the first of its calls that failed; None where none did.
