@@ -7,7 +7,7 @@ ghost use Rattle.feed_archive.specs.Keeping.{HasKept, TellsBytes, InnerGave, Kee
 
 use crate::{AppendFault, Archive};
 use disk_doors::{Disk, Notes};
-use station_doors::Port;
+use station_doors::{Ended, Port};
 use std::marker::Model;
 use std::snapshot::Snapshot;
 use wire_io::Failed;
@@ -207,4 +207,7 @@ impl<P: Port, D: Disk> Port for KeepPort<P, D> {
     fn close(&mut self) {
         self.inner.close();
     }
+
+    // What is kept doesn't depend on it, and the port below isn't told.
+    fn ended(&mut self, _end: &Ended<'_>) {}
 }

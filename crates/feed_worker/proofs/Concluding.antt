@@ -9,7 +9,7 @@ use Rattle.cut_publisher.specs.History.{Fed}
 use Rattle.rib_model.specs.declared.entry.Entry.{Entry}
 use Rattle.station_doors.specs.Doors.{Closes, GivesNext, opened_one}
 use Rattle.wire_io.specs.Aside.{Aside}
-use Rattle.feed_worker.specs.Connection.{EndsFresh, TakesConnection}
+use Rattle.feed_worker.specs.Connection.{BreaksConnection, EndsFresh, TakesConnection}
 use Rattle.feed_worker.specs.Feed.{Concludes, IsBegunOf, IsLifeOf}
 use Rattle.feed_worker.specs.Publishing.{Grows}
 use Rattle.feed_worker.proofs.Growing.{grows_then, grows_count}
@@ -59,3 +59,7 @@ module _ (meaning : Meaning) (a b : Aside) (pass0 pass : Fed Entry) (cause : Cau
     });
     grows = subst (λ (p : Fed Entry). Grows pass0 p (opened ∷ t.messages)) (sym same) t.grows;
   }
+
+-- memory ran out as it was taken
+pub concludes_broken : (meaning : Meaning) (began : Option ℕ) (a b c : Aside) (pass0 new : Fed Entry) → BreaksConnection meaning began a b pass0 new → Closes b c → Concludes meaning (IsBegunOf meaning began) a c pass0 new
+concludes_broken meaning began a b c pass0 new t shut = record { taken = b; input = t.input; entries = t.entries; takes = t.took; closes = shut; is_of = t.begun; grows = t.grows }

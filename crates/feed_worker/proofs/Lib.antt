@@ -4,6 +4,7 @@ pub mod Gathering
 pub mod Ports
 pub mod Taking
 pub mod Concluding
+pub mod Closings
 pub mod Serving
 pub mod Untold
 pub mod Resting

@@ -3,7 +3,7 @@ use Rattle.std.proofs.Common.{◌≡◌, ◌⊎◌, inl, inr, ⊎_elim, ℕ, ◌
 use Rattle.std.specs.Prelude.{MatchBool}
 use Rattle.std.proofs.lemmas.List.{length-map, take_at}
 use Rattle.bmp_specs.specs.declared.causes.Cause.{Cause}
-use Rattle.bmp_specs.specs.declared.causes.Cause.TheVariants.{Ended, ReadFault}
+use Rattle.bmp_specs.specs.declared.causes.Cause.TheVariants.{Ended, Full, ReadFault}
 use Rattle.bmp_specs.specs.Life.{LastRead, gave, failed, IsLife, IsOpenLife}
 use Rattle.bmp_specs.specs.Meaning.{Meaning, IsExact, WalksBy}
 use Rattle.bmp_specs.specs.Values.{EntryValue, opened, message, closed}
@@ -15,6 +15,7 @@ use Rattle.rib_model.specs.Entries.{entry_value}
 use Rattle.station_doors.specs.Doors.{Opens, IsRefusal, CountsLast}
 use Rattle.wire_io.specs.declared.sink.Failed.{Failed}
 use Rattle.wire_io.specs.Aside.{Aside, nothing_aside}
+use Rattle.feed_worker.specs.Closings.{AreTold}
 use Rattle.feed_worker.specs.Connection.{TakesConnection, IsBegun}
 use Rattle.feed_worker.specs.Feed.{Refuses, ServesAll, Stops, most_entries}
 use Rattle.feed_worker.specs.FeedPort.{IsAtRest, IsPublishedWhereTold}
@@ -80,6 +81,13 @@ a_closing_is_published pass g = absurd (omega (arith, ap length g.entries, lengt
 
 a_life_has_a_closing : (meaning : Meaning) (bytes : List ℕ) (last : LastRead) → IsLife meaning bytes last (opened ∷ []) → ⊥
 a_life_has_a_closing meaning bytes last l = absurd (omega (arith, ap length l.is, length-append l.messages (closed l.cause ∷ [])))
+
+-- A port isn't told a cause whose closing wasn't published, and causes come in the order of the closings.
+no_cause_without_a_closing : AreTold (Some (Ended ∷ [])) (opened ∷ entry ∷ []) → ⊥
+no_cause_without_a_closing is = absurd (cc is)
+
+causes_come_in_order : AreTold (Some (Ended ∷ Full ∷ [])) (opened ∷ closed Full ∷ opened ∷ closed Ended ∷ []) → ⊥
+causes_come_in_order is = absurd (cc is)
 
 -- No failed read is told where no read failed.
 abbrev connected : Aside

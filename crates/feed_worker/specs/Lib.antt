@@ -1,5 +1,6 @@
 pub mod Publishing
 pub mod FeedPort
+pub mod Closings
 pub mod Connection
 pub mod Walking
 pub mod Feed

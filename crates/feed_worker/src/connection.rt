@@ -1,9 +1,9 @@
 //! One connection of a router, taken read by read.
-ghost use Rattle.std.specs.Prelude.{◌≡◌, ◌+◌, ◌<◌, ◌≤◌, ◌^◌, ◌∷◌, [], IsTrue, length, MatchResult};
+ghost use Rattle.std.specs.Prelude.{◌≡◌, ◌+◌, ◌<◌, ◌≤◌, ◌^◌, ◌∷◌, [], Some, None, IsTrue, length, MatchResult};
 ghost use Rattle.bmp_specs.specs.Life.{cause_at_end};
 ghost use Rattle.bmp_specs.specs.Values.{closed};
 ghost use Rattle.bmp_message.specs.StreamWalk.{HasReached, fed_of, rest_of};
-ghost use Rattle.station_doors.specs.Doors.{Closes};
+ghost use Rattle.station_doors.specs.Doors.{Closes, told_after};
 ghost use Rattle.feed_worker.specs.Connection.{IsNew, TakesConnection, BreaksConnection};
 ghost use Rattle.feed_worker.specs.Publishing.{Grows};
 
@@ -15,7 +15,7 @@ use cut_publisher::{FeedPass, Naming, Publisher};
 use rib_model::Entry;
 use router_tables::RouterTables;
 use std::alloc::Global;
-use std::sync::Wait;
+use std::sync::{Arc, Wait};
 use wire_io::NoMemory;
 
 /// Takes the present connection of the port, of which no byte was given, to its end, and tells why it ended. The pass
@@ -44,8 +44,9 @@ pub fn take_connection<B: BodyReading + Drop, J: Naming, P: FeedPort<B, J>, R: W
     requires station { pass.old.station ≡ J.site }
     requires room { length pass.old.entries + 2 ^ 44 ≤ 2 ^ 57 }
     requires new { IsNew (P.aside port.old) }
-    ensures { MatchResult result (TakesConnection B.meaning (P.aside port.old) (P.aside port.new) pass.old pass.new)
+    ensures taken { MatchResult result (TakesConnection B.meaning (P.aside port.old) (P.aside port.new) pass.old pass.new)
         (λ _. BreaksConnection B.meaning (P.last_began port.new) (P.aside port.old) (P.aside port.new) pass.old pass.new) }
+    ensures causes { P.causes port.new ≡ P.causes port.old }
 {
     let mut walk = StreamWalk::<B>::new(alloc);
     take_by::<B, J, P, R>(rt, alloc, publisher, pass, port, &mut walk)
@@ -65,8 +66,9 @@ fn take_by<B: BodyReading + Drop, J: Naming, P: FeedPort<B, J>, R: Wait>(
     requires new { IsNew (P.aside port.old) }
     requires unfed { HasReached B.meaning B.state [] [] walk.old }
     requires start { (walk.old.offset ≡ 0) × (fed_of walk.old ≡ 0) }
-    ensures { MatchResult result (TakesConnection B.meaning (P.aside port.old) (P.aside port.new) pass.old pass.new)
+    ensures taken { MatchResult result (TakesConnection B.meaning (P.aside port.old) (P.aside port.new) pass.old pass.new)
         (λ _. BreaksConnection B.meaning (P.last_began port.new) (P.aside port.old) (P.aside port.new) pass.old pass.new) }
+    ensures causes { P.causes port.new ≡ P.causes port.old }
 {
     publish_entries(rt, alloc, publisher, pass, &[Entry::Opened])?;
     let mut buf = [0u8; MOST_READ as usize];
@@ -101,8 +103,19 @@ fn cause_of_end<B: BodyReading>(walk: &StreamWalk<B>) -> Cause
     }
 }
 
-/// Closes the present connection, and publishes that it closed and why. Out of memory, it is closed, and the pass
-/// is as before.
+/// Lends these tables.
+pub(crate) fn lent(tables: &Option<Arc<RouterTables>>) -> Option<&RouterTables> {
+    match tables {
+        Some(tables) => {
+            let tables: &RouterTables = tables;
+            Some(tables)
+        }
+        None => None,
+    }
+}
+
+/// Closes the present connection, publishes that it closed and why, and tells the port. Out of memory, it is closed, the
+/// pass is as before, and the port is told no cause.
 pub fn close_connection<B: BodyReading, J: Naming, P: FeedPort<B, J>, R: Wait>(
     rt: &R,
     alloc: Global,
@@ -118,7 +131,18 @@ pub fn close_connection<B: BodyReading, J: Naming, P: FeedPort<B, J>, R: Wait>(
     ensures closes { Closes (P.aside port.old) (P.aside port.new) }
     ensures calls { P.calls port.new ≡ P.calls port.old }
     ensures began { P.last_began port.new ≡ P.last_began port.old }
+    ensures told { MatchResult result (λ _. P.causes port.new ≡ told_after (P.causes port.old) (Some cause)) (λ _. P.causes port.new ≡ told_after (P.causes port.old) None) }
 {
     port.close();
-    publish_entries(rt, alloc, publisher, pass, &[Entry::Closed(cause)])
+    let tables = pass.last();
+    match publish_entries(rt, alloc, publisher, pass, &[Entry::Closed(cause)]) {
+        Ok(()) => {
+            port.ended(lent(&tables), Some(cause));
+            Ok(())
+        }
+        Err(fault) => {
+            port.ended(lent(&tables), None);
+            Err(fault)
+        }
+    }
 }

@@ -1,12 +1,14 @@
 //! What a lane may do with its port.
-ghost use Rattle.std.specs.Prelude.{◌≡◌, ◌<◌, ℕ, [], length, Option, IfSome, OnErr, IsTrue};
+ghost use Rattle.std.specs.Prelude.{◌≡◌, ◌<◌, ℕ, List, [], length, Option, IfSome, OnErr, IsTrue};
 ghost use Rattle.std.specs.Io.{ReadsAtMost};
 ghost use Rattle.rib_model.specs.Entries.{entry_values};
 ghost use Rattle.wire_io.specs.Aside.{Aside};
-ghost use Rattle.station_doors.specs.Doors.{Opens, Reads, Closes, AsPlanned, read_size};
+ghost use Rattle.bmp_specs.specs.declared.causes.Cause.{Cause};
+ghost use Rattle.station_doors.specs.Doors.{Opens, Reads, Closes, AsPlanned, read_size, told_after};
 ghost use Rattle.feed_worker.specs.FeedPort.{BeginsAfter, IsAtRest, IsPublishedWhereTold};
 
 use bmp_message::BodyReading;
+use bmp_specs::Cause;
 use cut_publisher::{FeedPass, Naming};
 use router_tables::RouterTables;
 use wire_io::Failed;
@@ -27,6 +29,9 @@ pub trait FeedPort<B: BodyReading, J: Naming> {
     /// what stays published where memory runs out.
     ghost last_began: { Self → Option ℕ };
 
+    /// Why its connections ended, in the order in which it was told, where it keeps that.
+    ghost causes: { Self → Option (List Cause) };
+
     /// Opens the next connection, as a `Port` does, for the pass of a lane of this station. A lane may wait here for
     /// days. Nothing of the earlier connections is unpublished then: the pass has no entry, or the last one is a
     /// closing. Where one of them was read, its opening is among the entries, so the last one is its closing.
@@ -36,7 +41,8 @@ pub trait FeedPort<B: BodyReading, J: Naming> {
         ensures opens { Opens (aside self.old) (aside self.new) result }
         ensures planned { IfSome (aside self.old).plan (λ plan. OnErr result (plan.fails ≡ [] → ⊥)) }
         ensures calls { calls self.new ≡ calls self.old }
-        ensures began { last_began self.new ≡ last_began self.old };
+        ensures began { last_began self.new ≡ last_began self.old }
+        ensures causes { causes self.new ≡ causes self.old };
 
     /// Gives the next bytes of the present connection, as a `Port` does, to the pass of a lane of this station. Where
     /// its bytes are told, the entries of the pass since its last opening are exactly the messages of the bytes given
@@ -50,12 +56,22 @@ pub trait FeedPort<B: BodyReading, J: Naming> {
         ensures bound { ReadsAtMost result buf.new }
         ensures reads { Reads (aside self.old) (aside self.new) result buf.new }
         ensures planned { AsPlanned (aside self.old).plan (calls self.old) (calls self.new) result }
-        ensures began { BeginsAfter (last_began self.old) (last_began self.new) (aside self.old).taken };
+        ensures began { BeginsAfter (last_began self.old) (last_began self.new) (aside self.old).taken }
+        ensures causes { causes self.new ≡ causes self.old };
 
     /// Closes the present connection, as a `Port` does.
     fn close(&mut self)
         requires { IsTrue (aside self.old).is_open }
         ensures closes { Closes (aside self.old) (aside self.new) }
         ensures calls { calls self.new ≡ calls self.old }
-        ensures began { last_began self.new ≡ last_began self.old };
+        ensures began { last_began self.new ≡ last_began self.old }
+        ensures causes { causes self.new ≡ causes self.old };
+
+    /// Is told how the last connection ended, which was closed, as a `Port` is: for this cause, whose closing was
+    /// published, or, without one, for want of memory. These are the lane's tables as they were before that closing.
+    fn ended(&mut self, tables: Option<&RouterTables>, cause: Option<Cause>)
+        ensures aside { aside self.new ≡ aside self.old }
+        ensures calls { calls self.new ≡ calls self.old }
+        ensures began { last_began self.new ≡ last_began self.old }
+        ensures causes { causes self.new ≡ told_after (causes self.old) cause };
 }

@@ -3,9 +3,10 @@ ghost use Rattle.std.specs.Prelude.{◌≡◌, None};
 
 use crate::feed_port::FeedPort;
 use bmp_message::BodyReading;
+use bmp_specs::Cause;
 use cut_publisher::{FeedPass, Naming};
 use router_tables::RouterTables;
-use station_doors::Port;
+use station_doors::{Ended, Port};
 use std::marker::Model;
 use wire_io::Failed;
 
@@ -38,12 +39,37 @@ impl<P: Port + Drop> LanePort<P> {
     }
 }
 
+// How a connection ended that had left these tables. Without tables nothing is counted.
+fn ended_with(tables: Option<&RouterTables>, cause: Option<Cause>) -> Ended<'_>
+    ensures { result.cause ≡ cause }
+{
+    match tables {
+        Some(tables) => {
+            let counts = tables.counts();
+            Ended {
+                cause,
+                messages: counts.messages,
+                bytes: counts.bytes,
+                name: tables.name(),
+            }
+        }
+        None => Ended {
+            cause,
+            messages: 0,
+            bytes: 0,
+            name: &[],
+        },
+    }
+}
+
 impl<P: Port, B: BodyReading, J: Naming> FeedPort<B, J> for LanePort<P> {
     ghost aside = { P.aside };
 
     ghost calls = { P.calls };
 
     ghost last_began = { λ _. None };
+
+    ghost causes = { P.causes };
 
     fn next_connection(&mut self, _pass: &FeedPass<RouterTables>) -> Result<bool, Failed> {
         self.port.next_connection()
@@ -55,5 +81,9 @@ impl<P: Port, B: BodyReading, J: Naming> FeedPort<B, J> for LanePort<P> {
 
     fn close(&mut self) {
         self.port.close();
+    }
+
+    fn ended(&mut self, tables: Option<&RouterTables>, cause: Option<Cause>) {
+        self.port.ended(&ended_with(tables, cause));
     }
 }

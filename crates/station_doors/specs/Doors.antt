@@ -1,6 +1,7 @@
 -- What ports and yards tell, and what their calls do to it.
 use Rattle.std.specs.Prelude.{◌≡◌, ℕ, ◌+◌, ◌-◌, ◌^◌, ◌<◌, min, Bool, true, false, List, [], ◌∷◌, ◌++◌, take, Option, Some, None, Result, Ok, Err, Contains, ◌⊎◌, nat_eq, if◌then◌else◌}
 use Rattle.std.specs.Io.KnownBytes.{ReadConsumes}
+use Rattle.bmp_specs.specs.declared.causes.Cause.{Cause}
 use Rattle.bmp_specs.specs.Life.{LastRead, gave, gave_none, failed, most_taken, most_read, Given}
 use Rattle.wire_io.specs.declared.sink.Failed.{Failed}
 use Rattle.wire_io.specs.Aside.{Aside, Plan, fresh}
@@ -155,6 +156,12 @@ went_so (Err e) = failed
 abbrev pub Went : Option (List LastRead) → Option (List LastRead) → Result ℕ Failed → Type 0
 Went None new result = new ≡ None
 Went (Some old) new result = new ≡ Some (went_so result ∷ old)
+
+-- the causes told, where they are kept, after one more was told, or none for want of memory
+abbrev pub told_after : Option (List Cause) → Option Cause → Option (List Cause)
+told_after None cause = None
+told_after (Some told) None = Some told
+told_after (Some told) (Some cause) = Some (told ++ cause ∷ [])
 
 -- how many bytes are asked for, where so many were taken of the connection
 abbrev pub read_size : ℕ → ℕ

@@ -1,13 +1,35 @@
 -- A port in memory.
-use Rattle.std.specs.Prelude.{◌≡◌, ℕ, List, [], slice_get, unwrap_or, min, length, Result, IfOk}
+use Rattle.std.specs.Prelude.{◌≡◌, ℕ, zero, suc, List, [], ◌∷◌, ◌++◌, slice_get, unwrap_or, min, length, Result, IfOk}
+use Rattle.bmp_specs.specs.declared.causes.Cause.{Cause}
+use Rattle.bmp_specs.specs.declared.causes.Cause.TheVariants.{Ended, Terminated, CutShort, Broken, ReadFault, Full}
+use Rattle.bmp_specs.specs.declared.causes.Why.TheVariants.{Version, Length, Body}
+use Rattle.disk_doors.specs.Note.{Event}
 use Rattle.wire_io.specs.declared.sink.Failed.{Failed}
 use Rattle.wire_io.specs.Aside.{Aside}
 
--- what it shows, how many bytes its reads give at most, and how many reads were made
+-- what it shows, how many bytes its reads give at most, how many reads were made, and why its connections ended, as it was
+-- told
 pub record MemPortValue : Type 0 where
   pub shows : Aside
   pub pieces : List ℕ
   pub reads : ℕ
+  pub causes : List Cause
+
+-- the cause that is noted by this number and this offset
+abbrev pub cause_of : ℕ → ℕ → Cause
+cause_of zero offset = Ended
+cause_of (suc zero) offset = Terminated
+cause_of (suc (suc zero)) offset = CutShort offset
+cause_of (suc (suc (suc zero))) offset = ReadFault offset
+cause_of (suc (suc (suc (suc zero)))) offset = Full
+cause_of (suc (suc (suc (suc (suc zero))))) offset = Broken offset Version
+cause_of (suc (suc (suc (suc (suc (suc zero)))))) offset = Broken offset Length
+cause_of (suc (suc (suc (suc (suc (suc (suc n))))))) offset = Broken offset Body
+
+-- the causes that were noted, the first one first; a note has the last one first
+abbrev pub causes_in : List Event → List Cause
+causes_in [] = []
+causes_in (e ∷ es) = causes_in es ++ cause_of e.0 e.1 ∷ []
 
 -- how many bytes the read of this number gives at most, where the buffer has so many
 abbrev pub most_of : List ℕ → ℕ → ℕ → ℕ

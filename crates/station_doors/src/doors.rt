@@ -2,14 +2,15 @@ ghost use Rattle.std.specs.Prelude.{◌≡◌, ℕ, ◌<◌, ◌≤◌, List, Op
 ghost use Rattle.std.specs.Io.{ReadsAtMost};
 ghost use Rattle.std.specs.Io.KnownBytes.{Keeps};
 ghost use Rattle.bmp_specs.specs.Life.{LastRead};
+ghost use Rattle.bmp_specs.specs.declared.causes.Cause.{Cause};
 ghost use Rattle.wire_io.specs.Aside.{Aside};
 ghost use Rattle.wire_io.specs.Faults.{HasCause};
-ghost use Rattle.station_doors.specs.Doors.{Opens, Reads, Closes, AsPlanned, MadeOver, Went, noted_writes, read_size, heard_size, YardSeen, CountsCall, LeavesRest, IsLane, askers_of, Listens, HandsOut, HandsOutLink, TakesBack, TakesLinkBack, KeepsEnding, one_more};
+ghost use Rattle.station_doors.specs.Doors.{Opens, Reads, Closes, AsPlanned, MadeOver, Went, noted_writes, read_size, heard_size, YardSeen, CountsCall, LeavesRest, IsLane, askers_of, Listens, HandsOut, HandsOutLink, TakesBack, TakesLinkBack, KeepsEnding, one_more, told_after};
 ghost use Rattle.station_doors.specs.Disks.{HandsOutDisk, TakesDiskBack};
 ghost use Rattle.station_doors.specs.Files.{GivesFile, HasFileCause};
 ghost use Rattle.station_doors.specs.declared.listening.Listening.{Listening};
 
-use crate::{FileFault, Listening};
+use crate::{Ended, FileFault, Listening};
 use disk_doors::Disk;
 use std::alloc::Global;
 use wire_io::{ByteList, Failed, Sink};
@@ -28,6 +29,9 @@ pub trait Port {
     /// How its reads went, the last first, where it keeps that.
     ghost went: { Self → Option (List LastRead) } = { λ _. None };
 
+    /// Why its connections ended, in the order in which it was told, where it keeps that.
+    ghost causes: { Self → Option (List Cause) } = { λ _. None };
+
     /// Opens the next connection, of which no byte was given. False where there is none. It fails only
     /// where the plan, if it is shown, has a call that fails.
     fn next_connection(&mut self) -> Result<bool, Failed>
@@ -35,7 +39,8 @@ pub trait Port {
         ensures planned { IfSome (aside self.old).plan (λ plan. OnErr result (plan.fails ≡ [] → ⊥)) }
         ensures calls { calls self.new ≡ calls self.old }
         ensures stays { stays self.new ≡ stays self.old }
-        ensures went { went self.new ≡ went self.old };
+        ensures went { went self.new ≡ went self.old }
+        ensures causes { causes self.new ≡ causes self.old };
 
     /// Gives the next bytes of the present connection, which is open: at least one, or none at its end. It
     /// is asked for 65,536 bytes, or for what is left up to 2^46 bytes of one connection.
@@ -47,7 +52,8 @@ pub trait Port {
         ensures reads { Reads (aside self.old) (aside self.new) result buf.new }
         ensures planned { AsPlanned (aside self.old).plan (calls self.old) (calls self.new) result }
         ensures stays { stays self.new ≡ stays self.old }
-        ensures went { Went (went self.old) (went self.new) result };
+        ensures went { Went (went self.old) (went self.new) result }
+        ensures causes { causes self.new ≡ causes self.old };
 
     /// Closes the present connection, which is open. Nothing is read of it after that.
     fn close(&mut self)
@@ -55,7 +61,17 @@ pub trait Port {
         ensures closes { Closes (aside self.old) (aside self.new) }
         ensures calls { calls self.new ≡ calls self.old }
         ensures stays { stays self.new ≡ stays self.old }
-        ensures went { went self.new ≡ went self.old };
+        ensures went { went self.new ≡ went self.old }
+        ensures causes { causes self.new ≡ causes self.old };
+
+    /// Is told how the last connection ended, which was closed. A real port may say so to whoever runs the station.
+    /// Nothing that contracts see changes but the causes that were told.
+    fn ended(&mut self, end: &Ended<'_>)
+        ensures aside { aside self.new ≡ aside self.old }
+        ensures calls { calls self.new ≡ calls self.old }
+        ensures stays { stays self.new ≡ stays self.old }
+        ensures went { went self.new ≡ went self.old }
+        ensures causes { causes self.new ≡ told_after (causes self.old) end.now.cause };
 }
 
 /// The place of one client, which gives one connection after another and takes what is written to it. Its count

@@ -3,9 +3,9 @@ ghost use Rattle.std.specs.Io.KnownBytes.{ReadConsumes};
 ghost use Rattle.station_doors.specs.Counts.{rest_of};
 ghost use Rattle.station_doors.specs.Doors.{Opens, Closes};
 
-use crate::Port;
 use crate::counts::Counts;
 use crate::sockets::{accept_next, read_stream};
+use crate::{Ended, Port};
 use std::io::{self, Read};
 use std::net::{TcpListener, TcpStream};
 use std::time::Clock;
@@ -127,4 +127,8 @@ impl<'a, R: Read + Drop, N: Clock + Sync> Port for HostPort<'a, R, N> {
         self.stream = None;
         self.counts.close();
     }
+
+    fn ended(&mut self, _end: &Ended<'_>)
+        ensures same { self.new ≡ self.old }
+    {}
 }

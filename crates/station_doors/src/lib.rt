@@ -16,6 +16,7 @@
 mod connections;
 mod counts;
 mod doors;
+mod ended;
 mod files;
 mod host;
 mod host_fault;
@@ -31,12 +32,13 @@ mod sure_link;
 mod sure_port;
 
 pub use doors::{Link, Port, Yard};
+pub use ended::Ended;
 pub use files::FileFault;
 pub use host::HostYard;
 pub use host_fault::HostFault;
 pub use host_link::HostLink;
 pub use host_port::HostPort;
-pub use listening::Listening;
+pub use listening::{Listening, Log};
 pub use mem_link::MemLink;
 pub use mem_port::MemPort;
 pub use mem_yard::{LinkList, MemYard, PortList};

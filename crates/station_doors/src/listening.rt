@@ -1,5 +1,18 @@
 use ip_prefix::Addr;
 
+/// What a station says of its connections on standard error.
+#[derive(Clone, Copy, Debug)]
+pub enum Log {
+    /// Only what needs somebody: a lane that stopped, or that waits.
+    None,
+
+    /// Routers that come and go too.
+    Routers,
+
+    /// And clients that come and go.
+    Clients,
+}
+
 /// What a yard was asked to listen for.
 ///
 /// Lane n listens at `feed_port + n` and asker n at `ask_port + n`. Where the ports are shared, all lanes listen at
@@ -28,4 +41,7 @@ pub struct Listening {
 
     /// The same of a client's, and of one that takes nothing of what is written to it.
     pub ask_idle: Option<u32>,
+
+    /// What is said of its connections.
+    pub log: Log,
 }

@@ -1,10 +1,13 @@
-ghost use Rattle.std.specs.Prelude.{◌≡◌, ◌<◌, [], length, slice_get, unwrap_or, All, IfOk, IfSome, OnErr, IsTrue};
+ghost use Rattle.std.specs.Prelude.{◌≡◌, ◌<◌, ◌++◌, [], ◌∷◌, Some, length, slice_get, unwrap_or, All, IfOk, IfSome, OnErr, IsTrue};
 ghost use Rattle.std.specs.Io.{ReadsAtMost};
 ghost use Rattle.wire_io.specs.Aside.{Plan};
-ghost use Rattle.station_doors.specs.Doors.{Reads, AsPlanned, Opens, Closes, read_size, untouched};
+ghost use Rattle.station_doors.specs.Doors.{Reads, AsPlanned, Opens, Closes, read_size, told_after, untouched};
+ghost use Rattle.station_doors.specs.MemPort.{causes_in};
 
-use crate::Port;
 use crate::connections::Connections;
+use crate::{Ended, Port};
+use bmp_specs::{Cause, Why};
+use disk_doors::Notes;
 use std::alloc::Global;
 use std::marker::Model;
 use wire_io::{ByteList, Failed, NoMemory};
@@ -19,16 +22,18 @@ pub struct MemPort {
     pieces: Vec<u32>,
     fails: Vec<u64>,
     reads: u64,
+    // The causes that it was told.
+    notes: Notes,
 }
 
 impl Model for MemPort {
     ghost use Rattle.std.specs.Prelude.{◌<◌, All};
-    ghost use Rattle.station_doors.specs.MemPort.{MemPortValue};
+    ghost use Rattle.station_doors.specs.MemPort.{MemPortValue, causes_in};
     ghost use Rattle.station_doors.specs.Connections.{port_shows};
 
     ghost Value = { MemPortValue };
 
-    ghost view = { λ p. record { shows = port_shows p.fails.items p.connections; pieces = p.pieces.items; reads = p.reads } };
+    ghost view = { λ p. record { shows = port_shows p.fails.items p.connections; pieces = p.pieces.items; reads = p.reads; causes = causes_in p.notes.events } };
 
     ghost invariant = { λ p. All (λ n. 0 < n) p.pieces.items };
 }
@@ -42,7 +47,7 @@ impl MemPort {
         fails: &[u64],
     ) -> Result<MemPort, NoMemory>
         requires { All (λ n. 0 < n) pieces.now }
-        ensures { IfOk result (λ port. port ≡ record { shows = untouched (record { connections = connections.now; fails = fails.now }); pieces = pieces.now; reads = 0 }) }
+        ensures { IfOk result (λ port. port ≡ record { shows = untouched (record { connections = connections.now; fails = fails.now }); pieces = pieces.now; reads = 0; causes = [] }) }
     {
         let connections = Connections::new(alloc, connections)?;
         let pieces = Vec::from_slice(alloc, pieces)?;
@@ -52,6 +57,7 @@ impl MemPort {
             pieces,
             fails,
             reads: 0,
+            notes: Notes::new(),
         })
     }
 }
@@ -69,12 +75,32 @@ pub(crate) fn piece_at(pieces: &[u32], call: u64, size: usize) -> usize
     }
 }
 
+// Notes why a connection ended, by numbers that `specs/MemPort.antt` reads.
+fn note_cause(notes: &mut Notes, cause: Cause)
+    ensures { causes_in notes.new.events ≡ causes_in notes.old.events ++ cause ∷ [] }
+{
+    match cause {
+        Cause::Ended => notes.note(&[0, 0], &[]),
+        Cause::Terminated => notes.note(&[1, 0], &[]),
+        Cause::CutShort { offset } => notes.note(&[2, offset], &[]),
+        Cause::ReadFault { offset } => notes.note(&[3, offset], &[]),
+        Cause::Full => notes.note(&[4, 0], &[]),
+        Cause::Broken { offset, why } => match why {
+            Why::Version => notes.note(&[5, offset], &[]),
+            Why::Length => notes.note(&[6, offset], &[]),
+            Why::Body => notes.note(&[7, offset], &[]),
+        },
+    }
+}
+
 impl Port for MemPort {
     ghost use Rattle.station_doors.specs.MemPort.{GivesPiece};
 
     ghost aside = { λ p. p.shows };
 
     ghost calls = { λ p. p.reads };
+
+    ghost causes = { λ p. Some p.causes };
 
     fn next_connection(&mut self) -> Result<bool, Failed>
         ensures opens { Opens self.old.shows self.new.shows result }
@@ -92,6 +118,7 @@ impl Port for MemPort {
         ensures reads { Reads self.old.shows self.new.shows result buf.new }
         ensures planned { AsPlanned self.old.shows.plan self.old.reads self.new.reads result }
         ensures pieces { self.new.pieces ≡ self.old.pieces }
+        ensures causes { self.new.causes ≡ self.old.causes }
         ensures count { GivesPiece self.old result (length buf.old) }
     {
         let call = self.reads;
@@ -110,5 +137,14 @@ impl Port for MemPort {
         ensures same { self.new ≡ record self.old { shows = self.new.shows } }
     {
         self.connections.close();
+    }
+
+    fn ended(&mut self, end: &Ended<'_>)
+        ensures causes { Some self.new.causes ≡ told_after (Some self.old.causes) end.now.cause }
+        ensures same { self.new ≡ record self.old { causes = self.new.causes } }
+    {
+        if let Some(cause) = end.cause {
+            note_cause(&mut self.notes, cause);
+        }
     }
 }

@@ -3,8 +3,8 @@ ghost use Rattle.std.specs.Io.{ReadsAtMost};
 ghost use Rattle.wire_io.specs.Aside.{Plan};
 ghost use Rattle.station_doors.specs.Doors.{Reads, AsPlanned, Opens, Closes, read_size, untouched};
 
-use crate::Port;
 use crate::connections::Connections;
+use crate::{Ended, Port};
 use std::alloc::Global;
 use std::marker::Model;
 use wire_io::{ByteList, Failed, NoMemory};
@@ -94,4 +94,8 @@ impl Port for SurePort {
     {
         self.connections.close();
     }
+
+    fn ended(&mut self, _end: &Ended<'_>)
+        ensures same { self.new ≡ self.old }
+    {}
 }

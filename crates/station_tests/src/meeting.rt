@@ -13,7 +13,7 @@ use cut_publisher::Ending;
 use disk_doors::MemDisk;
 use router_tables::RouterTables;
 use station_doors::{
-    FileFault, Link, LinkList, Listening, MemLink, MemPort, MemYard, Port, PortList, Yard,
+    Ended, FileFault, Link, LinkList, Listening, MemLink, MemPort, MemYard, Port, PortList, Yard,
 };
 use station_top::station;
 use std::alloc::Global;
@@ -123,6 +123,8 @@ impl<'a> Port for Router<'a> {
     fn close(&mut self) {
         self.port.close();
     }
+
+    fn ended(&mut self, _end: &Ended<'_>) {}
 }
 
 // A link whose client asks once in front of all messages, and again when both lanes have published theirs.

@@ -5,7 +5,7 @@ ghost use Rattle.station_doors.specs.Doors.{Opens, Reads, Closes, AsPlanned, rea
 
 use cut_publisher::{AskPass, snapshot};
 use router_tables::RouterTables;
-use station_doors::{Port, SurePort};
+use station_doors::{Ended, Port, SurePort};
 use std::alloc::Global;
 use std::rt::Clock;
 use std::time::{Duration, Instant};
@@ -148,4 +148,6 @@ impl<'a, R: Clock> Port for Watch<'a, R> {
         self.closed = Instant::now(self.rt).ok();
         self.port.close();
     }
+
+    fn ended(&mut self, _end: &Ended<'_>) {}
 }

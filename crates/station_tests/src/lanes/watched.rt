@@ -10,7 +10,7 @@ use bmp_message::Reading;
 use cut_publisher::{AskList, AskPass, FeedPass, Naming, Publisher, Station, snapshot};
 use feed_worker::{LaneEnd, LanePort, serve_feed};
 use router_tables::RouterTables;
-use station_doors::{MemPort, Port};
+use station_doors::{Ended, MemPort, Port};
 use std::alloc::Global;
 use std::marker::Brand;
 use std::sync::Wait;
@@ -131,6 +131,8 @@ impl Port for Watch {
         self.look(Call::Close);
         self.port.close();
     }
+
+    fn ended(&mut self, _end: &Ended<'_>) {}
 }
 
 // What an asker sees of the lane of a new station that serves up to so many connections of this port.

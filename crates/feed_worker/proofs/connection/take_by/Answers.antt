@@ -1,11 +1,11 @@
-use Rattle.std.proofs.Common.{rules, ◌≡◌, ◌<◌, ◌≤◌, ◌+◌, ◌++◌, refl, length, take, drop, length-append, length-drop, length-take, arith}
+use Rattle.std.proofs.Common.{rules, ◌∙◌, ◌≡◌, ◌<◌, ◌≤◌, ◌+◌, ◌++◌, refl, length, take, drop, length-append, length-drop, length-take, arith}
 use Rattle.std.proofs.lemmas.List.{take-append-le}
 use Rattle.feed_worker.specs.Connection.{BreaksConnection}
 use Rattle.feed_worker.proofs.Taking.{taking_none, taking_more, is_published, ends, ends_early, faults, fills, breaks, breaks_none}
 use Rattle.feed_worker.proofs.connection.take_by.Goals as goal
 
-pub returns-in_err-publish_entries : goal.returns-in_err-publish_entries
-returns-in_err-publish_entries g c =
+pub returns-in_err-publish_entries-clause-taken : goal.returns-in_err-publish_entries-clause-taken
+returns-in_err-publish_entries-clause-taken g c =
     let none : BreaksConnection g.B.BodyReading.meaning (g.P.FeedPort.last_began c.args.port.now) (g.P.FeedPort.aside c.args.port.now) (g.P.FeedPort.aside c.args.port.now) c.args.pass.now c.publish_entries.new.pass =
     breaks_none g.B.BodyReading.meaning (g.P.FeedPort.last_began c.args.port.now) (g.P.FeedPort.aside c.args.port.now) c.args.pass.now c.publish_entries.new.pass c.requires.new c.in_err-publish_entries.ensures in
     search rules
@@ -15,6 +15,7 @@ loop-taken-init g c = record {
   taking = taking_none g.B.BodyReading.meaning g.B.BodyReading.state (g.P.FeedPort.aside c.args.port.now) c.args.pass.now c.publish_entries.new.pass c.args.walk.now c.requires.new c.in_ok-publish_entries.ensures c.requires.unfed c.requires.start;
   within = omega arith;
   room = refl;
+  causes = refl;
 }
 
 pub read-requires-clause-published : goal.read-requires-clause-published
@@ -35,24 +36,24 @@ publish_piece-requires-clause-room g c =
       published = t.published;
     }
 
-pub returns-in-Ok-eq0 : goal.returns-in-Ok-eq0
-returns-in-Ok-eq0 g c =
+pub returns-in-Ok-eq0-clause-taken : goal.returns-in-Ok-eq0-clause-taken
+returns-in-Ok-eq0-clause-taken g c =
     let l = c.loop-taken in
     let some : 0 < length c.read.new.buf = omega (arith, length-take c.min-size.result l.buf) in
     ends g.B.BodyReading.meaning g.B.BodyReading.state _ _ _ _ l.taken l.walk l.invariant.taking _ c.read.new.buf _ (rw c.in-Ok-eq0.field-0-test at c.in-Ok-eq0.ensures.reads) some c.loop-taken-test.true c.cause_of_end.ensures
 
-pub returns-in-Err : goal.returns-in-Err
-returns-in-Err g c =
+pub returns-in-Err-clause-taken : goal.returns-in-Err-clause-taken
+returns-in-Err-clause-taken g c =
     let l = c.loop-taken in
     faults g.B.BodyReading.meaning g.B.BodyReading.state _ _ _ _ l.taken l.walk l.invariant.taking _ c.read.new.buf _ _ _ c.in-Err.ensures.reads c.in-Err.ensures.planned c.loop-taken-test.true
 
-pub returns : goal.returns
-returns g c =
+pub returns-clause-taken : goal.returns-clause-taken
+returns-clause-taken g c =
     let l = c.loop-taken in
     fills g.B.BodyReading.meaning g.B.BodyReading.state _ _ _ _ l.taken l.walk l.invariant.taking (omega (arith, l.invariant.within))
 
-pub returns-in_err-cause-in-Ok : goal.returns-in_err-cause-in-Ok
-returns-in_err-cause-in-Ok g c =
+pub returns-in_err-cause-in-Ok-clause-taken : goal.returns-in_err-cause-in-Ok-clause-taken
+returns-in_err-cause-in-Ok-clause-taken g c =
     let l = c.loop-taken in
     let m = c.in-Ok.count in
     let buf = c.read.new.buf in
@@ -63,8 +64,8 @@ returns-in_err-cause-in-Ok g c =
     breaks g.B.BodyReading.meaning g.B.BodyReading.state _ _ _ _ l.taken l.walk l.invariant.taking _ m buf c.in-Ok.ensures.reads c.in-Ok.count-test.1 within size room c.publish_piece.new.pass (g.P.FeedPort.last_began l.port) (g.P.FeedPort.last_began c.read.new.self) c.in-Ok.ensures.began c.in_err-cause-in-Ok.ensures in
     search rules
 
-pub returns-in-Some : goal.returns-in-Some
-returns-in-Some g c =
+pub returns-in-Some-clause-taken : goal.returns-in-Some-clause-taken
+returns-in-Some-clause-taken g c =
     let l = c.loop-taken in
     let m = c.in-Ok.count in
     let buf = c.read.new.buf in
@@ -91,6 +92,7 @@ loop-taken-preserved g c =
       taking = taking_more g.B.BodyReading.meaning g.B.BodyReading.state _ _ _ _ l.taken l.walk t _ m buf c.in-Ok.ensures.reads c.in-Ok.count-test.1 within size room c.publish_piece.new.pass c.publish_piece.new.walk (published c.args.pass.now t.bytes t.published);
       within = room;
       room = omega (arith, length-append buf (drop c.min-size.result l.buf), length-take c.min-size.result l.buf, length-drop c.min-size.result l.buf, l.invariant.room);
+      causes = c.in-Ok.ensures.causes ∙ l.invariant.causes;
     }
 
 pub slice_bounds-buf-end-in-Ok : goal.slice_bounds-buf-end-in-Ok

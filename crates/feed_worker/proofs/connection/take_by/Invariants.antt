@@ -7,6 +7,7 @@ invariant-loop-taken g l = record {
   taking : Taking g.B.BodyReading.meaning g.B.BodyReading.state (g.P.FeedPort.aside l.initial.port) (g.P.FeedPort.aside l.port) l.fn.pass l.pass l.taken l.walk;
   within : l.taken ≤ 70368744177664;
   room : length l.buf ≡ 65536;
+  causes : g.P.FeedPort.causes l.port ≡ g.P.FeedPort.causes l.initial.port;
 }
 
 abbrev pub decreases-loop-taken : goal.decreases-loop-taken

@@ -8,4 +8,4 @@ pub serve_feed-work-requires-clause-at_rest : goal.serve_feed-work-requires-clau
 serve_feed-work-requires-clause-at_rest g c = inl (ap (λ (l : List Entry). entry_values l) c.requires.none)
 
 pub returns : goal.returns
-returns g c = record { serves = ends_untold g.B.BodyReading.meaning _ _ _ _ _ _ _ c.serve_feed-work.ensures }
+returns g c = record { serves = ends_untold g.B.BodyReading.meaning _ _ _ _ _ _ _ c.serve_feed-work.ensures.ends }
