@@ -89,6 +89,11 @@ impl Counts {
         self.is_open = false;
     }
 
+    // How many bytes the present connection gave.
+    pub(crate) fn taken(&self) -> u64 {
+        self.taken
+    }
+
     // Whether no connection was opened yet.
     pub(crate) fn is_unused(&self) -> bool {
         self.opened == 0

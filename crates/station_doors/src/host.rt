@@ -4,14 +4,16 @@ ghost use Rattle.station_doors.specs.Files.{HasFileCause};
 ghost use Rattle.station_doors.specs.Doors.{CountsCall, LeavesRest, askers_of, counts_only, one_more};
 
 use crate::files::read_whole;
-use crate::sockets::{MOST_PLACES, listen_at, take_listener};
-use crate::{FileFault, HostFault, HostLink, HostPort, Listening, Yard};
+use crate::log::{Place, PlaceLog, Places, say_listening};
+use crate::sockets::{MOST_PLACES, ip_of, listen_at, take_listener};
+use crate::{FileFault, HostFault, HostLink, HostPort, Lines, Listening, Log, Yard};
 use disk_doors::HostDisk;
 use std::alloc::Global;
 use std::fs;
 use std::fs::{File, Files};
 use std::io::{self, Read};
 use std::net::{Net, SocketAddr, TcpListener, TcpStream};
+use std::sync::Wait;
 use std::time::Clock;
 use wire_io::{ByteList, Failed, NoMemory};
 
@@ -20,7 +22,7 @@ use wire_io::{ByteList, Failed, NoMemory};
 /// Where it was asked to listen, lane n listens at `feed_port + n` and asker n at `ask_port + n`. Where the ports are
 /// shared, all lanes take their connections of one listener and all askers of another, and the system says which of them
 /// gets one. A yard that wasn't asked gives at port 0 what the reader gives, as one connection. Until then no call reads of
-/// the reader.
+/// the reader. Where it has a log, it says there where it listens, and its ports and links say what comes and goes.
 #[derive(Drop)]
 pub struct HostYard<'a, R, N> {
     input: Option<R>,
@@ -32,6 +34,7 @@ pub struct HostYard<'a, R, N> {
     faults: u64,
     endings: u64,
     fault: Option<HostFault>,
+    lines: Option<&'a Lines>,
 }
 
 impl<
@@ -39,9 +42,14 @@ impl<
     R: Read + Drop,
     N: Net<Listener = TcpListener, Stream = TcpStream> + Clock + Sync,
 > HostYard<'a, R, N> {
-    /// A yard over this input and this network, of which no call was made. It takes the memory for all its listeners
-    /// at once.
-    pub fn new(alloc: Global, input: R, net: &'a N) -> Result<HostYard<'a, R, N>, NoMemory>
+    /// A yard over this input and this network, with or without a log, of which no call was made. It takes the memory for
+    /// all its listeners at once.
+    pub fn new(
+        alloc: Global,
+        input: R,
+        net: &'a N,
+        lines: Option<&'a Lines>,
+    ) -> Result<HostYard<'a, R, N>, NoMemory>
         ensures input { IfOk result (λ y. y.input ≡ Some input) }
         ensures calls { IfOk result (λ y. y.calls ≡ 0) }
         ensures calm { IfOk result (λ y. y.faults ≡ 0) }
@@ -60,6 +68,7 @@ impl<
             faults: 0,
             endings: 0,
             fault: None,
+            lines,
         })
     }
 
@@ -77,6 +86,35 @@ impl<'a, R, N> HostYard<'a, R, N> {
     {
         self.fault = Some(HostFault { port, error });
     }
+}
+
+// What this place says in the log: all, or only what needs somebody.
+fn place_log<'a>(lines: Option<&'a Lines>, at: Option<Listening>, place: Place) -> PlaceLog<'a> {
+    let says_all = match (place, at) {
+        (_, None) => false,
+        (Place::Lane(_), Some(at)) => !matches!(at.log, Log::None),
+        (Place::Client(_), Some(at)) => matches!(at.log, Log::Clients),
+    };
+    PlaceLog {
+        lines,
+        place,
+        says_all,
+    }
+}
+
+// Says where the yard listens.
+fn say_at<N: Wait>(net: &N, lines: &Lines, at: &Listening) {
+    say_listening(
+        net,
+        lines,
+        &Places {
+            routers: SocketAddr::new(ip_of(&at.address), at.feed_port),
+            lanes: at.feeds,
+            clients: SocketAddr::new(ip_of(&at.ask_address), at.ask_port),
+            places: at.askers,
+            shared: at.shared,
+        },
+    );
 }
 
 // Listens for routers, and then for clients.
@@ -100,7 +138,7 @@ fn listen_all<N: Net<Listener = TcpListener, Stream = TcpStream>>(
 impl<
     'a,
     R: Read + Drop + Send,
-    N: Net<Listener = TcpListener, Stream = TcpStream> + Clock + Files<File = File> + Sync,
+    N: Net<Listener = TcpListener, Stream = TcpStream> + Clock + Files<File = File> + Wait + Sync,
 > Yard for HostYard<'a, R, N> {
     type Port = HostPort<'a, R, N>;
 
@@ -124,7 +162,14 @@ impl<
         self.calls = self.calls.saturating_add(1);
         self.listened = Some(*at);
         match listen_all(self.net, at, &mut self.feeds, &mut self.askers) {
-            Ok(()) => Ok(()),
+            Ok(()) => {
+                if let Some(lines) = self.lines
+                    && !matches!(at.log, Log::None)
+                {
+                    say_at(self.net, lines, at);
+                }
+                Ok(())
+            }
             Err(HostFault { port, error }) => {
                 self.feeds.clear();
                 self.askers.clear();
@@ -155,7 +200,8 @@ impl<
                 Some(at) => at.idle,
                 None => None,
             };
-            return Ok(HostPort::over(self.net, input, listener, idle));
+            let log = place_log(self.lines, self.listened, Place::Lane(lane));
+            return Ok(HostPort::over(self.net, input, listener, idle, log));
         }
         self.faults = self.faults.saturating_add(1);
         Err(Failed)
@@ -175,7 +221,8 @@ impl<
                     Some(at) => at.ask_idle,
                     None => None,
                 };
-                Ok(HostLink::over(self.net, listener, idle))
+                let log = place_log(self.lines, self.listened, Place::Client(number));
+                Ok(HostLink::over(self.net, listener, idle, log))
             }
             None => {
                 self.faults = self.faults.saturating_add(1);
@@ -234,7 +281,10 @@ impl<
         ensures calm { self.new.faults ≡ self.old.faults }
         ensures input { self.new.input ≡ self.old.input }
     {
-        if let Some(error) = port.into_reason() {
+        // Why a connection of a router ended is said in the log.
+        if self.listened.is_none()
+            && let Some(error) = port.into_reason()
+        {
             self.blame(None, error);
         }
     }

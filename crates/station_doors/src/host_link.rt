@@ -4,13 +4,16 @@ ghost use Rattle.wire_io.specs.Faults.{HasCause};
 
 use crate::Link;
 use crate::counts::Counts;
+use crate::log::PlaceLog;
 use crate::sockets::{accept_next, read_stream, write_stream};
-use std::net::{TcpListener, TcpStream};
+use std::net::{SocketAddr, TcpListener, TcpStream};
+use std::sync::Wait;
 use std::time::Clock;
 use wire_io::{Failed, Sink};
 
 /// A link over a listener. It tells nothing of content. A write to a client that went away is a fault, as any
-/// other write that fails, and a read or a write that waits for more than `idle` seconds.
+/// other write that fails, and a read or a write that waits for more than `idle` seconds. It says in the log of its yard
+/// what comes and goes.
 #[derive(Drop)]
 pub struct HostLink<'a, N> {
     clock: &'a N,
@@ -19,11 +22,19 @@ pub struct HostLink<'a, N> {
     stream: Option<TcpStream>,
     counts: Counts,
     faults: u64,
+    // Where the present connection comes from, or the last one came from.
+    from: Option<SocketAddr>,
+    log: PlaceLog<'a>,
 }
 
 impl<'a, N: Clock> HostLink<'a, N> {
     // A link over this listener, of which no call was made.
-    pub(crate) fn over(clock: &'a N, listener: TcpListener, idle: Option<u32>) -> HostLink<'a, N>
+    pub(crate) fn over(
+        clock: &'a N,
+        listener: TcpListener,
+        idle: Option<u32>,
+        log: PlaceLog<'a>,
+    ) -> HostLink<'a, N>
         ensures listener { result.listener ≡ listener }
         ensures calm { result.faults ≡ 0 }
     {
@@ -34,6 +45,8 @@ impl<'a, N: Clock> HostLink<'a, N> {
             stream: None,
             counts: Counts::new(),
             faults: 0,
+            from: None,
+            log,
         }
     }
 }
@@ -43,7 +56,7 @@ fn read_from(stream: &mut Option<TcpStream>, buf: &mut [u8]) -> Result<usize, Fa
     ensures { IfOk result (λ n. n ≤ length buf.new) }
 {
     match stream {
-        Some(stream) => read_stream(stream, buf),
+        Some(stream) => read_stream(stream, buf).map_err(|_| Failed),
         None => Err(Failed),
     }
 }
@@ -82,9 +95,16 @@ impl<'a, N: Clock> Sink for HostLink<'a, N> {
     }
 }
 
-impl<'a, N: Clock + Sync> Link for HostLink<'a, N> {
+impl<'a, N: Clock + Wait + Sync> Link for HostLink<'a, N> {
     fn next_connection(&mut self) -> Result<bool, Failed> {
-        self.stream = accept_next(self.clock, &self.listener, self.idle);
+        self.stream = accept_next(self.clock, &self.listener, self.idle, &self.log);
+        self.from = match &self.stream {
+            Some(stream) => stream.peer_addr().ok(),
+            None => None,
+        };
+        if self.stream.is_some() {
+            self.log.connected(self.clock, self.from);
+        }
         let came = if self.stream.is_some() {
             Some(true)
         } else {
@@ -99,6 +119,7 @@ impl<'a, N: Clock + Sync> Link for HostLink<'a, N> {
     }
 
     fn close(&mut self) {
+        self.log.left(self.clock, self.from, self.counts.taken());
         self.stream = None;
         self.counts.close();
     }

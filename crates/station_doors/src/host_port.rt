@@ -4,16 +4,18 @@ ghost use Rattle.station_doors.specs.Counts.{rest_of};
 ghost use Rattle.station_doors.specs.Doors.{Opens, Closes};
 
 use crate::counts::Counts;
+use crate::log::PlaceLog;
 use crate::sockets::{accept_next, read_stream};
 use crate::{Ended, Port};
 use std::io::{self, Read};
-use std::net::{TcpListener, TcpStream};
+use std::net::{SocketAddr, TcpListener, TcpStream};
+use std::sync::Wait;
 use std::time::Clock;
 use wire_io::Failed;
 
 /// A port over a reader, which has one connection, or over a listener, which has one after another. Over a reader it
 /// tells what the reader tells, over a listener nothing of content. A connection of a listener that says nothing for
-/// `idle` seconds is a fault of the read that waits.
+/// `idle` seconds is a fault of the read that waits. It says in the log of its yard what comes and goes.
 #[derive(Drop)]
 pub struct HostPort<'a, R, N> {
     clock: &'a N,
@@ -22,7 +24,11 @@ pub struct HostPort<'a, R, N> {
     idle: Option<u32>,
     stream: Option<TcpStream>,
     counts: Counts,
+    // Why the last read of the present connection failed, where it did.
     reason: Option<io::Error>,
+    // Where the present connection comes from, or the last one came from.
+    from: Option<SocketAddr>,
+    log: PlaceLog<'a>,
 }
 
 impl<'a, R: Drop, N: Clock> HostPort<'a, R, N> {
@@ -32,6 +38,7 @@ impl<'a, R: Drop, N: Clock> HostPort<'a, R, N> {
         input: Option<R>,
         listener: Option<TcpListener>,
         idle: Option<u32>,
+        log: PlaceLog<'a>,
     ) -> HostPort<'a, R, N>
         ensures input { result.input ≡ input }
         ensures listener { result.listener ≡ listener }
@@ -44,33 +51,36 @@ impl<'a, R: Drop, N: Clock> HostPort<'a, R, N> {
             stream: None,
             counts: Counts::new(),
             reason: None,
+            from: None,
+            log,
         }
     }
 
-    // Why the last read of its reader that failed did so.
+    // Why the last read that failed did so.
     pub(crate) fn into_reason(self) -> Option<io::Error> {
         self.reason
     }
 }
 
 // The connection that comes next: true with one, false where there is none. None where that failed.
-fn come<N: Clock>(
+fn come<N: Clock + Wait>(
     clock: &N,
     idle: Option<u32>,
+    log: &PlaceLog<'_>,
     listener: &Option<TcpListener>,
     stream: &mut Option<TcpStream>,
     is_first: bool,
 ) -> Option<bool> {
     match listener {
         Some(listener) => {
-            *stream = accept_next(clock, listener, idle);
+            *stream = accept_next(clock, listener, idle, log);
             if stream.is_some() { Some(true) } else { None }
         }
         None => Some(is_first),
     }
 }
 
-// Reads from the input, or else from the stream. It fails too where there is neither. Why the input failed is kept.
+// Reads from the input, or else from the stream. It fails too where there is neither. Why that failed is kept.
 fn read_from<R: Read>(
     input: &mut Option<R>,
     stream: &mut Option<TcpStream>,
@@ -90,12 +100,18 @@ fn read_from<R: Read>(
         };
     }
     match stream {
-        Some(stream) => read_stream(stream, buf),
+        Some(stream) => match read_stream(stream, buf) {
+            Ok(count) => Ok(count),
+            Err(error) => {
+                *reason = Some(error);
+                Err(Failed)
+            }
+        },
         None => Err(Failed),
     }
 }
 
-impl<'a, R: Read + Drop, N: Clock + Sync> Port for HostPort<'a, R, N> {
+impl<'a, R: Read + Drop, N: Clock + Wait + Sync> Port for HostPort<'a, R, N> {
     ghost aside = { λ p. record p.counts { rest = rest_of R.remaining p.input } };
 
     fn next_connection(&mut self) -> Result<bool, Failed>
@@ -107,10 +123,19 @@ impl<'a, R: Read + Drop, N: Clock + Sync> Port for HostPort<'a, R, N> {
         let came = come(
             self.clock,
             self.idle,
+            &self.log,
             &self.listener,
             &mut self.stream,
             is_first,
         );
+        self.reason = None;
+        self.from = match &self.stream {
+            Some(stream) => stream.peer_addr().ok(),
+            None => None,
+        };
+        if self.stream.is_some() {
+            self.log.connected(self.clock, self.from);
+        }
         self.counts.open(came)
     }
 
@@ -128,7 +153,10 @@ impl<'a, R: Read + Drop, N: Clock + Sync> Port for HostPort<'a, R, N> {
         self.counts.close();
     }
 
-    fn ended(&mut self, _end: &Ended<'_>)
+    fn ended(&mut self, end: &Ended<'_>)
         ensures same { self.new ≡ self.old }
-    {}
+    {
+        let error = self.reason.as_ref();
+        self.log.ended(self.clock, self.from, end, error, self.idle);
+    }
 }

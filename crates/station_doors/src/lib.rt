@@ -8,7 +8,7 @@
 //! `MemPort`, `MemLink` and `MemYard` hold everything in memory and tell it to contracts: the plan, each byte
 //! that was given, how the last read went, what was written, what came back, the files and the disks. `SurePort` and
 //! `SureLink` are of the same kind and never fail. `HostYard` is standard input, TCP and the files of the system, and
-//! tells counts, and what its input tells.
+//! tells counts, and what its input tells. It says in `Lines` what comes and goes, for one thread to write.
 //!
 //! Begin with `specs/Doors.antt`, which says what each call does to what is told, then `src/doors.rt`.
 #![tactic(auto)]
@@ -22,7 +22,10 @@ mod host;
 mod host_fault;
 mod host_link;
 mod host_port;
+mod line;
+mod lines;
 mod listening;
+mod log;
 mod mem_link;
 mod mem_port;
 mod mem_yard;
@@ -38,6 +41,7 @@ pub use host::HostYard;
 pub use host_fault::HostFault;
 pub use host_link::HostLink;
 pub use host_port::HostPort;
+pub use lines::Lines;
 pub use listening::{Listening, Log};
 pub use mem_link::MemLink;
 pub use mem_port::MemPort;

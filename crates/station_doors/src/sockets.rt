@@ -1,12 +1,13 @@
 ghost use Rattle.std.specs.Prelude.{◌≡◌, ◌<◌, ◌≤◌, Some, length, slice_get, IfOk, IfSome};
 
 use crate::HostFault;
+use crate::log::PlaceLog;
 use ip_prefix::{Addr, Family};
 use std::io::{self, ErrorKind, Read, Write};
 use std::net::{IpAddr, Net, SocketAddr, TcpListener, TcpStream};
+use std::sync::Wait;
 use std::thread::sleep;
 use std::time::{Clock, Duration};
-use wire_io::Failed;
 
 /// The most routers, and the most clients, that are listened for.
 pub const MOST_PLACES: u32 = 64;
@@ -130,24 +131,35 @@ fn prepare(stream: &TcpStream, idle: Option<u32>) -> io::Result<()> {
 }
 
 // Waits for the next connection, whose reads and writes then wait for `idle` seconds at most. One that is lost before it
-// is ready is passed over, and where the system has no room for one it is asked again a second later. None where that
-// failed for another cause.
-pub(crate) fn accept_next<C: Clock>(
+// is ready is passed over, and where the system has no room for one it is asked again a second later: the log says when
+// that begins and when it is over. None where that failed for another cause, which the log says too.
+pub(crate) fn accept_next<C: Clock + Wait>(
     clock: &C,
     listener: &TcpListener,
     idle: Option<u32>,
+    log: &PlaceLog<'_>,
 ) -> Option<TcpStream> {
+    let mut is_waiting = false;
     for stream in listener.incoming() {
         match stream {
             Ok(stream) => {
+                if is_waiting {
+                    is_waiting = false;
+                    log.waiting(clock, "there is room again");
+                }
                 if prepare(&stream, idle).is_ok() {
                     return Some(stream);
                 }
             }
             Err(error) => {
                 if is_crowded(&error) {
+                    if !is_waiting {
+                        is_waiting = true;
+                        log.waiting(clock, crowd_text(&error));
+                    }
                     sleep(clock, Duration::from_secs(1));
                 } else if !is_passing(error.kind()) {
+                    log.stopped(clock, &error);
                     return None;
                 }
             }
@@ -156,11 +168,20 @@ pub(crate) fn accept_next<C: Clock>(
     None
 }
 
+// What there is no room for.
+fn crowd_text(error: &io::Error) -> &'static str {
+    match error.raw_os_error() {
+        Some(EMFILE) => "too many open files",
+        Some(ENFILE) => "too many open files of the system",
+        _ => "no memory for a connection",
+    }
+}
+
 // The most times that a read or a write is made which signals break off. Each waits anew for all of its seconds.
 const MOST_TRIES: u32 = 1_000_000;
 
 // Reads from the stream. A read that a signal broke off is made again.
-pub(crate) fn read_stream(stream: &mut TcpStream, buf: &mut [u8]) -> Result<usize, Failed>
+pub(crate) fn read_stream(stream: &mut TcpStream, buf: &mut [u8]) -> io::Result<usize>
     ensures { IfOk result (λ n. n ≤ length buf.new) }
 {
     for _ in 0..MOST_TRIES {
@@ -168,12 +189,12 @@ pub(crate) fn read_stream(stream: &mut TcpStream, buf: &mut [u8]) -> Result<usiz
             Ok(count) => return Ok(count),
             Err(error) => {
                 if error.kind() != ErrorKind::Interrupted {
-                    return Err(Failed);
+                    return Err(error);
                 }
             }
         }
     }
-    Err(Failed)
+    Err(ErrorKind::Interrupted.into())
 }
 
 // Writes to the stream. A write that a signal broke off is made again. None where that failed, or took nothing.
