@@ -84,7 +84,7 @@ class Serving:
                       "--ask-port", self.ask_port, "--rounds", rounds]
 
     def __enter__(self):
-        self.child = subprocess.Popen([str(word) for word in self.words], stdout=subprocess.PIPE)
+        self.child = subprocess.Popen([str(word) for word in self.words], stdout=subprocess.PIPE, stderr=subprocess.DEVNULL)
         same(self.child.stdout.readline(), b"ready\n", "serve")
         return self
 

@@ -2,20 +2,25 @@
 //!
 //! It ends with the status that `station` answers. All that it does is proved and said there
 //! (`station_top`); what standard input and files hold and where standard output goes is not. Where a call ends in a fault
-//! that standard output doesn't name, a line on standard error says which; that line is tested alone.
+//! that standard output doesn't name, a line on standard error says which; that line is tested alone, and so is the thread
+//! that writes the log of `serve`.
 #![tactic(auto)]
 
 mod fault_line;
 
 use fault_line::say_fault;
-use station_doors::HostYard;
-use station_top::{Status, station};
+use station_doors::{HostYard, Lines};
+use station_top::{Command, Status, WordsFault, read_words, station};
+use std::alloc::Global;
+use std::fs::{File, Files};
 use std::io::ErrorKind;
+use std::net::{Net, TcpListener, TcpStream};
 use std::os::fd::AsRawFd;
 use std::process::ExitCode;
 use std::sync::Wait;
 use std::thread::Threads;
-use std::{fs, mem};
+use std::time::Clock;
+use std::{fs, mem, thread};
 use wire_io::{NoMemory, StdSink};
 
 // Opens the standard streams that are closed, so that nothing else gets their numbers: no line meant for one of them goes
@@ -52,13 +57,51 @@ fn words(rt: &HostRuntime) -> Result<Vec<String>, NoMemory> {
     Ok(words)
 }
 
-// Hands the station its threads, the words, standard input with the network and the files, and standard output.
-fn run<R: Threads + Wait + Sync>(rt: &HostRuntime, threads: &R) -> Result<Status, NoMemory> {
+// The log of a station that serves. Other commands have none.
+fn log_of(alloc: Global, words: &[String]) -> Result<Option<Lines>, NoMemory> {
+    match read_words(alloc, words) {
+        Ok(call) => match call.command {
+            Command::Serve(_) => Ok(Some(Lines::new(alloc)?)),
+            _ => Ok(None),
+        },
+        Err(WordsFault::Usage) => Ok(None),
+        Err(WordsFault::NoMemory) => Err(NoMemory),
+    }
+}
+
+// Hands the station its threads, the words, standard input with the network and the files, and standard output. Beside it
+// a thread writes the log, where there is one, and ends once all lines are written. Where no such thread can be had they
+// are written in the end.
+fn run<
+    R: Threads
+        + Wait
+        + Net<Listener = TcpListener, Stream = TcpStream>
+        + Files<File = File>
+        + Clock
+        + Sync,
+>(rt: &HostRuntime, system: &R) -> Result<Status, NoMemory> {
+    let alloc = rt.alloc();
     let words = words(rt)?;
-    let mut yard = HostYard::new(rt.alloc(), rt.stdin(), rt)?;
+    let words = words.as_slice();
+    let lines = log_of(alloc, words)?;
+    let mut yard = HostYard::new(alloc, rt.stdin(), system, lines.as_ref())?;
     let mut out = StdSink::new(rt.stdout());
-    let status = station(threads, rt.alloc(), words.as_slice(), &mut yard, &mut out);
-    let _ = say_fault(rt, rt.alloc(), status, words.as_slice(), yard.fault());
+    let status = match &lines {
+        Some(lines) => {
+            let (yard, out) = (&mut yard, &mut out);
+            thread::scope(thread::scope_env(), system, move |scope| {
+                let writer = scope.spawn(move || lines.write_to(system, &mut rt.stderr()));
+                let status = station(system, alloc, words, yard, out);
+                lines.end();
+                if writer.is_err() {
+                    lines.write_to(system, &mut rt.stderr());
+                }
+                status
+            })
+        }
+        None => station(system, alloc, words, &mut yard, &mut out),
+    };
+    let _ = say_fault(rt, alloc, status, words, yard.fault());
     Ok(status)
 }
 
