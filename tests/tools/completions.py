@@ -105,7 +105,7 @@ def completion_by_bash():
         same(offered("bmpstation", ""), commands | alone, "commands")
         same(offered("bmpstation", "re"), {"replay", "relay", "recall"}, "commands that begin with re")
         same(offered("bmpstation", "serve", ""), serve, "options of serve")
-        same(offered("bmpstation", "serve", "--lenient", "--feeds", "4", "--a"), {"--askers", "--ask-port", "--address", "--ask-address", "--ask-idle"}, "--a")
+        same(offered("bmpstation", "serve", "--lenient", "--feeds", "4", "--a"), {"--askers", "--ask-port", "--address", "--ask-address", "--ask-idle", "--ask-from"}, "--a")
         for words in ("--ports", ""), ("--ports", "="), ("--ports", "=", ""):
             same(offered("bmpstation", "serve", *words), {"each", "shared"}, words)
         same(offered("bmpstation", "serve", "--rounds", ""), {"forever"}, "--rounds")

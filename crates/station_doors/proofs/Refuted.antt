@@ -1,5 +1,11 @@
 -- What the clauses refuse: for each mistake that someone could make here, its result at one value.
-use Rattle.std.proofs.Common.{◌≡◌, ℕ, ◌^◌, true, false, List, [], ◌∷◌, map, length, refl, ap, arith, Option, Some, None, Ok, Err}
+use Rattle.std.specs.Net.Addr.{IsIpv4Mapped, ipv6_segments}
+use Rattle.std.specs.declared.net.ip_addr.IpAddr.TheVariants.{V6 as IpV6}
+use Rattle.std.specs.declared.net.ipv6_addr.Ipv6Addr.{Ipv6Addr}
+use Rattle.bmp_specs.specs.Values.{AddressValue, PrefixValue}
+use Rattle.bmp_specs.specs.declared.wire.Family.TheVariants.{V4, V6}
+use Rattle.station_doors.specs.Allowed.{ComesFrom, MayConnect}
+use Rattle.std.proofs.Common.{◌≡◌, ℕ, ◌^◌, true, false, List, [], ◌∷◌, map, length, get_or, refl, sym, ap, subst, ◌∙◌, inl, inr, arith, Option, Some, None, Ok, Err}
 use Rattle.wire_io.specs.Aside.{Aside, nothing_aside}
 use Rattle.disk_doors.specs.Disk.{DiskValue, nothing}
 use Rattle.station_doors.specs.Doors.{YardValue, Returned, Reads, TakesBackTold}
@@ -65,3 +71,19 @@ lent = record bare { out = 1 ∷ [] }
 
 a_port_does_not_come_back_under_another_number : TakesBackTold 1 nothing_aside lent (Some (record lent { out = []; back = record { lane = 0; shows = nothing_aside } ∷ [] })) → ⊥
 a_port_does_not_come_back_under_another_number t = absurd (cc (ap lanes_back (t.lent (0, omega arith, refl))))
+
+-- a prefix of IPv4 lets no IPv6 address in, however few bits it has
+ipv6_is_within_no_ipv4 : (prefix : PrefixValue) (address : AddressValue) → prefix.address.family ≡ V4 → address.family ≡ V6 → MayConnect (prefix ∷ []) address → ⊥
+ipv6_is_within_no_ipv4 prefix address four six (inl none) = cc none
+ipv6_is_within_no_ipv4 prefix address four six (inr (k, found, within, at, holds)) =
+    let first : k ≡ 0 = omega (arith, within) in
+    let same : prefix ≡ found = subst (λ (i : ℕ). get_or (prefix ∷ []) i found ≡ found) first at in
+    let both : V4 ≡ V6 = sym four ∙ ap (λ (p : PrefixValue). p.address.family) same ∙ holds.family ∙ six in
+    cc both
+
+-- an IPv4 router that comes to `::` is no IPv6 router
+mapped_is_no_ipv6 : (ip : Ipv6Addr) (address : AddressValue) → IsIpv4Mapped (ipv6_segments ip) → address.family ≡ V6 → ComesFrom (IpV6 ip) address → ⊥
+mapped_is_no_ipv6 ip address mapped six (inl (also, is)) =
+    let both : V6 ≡ V4 = sym six ∙ ap (λ (a : AddressValue). a.family) is in
+    cc both
+mapped_is_no_ipv6 ip address mapped six (inr (none, is)) = none mapped

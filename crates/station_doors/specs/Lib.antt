@@ -4,6 +4,7 @@ pub mod Paths
 pub mod Files
 pub mod Disks
 pub mod LastRead
+pub mod Allowed
 pub mod Connections
 pub mod MemPort
 pub mod SurePort

@@ -4,9 +4,8 @@ ghost use Rattle.station_doors.specs.Files.{HasFileCause};
 ghost use Rattle.station_doors.specs.Doors.{CountsCall, LeavesRest, askers_of, counts_only, one_more};
 
 use crate::files::read_whole;
-use crate::log::{Place, PlaceLog, Places, say_listening};
-use crate::sockets::{MOST_PLACES, ip_of, listen_at, take_listener};
-use crate::{FileFault, HostFault, HostLink, HostPort, Lines, Listening, Log, Yard};
+use crate::sockets::{MOST_PLACES, listen_at, take_listener};
+use crate::{Allowed, FileFault, HostFault, HostLink, HostPort, Listening, Yard};
 use disk_doors::HostDisk;
 use std::alloc::Global;
 use std::fs;
@@ -196,12 +195,11 @@ impl<
             (self.input.take(), None)
         };
         if input.is_some() || listener.is_some() {
-            let idle = match self.listened {
-                Some(at) => at.idle,
-                None => None,
+            let (idle, allowed) = match self.listened {
+                Some(at) => (at.idle, at.feed_from),
+                None => (None, Allowed::anywhere()),
             };
-            let log = place_log(self.lines, self.listened, Place::Lane(lane));
-            return Ok(HostPort::over(self.net, input, listener, idle, log));
+            return Ok(HostPort::over(self.net, input, listener, idle, allowed));
         }
         self.faults = self.faults.saturating_add(1);
         Err(Failed)
@@ -217,12 +215,11 @@ impl<
         self.calls = self.calls.saturating_add(1);
         match take_listener(&mut self.askers, number) {
             Some(listener) => {
-                let idle = match self.listened {
-                    Some(at) => at.ask_idle,
-                    None => None,
+                let (idle, allowed) = match self.listened {
+                    Some(at) => (at.ask_idle, at.ask_from),
+                    None => (None, Allowed::anywhere()),
                 };
-                let log = place_log(self.lines, self.listened, Place::Client(number));
-                Ok(HostLink::over(self.net, listener, idle, log))
+                Ok(HostLink::over(self.net, listener, idle, allowed))
             }
             None => {
                 self.faults = self.faults.saturating_add(1);

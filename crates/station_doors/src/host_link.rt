@@ -2,23 +2,23 @@ ghost use Rattle.std.specs.Prelude.{◌≡◌, ◌+◌, ◌-◌, ◌^◌, ◌<�
 ghost use Rattle.std.specs.Io.KnownBytes.{WriteAppends};
 ghost use Rattle.wire_io.specs.Faults.{HasCause};
 
-use crate::Link;
 use crate::counts::Counts;
 use crate::log::PlaceLog;
 use crate::sockets::{accept_next, read_stream, write_stream};
-use std::net::{SocketAddr, TcpListener, TcpStream};
-use std::sync::Wait;
+use crate::{Allowed, Link};
+use std::net::{TcpListener, TcpStream};
 use std::time::Clock;
 use wire_io::{Failed, Sink};
 
 /// A link over a listener. It tells nothing of content. A write to a client that went away is a fault, as any
-/// other write that fails, and a read or a write that waits for more than `idle` seconds. It says in the log of its yard
-/// what comes and goes.
+/// other write that fails, and a read or a write that waits for more than `idle` seconds. A connection from elsewhere than it
+/// may come from isn't taken.
 #[derive(Drop)]
 pub struct HostLink<'a, N> {
     clock: &'a N,
     listener: TcpListener,
     idle: Option<u32>,
+    allowed: Allowed,
     stream: Option<TcpStream>,
     counts: Counts,
     faults: u64,
@@ -33,7 +33,7 @@ impl<'a, N: Clock> HostLink<'a, N> {
         clock: &'a N,
         listener: TcpListener,
         idle: Option<u32>,
-        log: PlaceLog<'a>,
+        allowed: Allowed,
     ) -> HostLink<'a, N>
         ensures listener { result.listener ≡ listener }
         ensures calm { result.faults ≡ 0 }
@@ -42,6 +42,7 @@ impl<'a, N: Clock> HostLink<'a, N> {
             clock,
             listener,
             idle,
+            allowed,
             stream: None,
             counts: Counts::new(),
             faults: 0,
@@ -97,14 +98,7 @@ impl<'a, N: Clock> Sink for HostLink<'a, N> {
 
 impl<'a, N: Clock + Wait + Sync> Link for HostLink<'a, N> {
     fn next_connection(&mut self) -> Result<bool, Failed> {
-        self.stream = accept_next(self.clock, &self.listener, self.idle, &self.log);
-        self.from = match &self.stream {
-            Some(stream) => stream.peer_addr().ok(),
-            None => None,
-        };
-        if self.stream.is_some() {
-            self.log.connected(self.clock, self.from);
-        }
+        self.stream = accept_next(self.clock, &self.listener, self.idle, &self.allowed);
         let came = if self.stream.is_some() {
             Some(true)
         } else {

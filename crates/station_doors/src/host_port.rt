@@ -6,7 +6,7 @@ ghost use Rattle.station_doors.specs.Doors.{Opens, Closes};
 use crate::counts::Counts;
 use crate::log::PlaceLog;
 use crate::sockets::{accept_next, read_stream};
-use crate::{Ended, Port};
+use crate::{Allowed, Port};
 use std::io::{self, Read};
 use std::net::{SocketAddr, TcpListener, TcpStream};
 use std::sync::Wait;
@@ -15,13 +15,14 @@ use wire_io::Failed;
 
 /// A port over a reader, which has one connection, or over a listener, which has one after another. Over a reader it
 /// tells what the reader tells, over a listener nothing of content. A connection of a listener that says nothing for
-/// `idle` seconds is a fault of the read that waits. It says in the log of its yard what comes and goes.
+/// `idle` seconds is a fault of the read that waits; one from elsewhere than it may come from isn't taken.
 #[derive(Drop)]
 pub struct HostPort<'a, R, N> {
     clock: &'a N,
     input: Option<R>,
     listener: Option<TcpListener>,
     idle: Option<u32>,
+    allowed: Allowed,
     stream: Option<TcpStream>,
     counts: Counts,
     // Why the last read of the present connection failed, where it did.
@@ -38,7 +39,7 @@ impl<'a, R: Drop, N: Clock> HostPort<'a, R, N> {
         input: Option<R>,
         listener: Option<TcpListener>,
         idle: Option<u32>,
-        log: PlaceLog<'a>,
+        allowed: Allowed,
     ) -> HostPort<'a, R, N>
         ensures input { result.input ≡ input }
         ensures listener { result.listener ≡ listener }
@@ -48,6 +49,7 @@ impl<'a, R: Drop, N: Clock> HostPort<'a, R, N> {
             input,
             listener,
             idle,
+            allowed,
             stream: None,
             counts: Counts::new(),
             reason: None,
@@ -66,14 +68,14 @@ impl<'a, R: Drop, N: Clock> HostPort<'a, R, N> {
 fn come<N: Clock + Wait>(
     clock: &N,
     idle: Option<u32>,
-    log: &PlaceLog<'_>,
+    allowed: &Allowed,
     listener: &Option<TcpListener>,
     stream: &mut Option<TcpStream>,
     is_first: bool,
 ) -> Option<bool> {
     match listener {
         Some(listener) => {
-            *stream = accept_next(clock, listener, idle, log);
+            *stream = accept_next(clock, listener, idle, allowed);
             if stream.is_some() { Some(true) } else { None }
         }
         None => Some(is_first),
@@ -123,7 +125,7 @@ impl<'a, R: Read + Drop, N: Clock + Wait + Sync> Port for HostPort<'a, R, N> {
         let came = come(
             self.clock,
             self.idle,
-            &self.log,
+            &self.allowed,
             &self.listener,
             &mut self.stream,
             is_first,

@@ -13,6 +13,7 @@
 //! Begin with `specs/Doors.antt`, which says what each call does to what is told, then `src/doors.rt`.
 #![tactic(auto)]
 
+mod allowed;
 mod connections;
 mod counts;
 mod doors;
@@ -34,6 +35,7 @@ mod sockets;
 mod sure_link;
 mod sure_port;
 
+pub use allowed::{Allowed, MOST_ALLOWED};
 pub use doors::{Link, Port, Yard};
 pub use ended::Ended;
 pub use files::FileFault;
@@ -41,7 +43,6 @@ pub use host::HostYard;
 pub use host_fault::HostFault;
 pub use host_link::HostLink;
 pub use host_port::HostPort;
-pub use lines::Lines;
 pub use listening::{Listening, Log};
 pub use mem_link::MemLink;
 pub use mem_port::MemPort;

@@ -1,3 +1,4 @@
+use crate::Allowed;
 use ip_prefix::Addr;
 
 /// What a station says of its connections on standard error.
@@ -44,4 +45,10 @@ pub struct Listening {
 
     /// What is said of its connections.
     pub log: Log,
+
+    /// Where connections of routers may come from. Others are closed unread.
+    pub feed_from: Allowed,
+
+    /// The same of clients'.
+    pub ask_from: Allowed,
 }

@@ -1,7 +1,6 @@
 ghost use Rattle.std.specs.Prelude.{◌≡◌, ◌<◌, ◌≤◌, Some, length, slice_get, IfOk, IfSome};
 
-use crate::HostFault;
-use crate::log::PlaceLog;
+use crate::{Allowed, HostFault};
 use ip_prefix::{Addr, Family};
 use std::io::{self, ErrorKind, Read, Write};
 use std::net::{IpAddr, Net, SocketAddr, TcpListener, TcpStream};
@@ -130,22 +129,29 @@ fn prepare(stream: &TcpStream, idle: Option<u32>) -> io::Result<()> {
     stream.set_nodelay(true)
 }
 
+// Whether the stream comes from where it may. One whose other end is gone already comes from nowhere.
+fn may_come(stream: &TcpStream, allowed: &Allowed) -> bool {
+    match stream.peer_addr() {
+        Ok(from) => allowed.allows(&from.ip()),
+        Err(_) => false,
+    }
+}
+
 // Waits for the next connection, whose reads and writes then wait for `idle` seconds at most. One that is lost before it
-// is ready is passed over, and where the system has no room for one it is asked again a second later: the log says when
-// that begins and when it is over. None where that failed for another cause, which the log says too.
-pub(crate) fn accept_next<C: Clock + Wait>(
+// is ready is passed over, and one from elsewhere than `allowed` is closed before a byte of it is read. Where the system has
+// no room for one it is asked again a second later. None where that failed for another cause.
+pub(crate) fn accept_next<C: Clock>(
     clock: &C,
     listener: &TcpListener,
     idle: Option<u32>,
-    log: &PlaceLog<'_>,
+    allowed: &Allowed,
 ) -> Option<TcpStream> {
     let mut is_waiting = false;
     for stream in listener.incoming() {
         match stream {
             Ok(stream) => {
-                if is_waiting {
-                    is_waiting = false;
-                    log.waiting(clock, "there is room again");
+                if !may_come(&stream, allowed) {
+                    continue;
                 }
                 if prepare(&stream, idle).is_ok() {
                     return Some(stream);

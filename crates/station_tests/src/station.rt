@@ -8,7 +8,7 @@ use bmp_message::Reading;
 use cut_publisher::Ending;
 use ip_prefix::Addr;
 use router_tables::RouterTables;
-use station_doors::{Listening, MemYard};
+use station_doors::{Allowed, Listening, Log, MemYard};
 use station_run::{Outcome, serve};
 use station_top::station;
 use std::alloc::Global;
@@ -369,6 +369,9 @@ fn serves_two_and_two<R: Threads + Wait + Sync>(rt: &R, alloc: Global) -> Option
         shared: false,
         idle: None,
         ask_idle: None,
+        log: Log::Routers,
+        feed_from: Allowed::anywhere(),
+        ask_from: Allowed::anywhere(),
     };
     let mut yard: Keeping = yard(alloc, TWO_AND_TWO)?;
     let mut out = MemSink::new(alloc, 64, &[]).ok()?;

@@ -20,16 +20,19 @@ use Rattle.query_lang.proofs.LineWords.{query_asks}
 use Rattle.query_lang.proofs.OneNumber.{number_one, step_one}
 use Rattle.query_lang.proofs.SelectorLaws.{four_taken, other_front, two_taken, unnamed_none}
 use Rattle.query_lang.proofs.VerbLaws.{begins, same_verb}
+use Rattle.station_doors.specs.declared.listening.Log.{Log}
+use Rattle.station_doors.specs.declared.listening.Log.TheVariants.{Routers as OfRouters}
 use Rattle.station_words.specs.DrillWords.{IsDrill}
-use Rattle.station_words.specs.ServeWords.{ArePorts, Gives, IsPorts, IsRounds, IsSeconds, IsServe, MayGive, Setting, flag, forever, loopback, usually_shared}
+use Rattle.station_words.specs.ServeWords.{ArePorts, Gives, IsAllowed, IsLog, IsPorts, IsRounds, IsSeconds, IsServe, MayGive, Setting, flag, forever, loopback, usually_shared}
 use Rattle.station_words.specs.Words.{IsArchive, IsCall, IsCommand, IsRecall, IsReplay, IsRov}
 use Rattle.station_words.specs.declared.drill_words.DrillWords.{DrillWords}
 use Rattle.station_words.specs.declared.serve_words.ServeWords.{ServeWords}
 use Rattle.station_words.specs.declared.words.Call.{Call}
 use Rattle.station_words.specs.declared.words.Command.{Command}
 use Rattle.station_words.specs.declared.words.Command.TheVariants.{Replay, Check, Serve, Drill, Relay, Rov, Archive, Recall, Help, Version}
+use Rattle.station_words.proofs.AllowedText.{one_allowed}
 use Rattle.station_words.proofs.Commands.{same_plain}
-use Rattle.station_words.proofs.Settings.{one_ports, one_rounds, one_time, same_settings}
+use Rattle.station_words.proofs.Settings.{one_log, one_ports, one_rounds, one_time, same_settings}
 
 -- ---- selectors
 -- a selector, with nothing that names it after it
@@ -219,9 +222,15 @@ serve_one given a b l m p q =
     (subst (MayGive (codes "--idle") (λ value. IsSeconds value b.at.idle) (b.at.idle ≡ None)) back q.idle) in
     let ask_idle = may_one (codes "--ask-idle") (λ (x : Option ℕ) value. IsSeconds value x) (λ (x : Option ℕ). x ≡ None) (λ value x y i j. one_time value (Some y) j x i) (same_else None) ss a.at.ask_idle b.at.ask_idle p.ask_idle
     (subst (MayGive (codes "--ask-idle") (λ value. IsSeconds value b.at.ask_idle) (b.at.ask_idle ≡ None)) back q.ask_idle) in
+    let log = may_one (codes "--log") (λ (x : Log) value. IsLog value x) (λ (x : Log). x ≡ OfRouters) (λ value x y i j. one_log value (Some y) j x i) (same_else OfRouters) ss a.at.log b.at.log p.log
+    (subst (MayGive (codes "--log") (λ value. IsLog value b.at.log) (b.at.log ≡ OfRouters)) back q.log) in
+    let feed_from = may_one (codes "--feed-from") (λ (x : List PrefixValue) value. IsAllowed value x) (λ (x : List PrefixValue). x ≡ []) (λ value x y i j. one_allowed value (Some y) j x i) (same_else []) ss a.at.feed_from b.at.feed_from p.feed_from
+    (subst (MayGive (codes "--feed-from") (λ value. IsAllowed value b.at.feed_from) (b.at.feed_from ≡ [])) back q.feed_from) in
+    let ask_from = may_one (codes "--ask-from") (λ (x : List PrefixValue) value. IsAllowed value x) (λ (x : List PrefixValue). x ≡ []) (λ value x y i j. one_allowed value (Some y) j x i) (same_else []) ss a.at.ask_from b.at.ask_from p.ask_from
+    (subst (MayGive (codes "--ask-from") (λ value. IsAllowed value b.at.ask_from) (b.at.ask_from ≡ [])) back q.ask_from) in
     let lenient = may_one flag (λ (x : Bool) value. x ≡ true) (λ (x : Bool). x ≡ false) (λ value x y i j. i ∙ sym j) (same_else false) ss l m p.flagged (subst (MayGive flag (λ value. m ≡ true) (m ≡ false)) back q.flagged) in (
       λ i. record {
-        at = record { address = address i; ask_address = ask_address i; feeds = feeds i; askers = askers i; feed_port = feed_port i; ask_port = ask_port i; shared = ports i; idle = idle i; ask_idle = ask_idle i };
+        at = record { address = address i; ask_address = ask_address i; feeds = feeds i; askers = askers i; feed_port = feed_port i; ask_port = ask_port i; shared = ports i; idle = idle i; ask_idle = ask_idle i; log = log i; feed_from = feed_from i; ask_from = ask_from i };
         rounds = rounds i;
       },
       lenient,

@@ -10,12 +10,12 @@ use Rattle.ip_prefix.proofs.PrefixReading.{same_number}
 use Rattle.station_words.specs.Complaints.{BeginsSetting, ComplainsOfNoCall, Follow, HasExtra, IsCommandName, IsDashed, IsGiven, IsMisfit, IsValueOf, LacksValue, LacksWords, OpenAsks, OpenFeeds, ServeComplains, StandInFront, name_of, no_query, no_recalled as lacks_recalled, no_question, no_archive as lacks_archive, no_vrps, no_prefix as lacks_prefix, few_numbers, after_check, after_relay, after_file, after_prefix, after_numbers, after_text, for_prefix, for_seed, for_lanes, for_messages}
 use Rattle.station_words.specs.DrillWords.{IsDrill}
 use Rattle.station_words.specs.ServeWords.{Setting, ArePorts, AreSettings, IsInFront, IsOption, IsPorts, IsServe, MayGive, flag, flag_alone, one_word, ports_for, two_words, values_of}
-use Rattle.station_words.specs.Words.{AsksOf, IsAsking, IsCall, IsCommand, IsPlain, NamesFile}
+use Rattle.station_words.specs.Words.{AsksOf, ChecksAreNoCall, IsAsking, IsCall, IsCommand, IsPlain, NamesFile}
 use Rattle.station_words.specs.declared.complaint.Complaint.{Complaint}
 use Rattle.station_words.specs.declared.complaint.Complaint.TheVariants.{NoWords, NoCommand, NoQuery, Quit, Needs, Extra, NotA, NoOption, NoValue, Twice, HasValue, BadValue, PastEnd, Meet, Other}
 use Rattle.station_words.specs.declared.drill_words.DrillWords.{DrillWords}
 use Rattle.station_words.specs.declared.serve_options.ServeOption.{ServeOption}
-use Rattle.station_words.specs.declared.serve_options.ServeOption.TheVariants.{Feeds, Askers, FeedPort, AskPort, Rounds, Address, AskAddress, Ports, Idle, AskIdle, Lenient}
+use Rattle.station_words.specs.declared.serve_options.ServeOption.TheVariants.{Feeds, Askers, FeedPort, AskPort, Rounds, Address, AskAddress, Ports, Idle, AskIdle, Log as LogOption, FeedFrom, AskFrom, Lenient}
 use Rattle.station_words.specs.declared.serve_words.ServeWords.{ServeWords}
 use Rattle.station_words.specs.declared.words.Call.{Call}
 use Rattle.station_words.specs.declared.words.Command.{Command}
@@ -54,6 +54,24 @@ command_named Version lenient first given is = elim is.0 [
   | inl long ↦ inr (inr (inr (inr (inr (inr (inr (inr (inr (inr (inl (long)))))))))))
   | inr short ↦ inr (inr (inr (inr (inr (inr (inr (inr (inr (inr (inr (short)))))))))))
 ]
+
+-- no command is named so
+no_check_name : IsCommandName (codes "--check-options") → ⊥
+no_check_name (inl e) = absurd (cc e)
+no_check_name (inr (inl e)) = absurd (cc e)
+no_check_name (inr (inr (inl e))) = absurd (cc e)
+no_check_name (inr (inr (inr (inl e)))) = absurd (cc e)
+no_check_name (inr (inr (inr (inr (inl e))))) = absurd (cc e)
+no_check_name (inr (inr (inr (inr (inr (inl e)))))) = absurd (cc e)
+no_check_name (inr (inr (inr (inr (inr (inr (inl e))))))) = absurd (cc e)
+no_check_name (inr (inr (inr (inr (inr (inr (inr (inl e)))))))) = absurd (cc e)
+no_check_name (inr (inr (inr (inr (inr (inr (inr (inr (inl e))))))))) = absurd (cc e)
+no_check_name (inr (inr (inr (inr (inr (inr (inr (inr (inr (inl e)))))))))) = absurd (cc e)
+no_check_name (inr (inr (inr (inr (inr (inr (inr (inr (inr (inr (inl e))))))))))) = absurd (cc e)
+no_check_name (inr (inr (inr (inr (inr (inr (inr (inr (inr (inr (inr e))))))))))) = absurd (cc e)
+
+pub no_check_call : ChecksAreNoCall
+no_check_call call others is = not_call (codes "--check-options" ∷ others) (codes "--check-options") others refl (λ command lenient named. no_check_name (command_named command lenient (codes "--check-options") others named)) call is
 
 module _ (words : List (List ℕ)) where
   not_replay : (asked : List (List ℕ)) → Follow (codes "replay") asked words → ((query : QueryValue) → IsAsking (join_with_byte space asked) query → ⊥) → (call : Call) → IsCall call words → ⊥
@@ -134,7 +152,10 @@ option_of name (inr (inr (inr (inr (inr (inl (e))))))) = (Address, e)
 option_of name (inr (inr (inr (inr (inr (inr (inl (e)))))))) = (Ports, e)
 option_of name (inr (inr (inr (inr (inr (inr (inr (inl (e))))))))) = (Idle, e)
 option_of name (inr (inr (inr (inr (inr (inr (inr (inr (inl (e)))))))))) = (AskIdle, e)
-option_of name (inr (inr (inr (inr (inr (inr (inr (inr (inr (e)))))))))) = (AskAddress, e)
+option_of name (inr (inr (inr (inr (inr (inr (inr (inr (inr (inl (e))))))))))) = (AskAddress, e)
+option_of name (inr (inr (inr (inr (inr (inr (inr (inr (inr (inr (inl (e)))))))))))) = (LogOption, e)
+option_of name (inr (inr (inr (inr (inr (inr (inr (inr (inr (inr (inr (inl (e))))))))))))) = (FeedFrom, e)
+option_of name (inr (inr (inr (inr (inr (inr (inr (inr (inr (inr (inr (inr (e))))))))))))) = (AskFrom, e)
 
 begins : (s : Setting) (word : List ℕ) (left others : List (List ℕ)) → IsInFront s (word ∷ left) others → BeginsSetting word
 begins s word left others (flag_alone is e) = (Lenient, inl (cc e))
@@ -157,7 +178,10 @@ letters_behind name more (inr (inr (inr (inr (inr (inl (e))))))) = λ is. let h 
 letters_behind name more (inr (inr (inr (inr (inr (inr (inl (e)))))))) = λ is. let h : 223 ≡ 209 = sym (ap (λ (l : List ℕ). get_or (l ++ more) 2 0 + get_or (l ++ more) 3 0) e) ∙ is in absurd (omega (arith, h))
 letters_behind name more (inr (inr (inr (inr (inr (inr (inr (inl (e))))))))) = λ is. let h : 205 ≡ 209 = sym (ap (λ (l : List ℕ). get_or (l ++ more) 2 0 + get_or (l ++ more) 3 0) e) ∙ is in absurd (omega (arith, h))
 letters_behind name more (inr (inr (inr (inr (inr (inr (inr (inr (inl (e)))))))))) = λ is. let h : 212 ≡ 209 = sym (ap (λ (l : List ℕ). get_or (l ++ more) 2 0 + get_or (l ++ more) 3 0) e) ∙ is in absurd (omega (arith, h))
-letters_behind name more (inr (inr (inr (inr (inr (inr (inr (inr (inr (e)))))))))) = λ is. let h : 212 ≡ 209 = sym (ap (λ (l : List ℕ). get_or (l ++ more) 2 0 + get_or (l ++ more) 3 0) e) ∙ is in absurd (omega (arith, h))
+letters_behind name more (inr (inr (inr (inr (inr (inr (inr (inr (inr (inl (e))))))))))) = λ is. let h : 212 ≡ 209 = sym (ap (λ (l : List ℕ). get_or (l ++ more) 2 0 + get_or (l ++ more) 3 0) e) ∙ is in absurd (omega (arith, h))
+letters_behind name more (inr (inr (inr (inr (inr (inr (inr (inr (inr (inr (inl (e)))))))))))) = λ is. let h : 219 ≡ 209 = sym (ap (λ (l : List ℕ). get_or (l ++ more) 2 0 + get_or (l ++ more) 3 0) e) ∙ is in absurd (omega (arith, h))
+letters_behind name more (inr (inr (inr (inr (inr (inr (inr (inr (inr (inr (inr (inl (e))))))))))))) = λ is. let h : 203 ≡ 209 = sym (ap (λ (l : List ℕ). get_or (l ++ more) 2 0 + get_or (l ++ more) 3 0) e) ∙ is in absurd (omega (arith, h))
+letters_behind name more (inr (inr (inr (inr (inr (inr (inr (inr (inr (inr (inr (inr (e))))))))))))) = λ is. let h : 212 ≡ 209 = sym (ap (λ (l : List ℕ). get_or (l ++ more) 2 0 + get_or (l ++ more) 3 0) e) ∙ is in absurd (omega (arith, h))
 
 -- the flag with a value begins no setting
 no_valued_flag : (s : Setting) (word value : List ℕ) (left others : List (List ℕ)) → word ≡ flag ++ 61 ∷ value → IsInFront s (word ∷ left) others → ⊥
@@ -223,6 +247,9 @@ module _ (serve : ServeWords) (lenient : Bool) (words : List (List ℕ)) (is : I
   once_named Idle = name_once serve lenient words is (codes "idle") (inl (inr (inr (inr (inr (inr (inr (inr (inl (refl))))))))))
   once_named AskIdle = name_once serve lenient words is (codes "ask-idle") (inl (inr (inr (inr (inr (inr (inr (inr (inr (inl (refl)))))))))))
   once_named AskAddress = name_once serve lenient words is (codes "ask-address") (inl (inr (inr (inr (inr (inr (inr (inr (inr (inr (inl (refl))))))))))))
+  once_named LogOption = name_once serve lenient words is (codes "log") (inl (inr (inr (inr (inr (inr (inr (inr (inr (inr (inr (inl (refl)))))))))))))
+  once_named FeedFrom = name_once serve lenient words is (codes "feed-from") (inl (inr (inr (inr (inr (inr (inr (inr (inr (inr (inr (inr (inl (refl))))))))))))))
+  once_named AskFrom = name_once serve lenient words is (codes "ask-from") (inl (inr (inr (inr (inr (inr (inr (inr (inr (inr (inr (inr (inr (inl (refl)))))))))))))))
   once_named Lenient = name_once serve lenient words is (codes "lenient") (inr refl)
 
   -- a setting behind others, which has that value
@@ -266,6 +293,9 @@ module _ (serve : ServeWords) (lenient : Bool) (words : List (List ℕ)) (is : I
   has_form Ports value one = (serve.at.shared, may_is (codes "--ports") value _ _ one is.ports)
   has_form Idle value one = (serve.at.idle, may_is (codes "--idle") value _ _ one is.idle)
   has_form AskIdle value one = (serve.at.ask_idle, may_is (codes "--ask-idle") value _ _ one is.ask_idle)
+  has_form LogOption value one = (serve.at.log, may_is (codes "--log") value _ _ one is.log)
+  has_form FeedFrom value one = (serve.at.feed_from, may_is (codes "--feed-from") value _ _ one is.feed_from)
+  has_form AskFrom value one = (serve.at.ask_from, may_is (codes "--ask-from") value _ _ one is.ask_from)
   has_form Lenient value one = flag_empty is.settings words value [] is.are_settings one
 
   -- a number that is given is one number
@@ -338,6 +368,9 @@ serve_law (PastEnd option first count) given complains serve lenient is = past o
     past Ports none = none
     past Idle none = none
     past AskIdle none = none
+    past LogOption none = none
+    past FeedFrom none = none
+    past AskFrom none = none
     past Lenient none = none
 serve_law (Meet feed feeds ask askers) given (has, below, above) serve lenient is =
     let both = holds_in (λ (settings : List Setting). OpenFeeds feed feeds settings × OpenAsks ask askers settings) given is.settings is.are_settings has in

@@ -1,5 +1,6 @@
 pub mod Joining
 pub mod Commands
+pub mod AllowedText
 pub mod Settings
 pub mod OptionWalk
 pub mod OptionMatches

@@ -25,8 +25,11 @@ is_option name (inr (inr (inr (inr (inr (inl (e))))))) = inr (inr (inr (inr (inr
 is_option name (inr (inr (inr (inr (inr (inr (inl (e)))))))) = inr (inr (inr (inr (inr (inr (inl (ap dashed (sym e))))))))
 is_option name (inr (inr (inr (inr (inr (inr (inr (inl (e))))))))) = inr (inr (inr (inr (inr (inr (inr (inl (ap dashed (sym e)))))))))
 is_option name (inr (inr (inr (inr (inr (inr (inr (inr (inl (e)))))))))) = inr (inr (inr (inr (inr (inr (inr (inr (inl (ap dashed (sym e))))))))))
-is_option name (inr (inr (inr (inr (inr (inr (inr (inr (inr (inl (e))))))))))) = inr (inr (inr (inr (inr (inr (inr (inr (inr (ap dashed (sym e))))))))))
-is_option name (inr (inr (inr (inr (inr (inr (inr (inr (inr (inr (none))))))))))) = elim none [ ]
+is_option name (inr (inr (inr (inr (inr (inr (inr (inr (inr (inl (e))))))))))) = inr (inr (inr (inr (inr (inr (inr (inr (inr (inl (ap dashed (sym e)))))))))))
+is_option name (inr (inr (inr (inr (inr (inr (inr (inr (inr (inr (inl (e)))))))))))) = inr (inr (inr (inr (inr (inr (inr (inr (inr (inr (inl (ap dashed (sym e))))))))))))
+is_option name (inr (inr (inr (inr (inr (inr (inr (inr (inr (inr (inr (inl (e))))))))))))) = inr (inr (inr (inr (inr (inr (inr (inr (inr (inr (inr (inl (ap dashed (sym e)))))))))))))
+is_option name (inr (inr (inr (inr (inr (inr (inr (inr (inr (inr (inr (inr (inl (e)))))))))))))) = inr (inr (inr (inr (inr (inr (inr (inr (inr (inr (inr (inr (ap dashed (sym e)))))))))))))
+is_option name (inr (inr (inr (inr (inr (inr (inr (inr (inr (inr (inr (inr (inr (none)))))))))))))) = elim none [ ]
 
 pub are_settings : (ss : Pairs) (words : List Text) (rows end : List Row) → Uses option_names ss words rows end → AreSettings (settings_of ss) words
 are_settings [] words rows end (none, same) = none

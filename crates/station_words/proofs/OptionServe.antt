@@ -7,6 +7,7 @@ use Rattle.bmp_specs.specs.declared.wire.Family.{Family}
 use Rattle.bmp_specs.specs.declared.wire.Family.TheVariants.{V4, V6}
 use Rattle.bmp_specs.specs.AddressText.{IsTextIn}
 use Rattle.bmp_specs.specs.NumberText.{IsNumberText, most_number}
+use Rattle.bmp_specs.specs.Values.{PrefixValue}
 use Rattle.ip_prefix.proofs.Decimals.{all_digits}
 use Rattle.ip_prefix.proofs.V4Text.{v4_to, v4_lacks}
 use Rattle.ip_prefix.proofs.V6Text.{v6_lacks}
@@ -20,12 +21,15 @@ use Rattle.clap.specs.declared.error.kind.ErrorKind.TheVariants.{OutOfMemory}
 use Rattle.clap.specs.Simple.{App, matches_of}
 use Rattle.clap.specs.Faults.{fault_of}
 use Rattle.clap.specs.declared.parser.matches.ArgMatches.{ArgMatches}
+use Rattle.station_doors.specs.declared.listening.Log.{Log}
+use Rattle.station_doors.specs.declared.listening.Log.TheVariants.{None as NoConnections, Routers, Clients}
 use Rattle.station_words.specs.ServeOptions.{AreMatches, IsTold, dashed, is_dashes, option_names, serve_app}
-use Rattle.station_words.specs.ServeWords.{Gives, IsPorts, IsRounds, IsSeconds, IsServe, MayGive, Setting, flag, values_of}
+use Rattle.station_words.specs.ServeWords.{Gives, IsAllowed, IsLog, IsPorts, IsRounds, IsSeconds, IsServe, MayGive, Setting, flag, values_of}
 use Rattle.station_words.specs.declared.serve_words.ServeWords.{ServeWords}
 use Rattle.station_words.proofs.OptionWalk.{IsAmongNames, IsPlainValue}
 use Rattle.station_words.proofs.OptionMatches.{are_told}
 use Rattle.station_words.proofs.OptionTaken.{AreOnce, IsName, IsOnce, are_uses, no_dashes_in, no_hyphen, taken_words}
+use Rattle.station_words.proofs.AllowedText.{allowed_lacks}
 use Rattle.station_words.proofs.Settings.{Never, Once, flag_empty}
 
 plain_number : (text : List ℕ) (n : ℕ) → IsNumberText text n → IsPlainValue text
@@ -47,6 +51,14 @@ plain_seconds : (value : List ℕ) (t : Option ℕ) → IsSeconds value t → Is
 plain_seconds value None is = absurd is
 plain_seconds value (Some n) is = plain_number value n is.0
 
+plain_log : (value : List ℕ) (log : Log) → IsLog value log → IsPlainValue value
+plain_log value NoConnections is = subst IsPlainValue (sym is) (record { dashes = refl; long = refl; short = refl })
+plain_log value Routers is = subst IsPlainValue (sym is) (record { dashes = refl; long = refl; short = refl })
+plain_log value Clients is = subst IsPlainValue (sym is) (record { dashes = refl; long = refl; short = refl })
+
+plain_allowed : (value : List ℕ) (allowed : List PrefixValue) → IsAllowed value allowed → IsPlainValue value
+plain_allowed value allowed is = no_hyphen value (allowed_lacks 45 (omega arith) (λ e. omega (arith, e)) (λ e. omega (arith, e)) (λ e. omega (arith, e)) (omega arith) (λ e. omega (arith, e)) value allowed is)
+
 once_given : (name : List ℕ) (settings : List Setting) (Is : List ℕ → Type 0) → ((value : List ℕ) → Is value → IsPlainValue value) → Gives name Is settings → IsOnce (values_of name settings)
 once_given name settings Is plain (value, once, is) = inr (value, once, plain value is)
 
@@ -66,7 +78,10 @@ module _ (serve : ServeWords) (lenient : Bool) (words : List (List ℕ)) (is : I
   serve_once name (inr (inr (inr (inr (inr (inr (inr (inl (e))))))))) = subst (λ (t : Text). IsOnce (values_of (dashed t) is.settings)) e (once_may (codes "--idle") is.settings _ _ (λ v h. plain_seconds v _ h) is.idle)
   serve_once name (inr (inr (inr (inr (inr (inr (inr (inr (inl (e)))))))))) = subst (λ (t : Text). IsOnce (values_of (dashed t) is.settings)) e (once_may (codes "--ask-idle") is.settings _ _ (λ v h. plain_seconds v _ h) is.ask_idle)
   serve_once name (inr (inr (inr (inr (inr (inr (inr (inr (inr (inl (e))))))))))) = subst (λ (t : Text). IsOnce (values_of (dashed t) is.settings)) e (once_may (codes "--ask-address") is.settings _ _ (λ v h. plain_text_in serve.at.ask_address.family v serve.at.ask_address.octets h) is.ask_address)
-  serve_once name (inr (inr (inr (inr (inr (inr (inr (inr (inr (inr (none))))))))))) = elim none [ ]
+  serve_once name (inr (inr (inr (inr (inr (inr (inr (inr (inr (inr (inl (e)))))))))))) = subst (λ (t : Text). IsOnce (values_of (dashed t) is.settings)) e (once_may (codes "--log") is.settings _ _ (λ v h. plain_log v _ h) is.log)
+  serve_once name (inr (inr (inr (inr (inr (inr (inr (inr (inr (inr (inr (inl (e))))))))))))) = subst (λ (t : Text). IsOnce (values_of (dashed t) is.settings)) e (once_may (codes "--feed-from") is.settings _ _ (λ v h. plain_allowed v _ h) is.feed_from)
+  serve_once name (inr (inr (inr (inr (inr (inr (inr (inr (inr (inr (inr (inr (inl (e)))))))))))))) = subst (λ (t : Text). IsOnce (values_of (dashed t) is.settings)) e (once_may (codes "--ask-from") is.settings _ _ (λ v h. plain_allowed v _ h) is.ask_from)
+  serve_once name (inr (inr (inr (inr (inr (inr (inr (inr (inr (inr (inr (inr (inr (none)))))))))))))) = elim none [ ]
 
   flag_is_once : MayGive flag (λ value. lenient ≡ true) (lenient ≡ false) is.settings → IsOnce (values_of flag is.settings)
   flag_is_once (inl (value, once, so)) = inr (value, once, subst IsPlainValue (sym (flag_empty is.settings words value [] is.are_settings once)) (record { dashes = refl; long = refl; short = refl }))

@@ -53,6 +53,15 @@ spelled_ask_idle = record { alone = refl; valued = λ value. refl; no_end = refl
 spelled_ask_address : IsSpelled (codes "ask-address")
 spelled_ask_address = record { alone = refl; valued = λ value. refl; no_end = refl; no_end_valued = λ value. refl }
 
+spelled_log : IsSpelled (codes "log")
+spelled_log = record { alone = refl; valued = λ value. refl; no_end = refl; no_end_valued = λ value. refl }
+
+spelled_feed_from : IsSpelled (codes "feed-from")
+spelled_feed_from = record { alone = refl; valued = λ value. refl; no_end = refl; no_end_valued = λ value. refl }
+
+spelled_ask_from : IsSpelled (codes "ask-from")
+spelled_ask_from = record { alone = refl; valued = λ value. refl; no_end = refl; no_end_valued = λ value. refl }
+
 pub are_spelled : AreSpelled option_names
 are_spelled name (inl (e)) = subst IsSpelled e spelled_feeds
 are_spelled name (inr (inl (e))) = subst IsSpelled e spelled_askers
@@ -64,7 +73,10 @@ are_spelled name (inr (inr (inr (inr (inr (inr (inl (e)))))))) = subst IsSpelled
 are_spelled name (inr (inr (inr (inr (inr (inr (inr (inl (e))))))))) = subst IsSpelled e spelled_idle
 are_spelled name (inr (inr (inr (inr (inr (inr (inr (inr (inl (e)))))))))) = subst IsSpelled e spelled_ask_idle
 are_spelled name (inr (inr (inr (inr (inr (inr (inr (inr (inr (inl (e))))))))))) = subst IsSpelled e spelled_ask_address
-are_spelled name (inr (inr (inr (inr (inr (inr (inr (inr (inr (inr (none))))))))))) = elim none [ ]
+are_spelled name (inr (inr (inr (inr (inr (inr (inr (inr (inr (inr (inl (e)))))))))))) = subst IsSpelled e spelled_log
+are_spelled name (inr (inr (inr (inr (inr (inr (inr (inr (inr (inr (inr (inl (e))))))))))))) = subst IsSpelled e spelled_feed_from
+are_spelled name (inr (inr (inr (inr (inr (inr (inr (inr (inr (inr (inr (inr (inl (e)))))))))))))) = subst IsSpelled e spelled_ask_from
+are_spelled name (inr (inr (inr (inr (inr (inr (inr (inr (inr (inr (inr (inr (inr (none)))))))))))))) = elim none [ ]
 
 -- no option has the flag's name
 letters : (name : Text) → IsAmongNames name option_names → get_or name 0 0 + get_or name 1 0 ≢ 209
@@ -78,7 +90,10 @@ letters name (inr (inr (inr (inr (inr (inr (inl (e)))))))) = λ is. let h : 223 
 letters name (inr (inr (inr (inr (inr (inr (inr (inl (e))))))))) = λ is. let h : 205 ≡ 209 = ap (λ (l : Text). get_or l 0 0 + get_or l 1 0) e ∙ is in absurd (omega (arith, h))
 letters name (inr (inr (inr (inr (inr (inr (inr (inr (inl (e)))))))))) = λ is. let h : 212 ≡ 209 = ap (λ (l : Text). get_or l 0 0 + get_or l 1 0) e ∙ is in absurd (omega (arith, h))
 letters name (inr (inr (inr (inr (inr (inr (inr (inr (inr (inl (e))))))))))) = λ is. let h : 212 ≡ 209 = ap (λ (l : Text). get_or l 0 0 + get_or l 1 0) e ∙ is in absurd (omega (arith, h))
-letters name (inr (inr (inr (inr (inr (inr (inr (inr (inr (inr (none))))))))))) = elim none [ ]
+letters name (inr (inr (inr (inr (inr (inr (inr (inr (inr (inr (inl (e)))))))))))) = λ is. let h : 219 ≡ 209 = ap (λ (l : Text). get_or l 0 0 + get_or l 1 0) e ∙ is in absurd (omega (arith, h))
+letters name (inr (inr (inr (inr (inr (inr (inr (inr (inr (inr (inr (inl (e))))))))))))) = λ is. let h : 203 ≡ 209 = ap (λ (l : Text). get_or l 0 0 + get_or l 1 0) e ∙ is in absurd (omega (arith, h))
+letters name (inr (inr (inr (inr (inr (inr (inr (inr (inr (inr (inr (inr (inl (e)))))))))))))) = λ is. let h : 212 ≡ 209 = ap (λ (l : Text). get_or l 0 0 + get_or l 1 0) e ∙ is in absurd (omega (arith, h))
+letters name (inr (inr (inr (inr (inr (inr (inr (inr (inr (inr (inr (inr (inr (none)))))))))))))) = elim none [ ]
 
 pub not_flag : IsAmongNames flag_name option_names → ⊥
 not_flag among = letters flag_name among refl
@@ -97,7 +112,10 @@ named option (inr (inr (inr (inr (inr (inl (e))))))) = (codes "address", e, inr 
 named option (inr (inr (inr (inr (inr (inr (inl (e)))))))) = (codes "ports", e, inr (inr (inr (inr (inr (inr (inl (refl))))))))
 named option (inr (inr (inr (inr (inr (inr (inr (inl (e))))))))) = (codes "idle", e, inr (inr (inr (inr (inr (inr (inr (inl (refl)))))))))
 named option (inr (inr (inr (inr (inr (inr (inr (inr (inl (e)))))))))) = (codes "ask-idle", e, inr (inr (inr (inr (inr (inr (inr (inr (inl (refl))))))))))
-named option (inr (inr (inr (inr (inr (inr (inr (inr (inr (e)))))))))) = (codes "ask-address", e, inr (inr (inr (inr (inr (inr (inr (inr (inr (inl (refl)))))))))))
+named option (inr (inr (inr (inr (inr (inr (inr (inr (inr (inl (e))))))))))) = (codes "ask-address", e, inr (inr (inr (inr (inr (inr (inr (inr (inr (inl (refl)))))))))))
+named option (inr (inr (inr (inr (inr (inr (inr (inr (inr (inr (inl (e)))))))))))) = (codes "log", e, inr (inr (inr (inr (inr (inr (inr (inr (inr (inr (inl (refl))))))))))))
+named option (inr (inr (inr (inr (inr (inr (inr (inr (inr (inr (inr (inl (e))))))))))))) = (codes "feed-from", e, inr (inr (inr (inr (inr (inr (inr (inr (inr (inr (inr (inl (refl)))))))))))))
+named option (inr (inr (inr (inr (inr (inr (inr (inr (inr (inr (inr (inr (e))))))))))))) = (codes "ask-from", e, inr (inr (inr (inr (inr (inr (inr (inr (inr (inr (inr (inr (inl (refl))))))))))))))
 
 -- the name of a setting
 abbrev pub IsName : Text → Type 0

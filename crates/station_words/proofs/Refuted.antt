@@ -2,9 +2,11 @@
 use Rattle.std.proofs.Common.{◌≡◌, ℕ, ◌+◌, Bool, true, false, List, [], ◌∷◌, length, codes, ap, sym, ◌∙◌, refl, inl, inr, arith}
 use Rattle.std.specs.Borrow.{Bor}
 use Rattle.bmp_specs.specs.AddressText.{IsAddressText}
+use Rattle.bmp_specs.specs.Values.{PrefixValue}
 use Rattle.station_doors.specs.Doors.{most_places}
+use Rattle.station_doors.specs.declared.listening.Log.TheVariants.{Routers, Clients}
 use Rattle.station_words.specs.Complaints.{IsGoodBeginning, IsGiven, ServeComplains, StandInFront, name_of}
-use Rattle.station_words.specs.ServeWords.{ArePorts, IsInFront, IsServe, MayGive, MayServe, Setting, flag, flag_alone, one_word}
+use Rattle.station_words.specs.ServeWords.{ArePorts, IsAllowed, IsInFront, IsLog, IsServe, MayGive, MayServe, Setting, flag, flag_alone, one_word}
 use Rattle.station_words.specs.Words.{file_in}
 use Rattle.station_words.specs.declared.complaint.Complaint.TheVariants.{BadValue, Meet, Twice}
 use Rattle.station_words.specs.declared.serve_options.ServeOption.TheVariants.{Lenient, Ports}
@@ -79,3 +81,18 @@ an_empty_word_is_no_good_beginning (inr (query, asking)) = no_line query asking.
 -- ports that begin where the others end don't meet
 ports_side_by_side_do_not_meet : (feed feeds askers : ℕ) (given : List (List ℕ)) → ServeComplains (Meet feed feeds (feed + feeds) askers) given → ⊥
 ports_side_by_side_do_not_meet feed feeds askers given (has, below, above) = absurd (omega (arith, below))
+
+-- where nothing is said of it, clients that come and go aren't told
+abbrev GivesLog : ServeWords → List Setting → Type 0
+GivesLog serve settings = MayGive (codes "--log") (λ value. IsLog value serve.at.log) (serve.at.log ≡ Routers) settings
+
+clients_are_not_told : (serve : ServeWords) → GivesLog serve [] → serve.at.log ≡ Clients → ⊥
+clients_are_not_told serve (inl (value, once, is)) clients = absurd (cc once)
+clients_are_not_told serve (inr (none, same)) clients = let both : Routers ≡ Clients = sym same ∙ clients in absurd (cc both)
+
+-- a value lists a prefix at least, and 32 at most
+no_value_lists_nothing : (value : List ℕ) → IsAllowed value [] → ⊥
+no_value_lists_nothing value is = absurd (omega (arith, is.some))
+
+no_value_lists_33 : (value : List ℕ) (allowed : List PrefixValue) → length allowed ≡ 33 → IsAllowed value allowed → ⊥
+no_value_lists_33 value allowed many is = absurd (omega (arith, many, is.few))

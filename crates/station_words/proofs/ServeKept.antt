@@ -1,8 +1,8 @@
 -- Words that were a call of `serve` are that call.
 use Rattle.std.proofs.Common.{◌≡◌, ℕ, Bool, true, false, List, [], codes, refl, sym, ◌∙◌, inl, inr}
 use Rattle.bmp_specs.specs.AddressText.{IsAddressText}
-use Rattle.station_words.specs.ServeBefore.{KeepsServe, SaysAsBefore, WasServe}
-use Rattle.station_words.specs.ServeWords.{Setting, ArePorts, Gives, IsPorts, IsServe, MayGive, is_given, usually_shared, values_of}
+use Rattle.station_words.specs.ServeBefore.{IsAsBefore, KeepsServe, SaysAsBefore, WasServe}
+use Rattle.station_words.specs.ServeWords.{Setting, ArePorts, Gives, IsAllowed, IsLog, IsPorts, IsServe, MayGive, is_given, usually_shared, values_of}
 use Rattle.station_words.proofs.Settings.{given_none, given_some}
 
 is_given_by : (name : List ℕ) (settings : List Setting) (Is : List ℕ → Type 0) → Gives name Is settings → is_given name settings ≡ true
@@ -38,8 +38,8 @@ ports_then shared settings says (inr (none, usual)) = inr (none, usual ∙ not_s
 pub keeps_serve : KeepsServe
 keeps_serve serve lenient words = (now, before)
   where
-    now : WasServe serve lenient words × (serve.at.ask_address ≡ serve.at.address) → (is : IsServe serve lenient words) × SaysAsBefore is.settings
-    now (was, ask_address) =
+    now : WasServe serve lenient words × IsAsBefore serve.at → (is : IsServe serve lenient words) × SaysAsBefore is.settings
+    now (was, same) =
         let says : SaysAsBefore was.settings = record {
           feeds = is_given_by (codes "--feeds") was.settings _ was.feeds;
           askers = is_given_by (codes "--askers") was.settings _ was.askers;
@@ -47,6 +47,9 @@ keeps_serve serve lenient words = (now, before)
           ask_port = is_given_by (codes "--ask-port") was.settings _ was.ask_port;
           rounds = is_given_by (codes "--rounds") was.settings _ was.rounds;
           no_ask_address = was.no_ask_address;
+          no_log = was.no_log;
+          no_feed_from = was.no_feed_from;
+          no_ask_from = was.no_ask_from;
         } in (
           record {
             settings = was.settings;
@@ -57,17 +60,20 @@ keeps_serve serve lenient words = (now, before)
             ask_port = inl was.ask_port;
             rounds = inl was.rounds;
             address = was.address;
-            ask_address = inr (was.no_ask_address, ask_address);
+            ask_address = inr (was.no_ask_address, same.ask_address);
             ports = ports_now serve.at.shared was.settings says was.ports;
             idle = was.idle;
             ask_idle = was.ask_idle;
+            log = inr (was.no_log, same.log);
+            feed_from = inr (was.no_feed_from, same.feed_from);
+            ask_from = inr (was.no_ask_from, same.ask_from);
             flagged = was.flagged;
             may_serve = was.may_serve;
           },
           says,
         )
 
-    before : (is : IsServe serve lenient words) × SaysAsBefore is.settings → WasServe serve lenient words × (serve.at.ask_address ≡ serve.at.address)
+    before : (is : IsServe serve lenient words) × SaysAsBefore is.settings → WasServe serve lenient words × IsAsBefore serve.at
     before (is, says) = (
       record {
         settings = is.settings;
@@ -84,6 +90,14 @@ keeps_serve serve lenient words = (now, before)
         flagged = is.flagged;
         may_serve = is.may_serve;
         no_ask_address = says.no_ask_address;
+        no_log = says.no_log;
+        no_feed_from = says.no_feed_from;
+        no_ask_from = says.no_ask_from;
       },
-      never (codes "--ask-address") is.settings (λ value. IsAddressText value serve.at.ask_address) _ says.no_ask_address is.ask_address,
+      record {
+        ask_address = never (codes "--ask-address") is.settings (λ value. IsAddressText value serve.at.ask_address) _ says.no_ask_address is.ask_address;
+        log = never (codes "--log") is.settings (λ value. IsLog value serve.at.log) _ says.no_log is.log;
+        feed_from = never (codes "--feed-from") is.settings (λ value. IsAllowed value serve.at.feed_from) _ says.no_feed_from is.feed_from;
+        ask_from = never (codes "--ask-from") is.settings (λ value. IsAllowed value serve.at.ask_from) _ says.no_ask_from is.ask_from;
+      },
     )

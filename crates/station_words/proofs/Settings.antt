@@ -13,7 +13,9 @@ use Rattle.bmp_specs.specs.NumberText.{IsNumberText, most_number}
 use Rattle.bmp_specs.specs.Values.{AddressValue}
 use Rattle.ip_prefix.proofs.Decimals.{all_digits}
 use Rattle.station_doors.specs.Doors.{most_places}
-use Rattle.station_words.specs.ServeWords.{Setting, IsOption, IsInFront, AreSettings, values_of, Gives, MayGive, Has, ArePorts, IsPorts, IsRounds, IsSeconds, MayServe, flag, flag_alone, is_given, usually_shared, loopback, one_word, ports_for, two_words}
+use Rattle.station_doors.specs.declared.listening.Log.{Log}
+use Rattle.station_doors.specs.declared.listening.Log.TheVariants.{None as NoConnections, Routers, Clients}
+use Rattle.station_words.specs.ServeWords.{Setting, IsOption, IsInFront, AreSettings, values_of, Gives, MayGive, Has, ArePorts, IsLog, IsPorts, IsRounds, IsSeconds, MayServe, flag, flag_alone, is_given, usually_shared, loopback, one_word, ports_for, two_words}
 use Rattle.station_words.specs.declared.serve_words.ServeWords.{ServeWords}
 
 -- no option has an `=` in its name
@@ -27,7 +29,10 @@ none_in name (inr (inr (inr (inr (inr (inl (e))))))) = rw e refl
 none_in name (inr (inr (inr (inr (inr (inr (inl (e)))))))) = rw e refl
 none_in name (inr (inr (inr (inr (inr (inr (inr (inl (e))))))))) = rw e refl
 none_in name (inr (inr (inr (inr (inr (inr (inr (inr (inl (e)))))))))) = rw e refl
-none_in name (inr (inr (inr (inr (inr (inr (inr (inr (inr (e)))))))))) = rw e refl
+none_in name (inr (inr (inr (inr (inr (inr (inr (inr (inr (inl (e))))))))))) = rw e refl
+none_in name (inr (inr (inr (inr (inr (inr (inr (inr (inr (inr (inl (e)))))))))))) = rw e refl
+none_in name (inr (inr (inr (inr (inr (inr (inr (inr (inr (inr (inr (inl (e))))))))))))) = rw e refl
+none_in name (inr (inr (inr (inr (inr (inr (inr (inr (inr (inr (inr (inr (e))))))))))))) = rw e refl
 
 place_behind : (name value : List ℕ) → IsOption name → position_or_len (λ b. b == 61) (name ++ 61 ∷ value) ≡ length name
 place_behind name value (inl (e)) = rw e refl
@@ -39,7 +44,10 @@ place_behind name value (inr (inr (inr (inr (inr (inl (e))))))) = rw e refl
 place_behind name value (inr (inr (inr (inr (inr (inr (inl (e)))))))) = rw e refl
 place_behind name value (inr (inr (inr (inr (inr (inr (inr (inl (e))))))))) = rw e refl
 place_behind name value (inr (inr (inr (inr (inr (inr (inr (inr (inl (e)))))))))) = rw e refl
-place_behind name value (inr (inr (inr (inr (inr (inr (inr (inr (inr (e)))))))))) = rw e refl
+place_behind name value (inr (inr (inr (inr (inr (inr (inr (inr (inr (inl (e))))))))))) = rw e refl
+place_behind name value (inr (inr (inr (inr (inr (inr (inr (inr (inr (inr (inl (e)))))))))))) = rw e refl
+place_behind name value (inr (inr (inr (inr (inr (inr (inr (inr (inr (inr (inr (inl (e))))))))))))) = rw e refl
+place_behind name value (inr (inr (inr (inr (inr (inr (inr (inr (inr (inr (inr (inr (e))))))))))))) = rw e refl
 
 -- the flag is no option
 pub letters : (name : List ℕ) → IsOption name → get_or name 2 0 + get_or name 3 0 ≢ 209
@@ -52,7 +60,10 @@ letters name (inr (inr (inr (inr (inr (inl (e))))))) = λ is. let h : 197 ≡ 20
 letters name (inr (inr (inr (inr (inr (inr (inl (e)))))))) = λ is. let h : 223 ≡ 209 = sym (ap (λ (l : List ℕ). get_or l 2 0 + get_or l 3 0) e) ∙ is in absurd (omega (arith, h))
 letters name (inr (inr (inr (inr (inr (inr (inr (inl (e))))))))) = λ is. let h : 205 ≡ 209 = sym (ap (λ (l : List ℕ). get_or l 2 0 + get_or l 3 0) e) ∙ is in absurd (omega (arith, h))
 letters name (inr (inr (inr (inr (inr (inr (inr (inr (inl (e)))))))))) = λ is. let h : 212 ≡ 209 = sym (ap (λ (l : List ℕ). get_or l 2 0 + get_or l 3 0) e) ∙ is in absurd (omega (arith, h))
-letters name (inr (inr (inr (inr (inr (inr (inr (inr (inr (e)))))))))) = λ is. let h : 212 ≡ 209 = sym (ap (λ (l : List ℕ). get_or l 2 0 + get_or l 3 0) e) ∙ is in absurd (omega (arith, h))
+letters name (inr (inr (inr (inr (inr (inr (inr (inr (inr (inl (e))))))))))) = λ is. let h : 212 ≡ 209 = sym (ap (λ (l : List ℕ). get_or l 2 0 + get_or l 3 0) e) ∙ is in absurd (omega (arith, h))
+letters name (inr (inr (inr (inr (inr (inr (inr (inr (inr (inr (inl (e)))))))))))) = λ is. let h : 219 ≡ 209 = sym (ap (λ (l : List ℕ). get_or l 2 0 + get_or l 3 0) e) ∙ is in absurd (omega (arith, h))
+letters name (inr (inr (inr (inr (inr (inr (inr (inr (inr (inr (inr (inl (e))))))))))))) = λ is. let h : 203 ≡ 209 = sym (ap (λ (l : List ℕ). get_or l 2 0 + get_or l 3 0) e) ∙ is in absurd (omega (arith, h))
+letters name (inr (inr (inr (inr (inr (inr (inr (inr (inr (inr (inr (inr (e))))))))))))) = λ is. let h : 212 ≡ 209 = sym (ap (λ (l : List ℕ). get_or l 2 0 + get_or l 3 0) e) ∙ is in absurd (omega (arith, h))
 
 pub no_flag : (name : List ℕ) → IsOption name → name ≢ flag
 no_flag name o is = letters name o (ap (λ (l : List ℕ). get_or l 2 0 + get_or l 3 0) is)
@@ -243,6 +254,24 @@ one_time value (Some (Some n)) is = λ u also. go u also
     go : (u : Option ℕ) → IsSeconds value u → u ≡ Some n
     go None also = absurd also
     go (Some m) also = ap (λ (k : ℕ). Some k) (same_number value m n also.0 is.0)
+
+pub one_log : (value : List ℕ) (r : Option Log) → IfSome r (λ l. IsLog value l) → IfSome r (λ l. (k : Log) → IsLog value k → k ≡ l)
+one_log value None is = tt
+one_log value (Some l) is = λ k also. go l k is also
+  where
+    apart : (a b : List ℕ) → length a ≢ length b → value ≡ a → value ≡ b → ⊥
+    apart a b differ first second = differ (ap length (sym first ∙ second))
+
+    go : (l k : Log) → IsLog value l → IsLog value k → k ≡ l
+    go NoConnections NoConnections is also = refl
+    go Routers Routers is also = refl
+    go Clients Clients is also = refl
+    go NoConnections Routers is also = absurd (apart (codes "none") (codes "routers") (λ e. omega (arith, e)) is also)
+    go NoConnections Clients is also = absurd (apart (codes "none") (codes "clients") (λ e. omega (arith, e)) is also)
+    go Routers NoConnections is also = absurd (apart (codes "none") (codes "routers") (λ e. omega (arith, e)) also is)
+    go Routers Clients is also = let h : codes "routers" ≡ codes "clients" = sym is ∙ also in absurd (omega (arith, ap (λ (l : List ℕ). get_or l 0 0) h))
+    go Clients NoConnections is also = absurd (apart (codes "none") (codes "clients") (λ e. omega (arith, e)) also is)
+    go Clients Routers is also = let h : codes "routers" ≡ codes "clients" = sym also ∙ is in absurd (omega (arith, ap (λ (l : List ℕ). get_or l 0 0) h))
 
 -- the ports' words, whose usual value is of all the settings
 module _ (words : List (List ℕ)) (value : List ℕ) (once : Once (codes "--ports") value words) where

@@ -8,12 +8,13 @@ use Rattle.bmp_specs.specs.PrefixText.{IsPrefixText}
 use Rattle.bmp_specs.specs.Query.{QueryValue, IsQuery, quit, space}
 use Rattle.bmp_specs.specs.Values.{AddressValue, PrefixValue}
 use Rattle.station_doors.specs.Doors.{most_places}
-use Rattle.station_words.specs.ServeWords.{Setting, ArePorts, Has, IsInFront, IsOption, IsPorts, IsRounds, IsSeconds, MayGive, equals_sign, flag, ports_for, values_of}
+use Rattle.station_doors.specs.declared.listening.Log.{Log}
+use Rattle.station_words.specs.ServeWords.{Setting, ArePorts, Has, IsAllowed, IsInFront, IsLog, IsOption, IsPorts, IsRounds, IsSeconds, MayGive, equals_sign, flag, ports_for, values_of}
 use Rattle.station_words.specs.Words.{IsAsking, IsCall, IsPlain}
 use Rattle.station_words.specs.declared.complaint.Complaint.{Complaint}
 use Rattle.station_words.specs.declared.complaint.Complaint.TheVariants.{NoWords, NoCommand, NoQuery, Quit, Needs, Extra, NotA, NoOption, NoValue, Twice, HasValue, BadValue, PastEnd, Meet, Other}
 use Rattle.station_words.specs.declared.serve_options.ServeOption.{ServeOption}
-use Rattle.station_words.specs.declared.serve_options.ServeOption.TheVariants.{Feeds, Askers, FeedPort, AskPort, Rounds, Address, AskAddress, Ports, Idle, AskIdle, Lenient}
+use Rattle.station_words.specs.declared.serve_options.ServeOption.TheVariants.{Feeds, Askers, FeedPort, AskPort, Rounds, Address, AskAddress, Ports, Idle, AskIdle, Log as LogOption, FeedFrom, AskFrom, Lenient}
 use Rattle.station_words.specs.declared.words.Call.{Call}
 
 -- the names of the commands
@@ -80,6 +81,9 @@ name_of AskAddress = codes "--ask-address"
 name_of Ports = codes "--ports"
 name_of Idle = codes "--idle"
 name_of AskIdle = codes "--ask-idle"
+name_of LogOption = codes "--log"
+name_of FeedFrom = codes "--feed-from"
+name_of AskFrom = codes "--ask-from"
 name_of Lenient = flag
 
 -- the value is of the option's form
@@ -94,6 +98,9 @@ IsValueOf AskAddress value = (a : AddressValue) × IsAddressText value a
 IsValueOf Ports value = (shared : Bool) × IsPorts value shared
 IsValueOf Idle value = (time : Option ℕ) × IsSeconds value time
 IsValueOf AskIdle value = (time : Option ℕ) × IsSeconds value time
+IsValueOf LogOption value = (log : Log) × IsLog value log
+IsValueOf FeedFrom value = (allowed : List PrefixValue) × IsAllowed value allowed
+IsValueOf AskFrom value = (allowed : List PrefixValue) × IsAllowed value allowed
 IsValueOf Lenient value = value ≡ []
 
 -- the word is an option, or an option with its value
@@ -129,6 +136,9 @@ index_of AskAddress = 6
 index_of Ports = 7
 index_of Idle = 8
 index_of AskIdle = 9
+index_of LogOption = 11
+index_of FeedFrom = 12
+index_of AskFrom = 13
 index_of Lenient = 10
 
 abbrev pub is_seen : List Bool → ServeOption → Bool

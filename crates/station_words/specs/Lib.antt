@@ -1,5 +1,6 @@
 pub mod Words
 pub mod ServeWords
+pub mod AllowedTexts
 pub mod ServeBefore
 pub mod ServeOptions
 pub mod DrillWords

@@ -1,7 +1,10 @@
--- What the words of `serve` were while five of its options had to be given, and `--ask-address` wasn't known.
+-- What the words of `serve` were while five of its options had to be given, and `--ask-address`, `--log`, `--feed-from` and
+-- `--ask-from` weren't known.
 use Rattle.std.specs.Prelude.{◌≡◌, ◌↔◌, ℕ, Bool, true, false, List, [], codes, None}
 use Rattle.bmp_specs.specs.AddressText.{IsAddressText}
 use Rattle.bmp_specs.specs.NumberText.{IsNumberText}
+use Rattle.station_doors.specs.declared.listening.Listening.{Listening}
+use Rattle.station_doors.specs.declared.listening.Log.TheVariants.{Routers}
 use Rattle.station_words.specs.ServeWords.{Setting, AreSettings, Gives, IsPorts, IsRounds, IsSeconds, IsServe, MayGive, MayServe, flag, is_given, loopback, values_of}
 use Rattle.station_words.specs.declared.serve_words.ServeWords.{ServeWords}
 
@@ -22,8 +25,11 @@ pub record WasServe (serve : ServeWords) (lenient : Bool) (words : List (List �
   pub may_serve : MayServe serve
   -- there was no other
   pub no_ask_address : values_of (codes "--ask-address") settings ≡ []
+  pub no_log : values_of (codes "--log") settings ≡ []
+  pub no_feed_from : values_of (codes "--feed-from") settings ≡ []
+  pub no_ask_from : values_of (codes "--ask-from") settings ≡ []
 
--- all five are given, and the new one isn't
+-- all five are given, and the new ones aren't
 pub record SaysAsBefore (settings : List Setting) : Type 0 where
   pub feeds : is_given (codes "--feeds") settings ≡ true
   pub askers : is_given (codes "--askers") settings ≡ true
@@ -31,9 +37,22 @@ pub record SaysAsBefore (settings : List Setting) : Type 0 where
   pub ask_port : is_given (codes "--ask-port") settings ≡ true
   pub rounds : is_given (codes "--rounds") settings ≡ true
   pub no_ask_address : values_of (codes "--ask-address") settings ≡ []
+  pub no_log : values_of (codes "--log") settings ≡ []
+  pub no_feed_from : values_of (codes "--feed-from") settings ≡ []
+  pub no_ask_from : values_of (codes "--ask-from") settings ≡ []
 
--- Words that were a call of `serve` are that call: they ask for the same, and clients are listened for where routers are.
--- Words that give the five and not the new one are no other call than they were.
+-- what was asked for, before there were words for it
+pub record IsAsBefore (at : Listening) : Type 0 where
+  -- clients are listened for where routers are
+  pub ask_address : at.ask_address ≡ at.address
+  -- routers that come and go are told
+  pub log : at.log ≡ Routers
+  -- they may come from anywhere
+  pub feed_from : at.feed_from ≡ []
+  pub ask_from : at.ask_from ≡ []
+
+-- Words that were a call of `serve` are that call: they ask for the same, and what they couldn't say is as it was. Words that
+-- give the five and none of the new ones are no other call than they were.
 abbrev pub KeepsServe : Type 0
 KeepsServe = (serve : ServeWords) (lenient : Bool) (words : List (List ℕ))
-    → (WasServe serve lenient words × (serve.at.ask_address ≡ serve.at.address)) ↔ ((is : IsServe serve lenient words) × SaysAsBefore is.settings)
+    → (WasServe serve lenient words × IsAsBefore serve.at) ↔ ((is : IsServe serve lenient words) × SaysAsBefore is.settings)

@@ -20,7 +20,7 @@ abbrev pub option_rule : List ℕ → Rule
 option_rule name = record (new_rule name) { long = Some name }
 
 abbrev pub option_names : List (List ℕ)
-option_names = codes "feeds" ∷ codes "askers" ∷ codes "feed-port" ∷ codes "ask-port" ∷ codes "rounds" ∷ codes "address" ∷ codes "ports" ∷ codes "idle" ∷ codes "ask-idle" ∷ codes "ask-address" ∷ []
+option_names = codes "feeds" ∷ codes "askers" ∷ codes "feed-port" ∷ codes "ask-port" ∷ codes "rounds" ∷ codes "address" ∷ codes "ports" ∷ codes "idle" ∷ codes "ask-idle" ∷ codes "ask-address" ∷ codes "log" ∷ codes "feed-from" ∷ codes "ask-from" ∷ []
 
 -- the flag, which has no value; where it stands the empty one is found
 abbrev pub flag_rule : Rule

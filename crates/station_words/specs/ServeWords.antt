@@ -1,13 +1,16 @@
 -- The words of `serve`: settings in any order.
-use Rattle.std.specs.Prelude.{◌≡◌, ℕ, ◌+◌, ◌≤◌, ◌⊎◌, ◌++◌, Bool, true, false, not, ◌&&◌, if◌then◌else◌, List, [], ◌∷◌, map, codes, Option, None, Some}
-use Rattle.std.specs.List.{filter, list_any}
+use Rattle.std.specs.Prelude.{◌≡◌, ℕ, ◌+◌, ◌≤◌, ◌⊎◌, ◌++◌, length, Bool, true, false, not, ◌&&◌, if◌then◌else◌, List, [], ◌∷◌, map, codes, Option, None, Some}
+use Rattle.std.specs.List.{AllZip, filter, join_with_byte, list_any}
 use Rattle.std.specs.Str.{bytes_eq}
 use Rattle.bmp_specs.specs.declared.wire.Family.TheVariants.{V4}
 use Rattle.bmp_specs.specs.AddressText.{IsAddressText}
 use Rattle.bmp_specs.specs.NumberText.{IsNumberText}
 use Rattle.bmp_specs.specs.Prefix.{padded}
-use Rattle.bmp_specs.specs.Values.{AddressValue}
+use Rattle.bmp_specs.specs.PrefixText.{IsPrefixText}
+use Rattle.bmp_specs.specs.Values.{AddressValue, PrefixValue}
 use Rattle.station_doors.specs.Doors.{most_places}
+use Rattle.station_doors.specs.declared.listening.Log.{Log}
+use Rattle.station_doors.specs.declared.listening.Log.TheVariants.{None as NoConnections, Routers, Clients}
 use Rattle.station_words.specs.declared.serve_words.ServeWords.{ServeWords}
 
 -- a setting: its name, and its value, which is empty where it has none
@@ -16,7 +19,7 @@ Setting = List ℕ × List ℕ
 
 -- the name of a setting that has a value
 abbrev pub IsOption : List ℕ → Type 0
-IsOption name = (name ≡ codes "--feeds") ⊎ ((name ≡ codes "--askers") ⊎ ((name ≡ codes "--feed-port") ⊎ ((name ≡ codes "--ask-port") ⊎ ((name ≡ codes "--rounds") ⊎ ((name ≡ codes "--address") ⊎ ((name ≡ codes "--ports") ⊎ ((name ≡ codes "--idle") ⊎ ((name ≡ codes "--ask-idle") ⊎ (name ≡ codes "--ask-address")))))))))
+IsOption name = (name ≡ codes "--feeds") ⊎ ((name ≡ codes "--askers") ⊎ ((name ≡ codes "--feed-port") ⊎ ((name ≡ codes "--ask-port") ⊎ ((name ≡ codes "--rounds") ⊎ ((name ≡ codes "--address") ⊎ ((name ≡ codes "--ports") ⊎ ((name ≡ codes "--idle") ⊎ ((name ≡ codes "--ask-idle") ⊎ ((name ≡ codes "--ask-address") ⊎ ((name ≡ codes "--log") ⊎ ((name ≡ codes "--feed-from") ⊎ (name ≡ codes "--ask-from"))))))))))))
 
 -- the name of the one that has none
 abbrev pub flag : List ℕ
@@ -74,6 +77,24 @@ abbrev pub IsSeconds : List ℕ → Option ℕ → Type 0
 IsSeconds value None = ⊥
 IsSeconds value (Some n) = IsNumberText value n × (1 ≤ n) × (n ≤ 86400)
 
+-- what is said of connections
+abbrev pub IsLog : List ℕ → Log → Type 0
+IsLog value NoConnections = value ≡ codes "none"
+IsLog value Routers = value ≡ codes "routers"
+IsLog value Clients = value ≡ codes "clients"
+
+-- `,`
+abbrev pub comma : ℕ
+comma = 44
+
+-- the value is prefixes joined by commas, from 1 to 32
+pub record IsAllowed (value : List ℕ) (allowed : List PrefixValue) : Type 0 where
+  pub texts : List (List ℕ)
+  pub joined : value ≡ join_with_byte comma texts
+  pub each : AllZip IsPrefixText texts allowed
+  pub some : 1 ≤ length allowed
+  pub few : length allowed ≤ 32
+
 -- how many ports so many lanes or askers have: one each, or one
 abbrev pub ports_for : Bool → ℕ → ℕ
 ports_for shared n = if shared then 1 else n
@@ -114,6 +135,9 @@ pub record IsServe (serve : ServeWords) (lenient : Bool) (words : List (List ℕ
   pub ports : ArePorts serve.at.shared settings
   pub idle : MayGive (codes "--idle") (λ value. IsSeconds value serve.at.idle) (serve.at.idle ≡ None) settings
   pub ask_idle : MayGive (codes "--ask-idle") (λ value. IsSeconds value serve.at.ask_idle) (serve.at.ask_idle ≡ None) settings
+  pub log : MayGive (codes "--log") (λ value. IsLog value serve.at.log) (serve.at.log ≡ Routers) settings
+  pub feed_from : MayGive (codes "--feed-from") (λ value. IsAllowed value serve.at.feed_from) (serve.at.feed_from ≡ []) settings
+  pub ask_from : MayGive (codes "--ask-from") (λ value. IsAllowed value serve.at.ask_from) (serve.at.ask_from ≡ []) settings
   pub flagged : MayGive flag (λ value. lenient ≡ true) (lenient ≡ false) settings
   pub may_serve : MayServe serve
 

@@ -84,6 +84,10 @@ pub record IsCall (call : Call) (words : List (List ℕ)) : Type 0 where
   pub spelled : words ≡ first ∷ given
   pub is_command : IsCommand call.command call.lenient first given
 
+-- no call begins with `--check-options`
+abbrev pub ChecksAreNoCall : Type 0
+ChecksAreNoCall = (call : Call) (others : List (List ℕ)) → IsCall call (codes "--check-options" ∷ others) → ⊥
+
 -- the words are a call of `rov` with this file and this prefix
 pub record IsRovCall (file : List ℕ) (prefix : PrefixValue) (lenient : Bool) (words : List (List ℕ)) : Type 0 where
   pub given : List (List ℕ)

@@ -4,7 +4,8 @@
 //! leniently. What stands after `serve` are options, in any order and form, which `clap` takes apart; after `replay` it is a
 //! line of the query language (`query_lang`), after `drill` three numbers. The file of a call stays a word, which
 //! `file_word` finds. `help` and `version` are the texts of `--help` and `--version`. `why_no_command` names what is wrong
-//! with words that are no call, in a `Complaint`, which says itself in a line.
+//! with words that are no call, in a `Complaint`, which says itself in a line. `behind_check` finds the words that are only to be
+//! checked.
 //!
 //! Proved: `read_words` answers the call that the words are, and `Usage` only where they are no call; it answers
 //! `NoMemory` only where they begin with `replay`, `serve` or `recall`. `file_word` finds the word at the place of a call's
@@ -16,6 +17,7 @@
 //! `src/serve_words.rt` and `specs/ServeOptions.antt`.
 #![tactic(auto)]
 
+mod allowed_words;
 mod complaint;
 mod complaint_text;
 mod drill_words;
@@ -29,7 +31,7 @@ pub use complaint::{Complaint, why_no_command};
 pub use complaint_text::Shown;
 pub use drill_words::DrillWords;
 pub use explain::{help, version};
-pub use laws::{complaints_are_of_no_call, old_words_keep_their_meaning};
+pub use laws::{checks_are_no_call, complaints_are_of_no_call, old_words_keep_their_meaning};
 pub use serve_options::ServeOption;
 pub use serve_words::ServeWords;
-pub use words::{Call, Command, WordsFault, file_word, read_words};
+pub use words::{Call, Command, WordsFault, behind_check, file_word, read_words};

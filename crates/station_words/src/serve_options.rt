@@ -6,8 +6,9 @@ ghost use Rattle.station_words.specs.Complaints.{FrontComplains, IsDashed, IsNoN
 ghost use Rattle.station_words.specs.ServeWords.{IsInFront, IsOption, Setting as AnySetting};
 ghost use Rattle.station_words.specs.declared.serve_options.ServeOption.{ServeOption as AnyOption};
 
+use crate::allowed_words::allowed_of;
 use crate::complaint::Complaint;
-use crate::serve_words::{ports_of, rounds_of, seconds_of};
+use crate::serve_words::{log_of, ports_of, rounds_of, seconds_of};
 use crate::words::first_of;
 use ip_prefix::{parse_addr, parse_number};
 use station_doors::MOST_PLACES;
@@ -25,6 +26,9 @@ pub enum ServeOption {
     Ports,
     Idle,
     AskIdle,
+    Log,
+    FeedFrom,
+    AskFrom,
     Lenient,
 }
 
@@ -44,6 +48,9 @@ impl ServeOption {
             ServeOption::Ports => "--ports",
             ServeOption::Idle => "--idle",
             ServeOption::AskIdle => "--ask-idle",
+            ServeOption::Log => "--log",
+            ServeOption::FeedFrom => "--feed-from",
+            ServeOption::AskFrom => "--ask-from",
             ServeOption::Lenient => "--lenient",
         }
     }
@@ -57,6 +64,10 @@ impl ServeOption {
             ServeOption::Address | ServeOption::AskAddress => "an IPv4 or IPv6 address",
             ServeOption::Ports => "each or shared",
             ServeOption::Idle | ServeOption::AskIdle => "a number of seconds from 1 to 86400",
+            ServeOption::Log => "none, routers or clients",
+            ServeOption::FeedFrom | ServeOption::AskFrom => {
+                "prefixes joined by commas, at most 32"
+            }
             ServeOption::Lenient => "no value",
         }
     }
@@ -74,7 +85,7 @@ impl ServeOption {
     // Its place among the options.
     fn index(&self) -> usize
         ensures is { result ≡ index_of self.now }
-        ensures bound { result < 11 }
+        ensures bound { result < 14 }
     {
         match self {
             ServeOption::Feeds => 0,
@@ -88,6 +99,9 @@ impl ServeOption {
             ServeOption::Idle => 8,
             ServeOption::AskIdle => 9,
             ServeOption::Lenient => 10,
+            ServeOption::Log => 11,
+            ServeOption::FeedFrom => 12,
+            ServeOption::AskFrom => 13,
         }
     }
 }
@@ -108,6 +122,9 @@ fn option_named(word: &str) -> Option<ServeOption>
         "--ports" => Some(ServeOption::Ports),
         "--idle" => Some(ServeOption::Idle),
         "--ask-idle" => Some(ServeOption::AskIdle),
+        "--log" => Some(ServeOption::Log),
+        "--feed-from" => Some(ServeOption::FeedFrom),
+        "--ask-from" => Some(ServeOption::AskFrom),
         "--lenient" => Some(ServeOption::Lenient),
         _ => None,
     }
@@ -197,6 +214,9 @@ fn takes(option: ServeOption, value: &str) -> bool
         ServeOption::Ports => ports_of(value).is_some(),
         ServeOption::Idle => seconds_of(value).is_some(),
         ServeOption::AskIdle => seconds_of(value).is_some(),
+        ServeOption::Log => log_of(value).is_some(),
+        ServeOption::FeedFrom => allowed_of(value).is_some(),
+        ServeOption::AskFrom => allowed_of(value).is_some(),
         ServeOption::Lenient => value.is_empty(),
     }
 }
@@ -204,14 +224,14 @@ fn takes(option: ServeOption, value: &str) -> bool
 // Which options were read.
 #[derive(Drop)]
 struct Seen {
-    given: [bool; 11],
+    given: [bool; 14],
 }
 
 impl Seen {
     fn none() -> Seen
         ensures { (option : AnyOption) → is_seen result.given option ≡ false }
     {
-        Seen { given: [false; 11] }
+        Seen { given: [false; 14] }
     }
 
     fn has(&self, option: ServeOption) -> bool

@@ -1,17 +1,19 @@
 //! The settings of `serve`, in any order and form.
 
-ghost use Rattle.std.specs.Prelude.{◌≡◌, ◌≢◌, ◌↔◌, ◌≤◌, ℕ, Bool, List, Option, Err, None, codes, map, IsTrue, IfSome, IfNone, IfOk, false, true, not, ◌&&◌};
+ghost use Rattle.std.specs.Prelude.{◌≡◌, ◌≢◌, [], ◌↔◌, ◌≤◌, ℕ, Bool, List, Option, Err, None, codes, map, IsTrue, IfSome, IfNone, IfOk, false, true, not, ◌&&◌};
 ghost use Rattle.std.specs.List.{list_any};
 ghost use Rattle.std.specs.String.{string_bytes};
 ghost use Rattle.bmp_specs.specs.AddressText.{IsAddressText};
 ghost use Rattle.bmp_specs.specs.NumberText.{IsNumberText};
-ghost use Rattle.bmp_specs.specs.Values.{AddressValue};
+ghost use Rattle.bmp_specs.specs.Values.{AddressValue, PrefixValue};
 ghost use Rattle.clap.specs.Words.{app_of, rule_of};
+ghost use Rattle.station_doors.specs.declared.listening.Log.{Log as AnyLog};
 ghost use Rattle.station_words.specs.Complaints.{OpenAsks, OpenFeeds, ServeComplains};
 ghost use Rattle.station_words.specs.ServeOptions.{AreMatches, dashed, flag_rule, is_dashes, option_rule, options_of, serve_app, with_rules};
-ghost use Rattle.station_words.specs.ServeWords.{Gives, Has, ArePorts, IsPorts, IsRounds, IsSeconds, IsServe, MayGive, MayServe, flag, forever, is_given, usually_shared, loopback, ports_for};
+ghost use Rattle.station_words.specs.ServeWords.{Gives, Has, ArePorts, IsAllowed, IsLog, IsPorts, IsRounds, IsSeconds, IsServe, MayGive, MayServe, flag, forever, is_given, usually_shared, loopback, ports_for};
 ghost use Rattle.station_words.specs.declared.serve_words.ServeWords.{ServeWords as AnyServe};
 
+use crate::allowed_words::allowed_of;
 use crate::complaint::Complaint;
 use crate::serve_options::ServeOption;
 use crate::words::WordsFault;
@@ -19,7 +21,7 @@ use clap::builder::ValueRange;
 use clap::error::ErrorKind;
 use clap::{Arg, ArgAction, ArgMatches, Command};
 use ip_prefix::{Addr, parse_addr, parse_number};
-use station_doors::{Listening, MOST_PLACES};
+use station_doors::{Allowed, Listening, Log, MOST_PLACES};
 use std::alloc::{AllocError, Global};
 
 // What is asked for where an option isn't given.
@@ -82,6 +84,9 @@ fn serve_command<'a>(alloc: Global) -> Result<Command<'a>, AllocError>
         "idle",
         "ask-idle",
         "ask-address",
+        "log",
+        "feed-from",
+        "ask-from",
     ];
     with_options(alloc, command, &options)?.arg(lenient(alloc))
 }
@@ -302,6 +307,48 @@ fn find_seconds(matches: &ArgMatches<'_>, name: &str) -> Option<Option<u32>>
     }
 }
 
+// What is said of connections, by a value.
+pub(crate) fn log_of(value: &str) -> Option<Log>
+    ensures some { IfSome result (λ log. IsLog value.now log) }
+    ensures none { IfNone result ((log : AnyLog) → IsLog value.now log → ⊥) }
+{
+    match value {
+        "none" => Some(Log::None),
+        "routers" => Some(Log::Routers),
+        "clients" => Some(Log::Clients),
+        _ => None,
+    }
+}
+
+// What is said of connections, by the words.
+fn find_log(matches: &ArgMatches<'_>) -> Option<Log>
+    ensures some { (words : List (List ℕ)) → AreMatches words matches.now → IfSome result (λ log. Has (MayGive (dashed (codes "log")) (λ value. IsLog value log) (log ≡ Log.Routers)) words) }
+    ensures only { (words : List (List ℕ)) → AreMatches words matches.now
+        → IfSome result (λ log. (other : AnyLog) → Has (MayGive (dashed (codes "log")) (λ value. IsLog value other) (other ≡ Log.Routers)) words → other ≡ log) }
+    ensures none { (words : List (List ℕ)) → AreMatches words matches.now
+        → IfNone result ((log : AnyLog) → Has (MayGive (dashed (codes "log")) (λ value. IsLog value log) (log ≡ Log.Routers)) words → ⊥) }
+{
+    match matches.get_str("log") {
+        Some(value) => log_of(value),
+        None => Some(Log::Routers),
+    }
+}
+
+// Where connections may come from, by the words: from anywhere where they don't say it.
+fn find_allowed(matches: &ArgMatches<'_>, name: &str) -> Option<Allowed>
+    ensures some { (words : List (List ℕ)) → AreMatches words matches.now
+        → IfSome result (λ allowed. Has (MayGive (dashed name.now) (λ value. IsAllowed value allowed) (allowed ≡ [])) words) }
+    ensures only { (words : List (List ℕ)) → AreMatches words matches.now
+        → IfSome result (λ allowed. (other : List PrefixValue) → Has (MayGive (dashed name.now) (λ value. IsAllowed value other) (other ≡ [])) words → other ≡ allowed) }
+    ensures none { (words : List (List ℕ)) → AreMatches words matches.now
+        → IfNone result ((allowed : List PrefixValue) → Has (MayGive (dashed name.now) (λ value. IsAllowed value allowed) (allowed ≡ [])) words → ⊥) }
+{
+    match matches.get_str(name) {
+        Some(value) => allowed_of(value),
+        None => Some(Allowed::anywhere()),
+    }
+}
+
 // Whether the words have the flag.
 fn find_lenient(matches: &ArgMatches<'_>) -> bool
     ensures { (words : List (List ℕ)) → AreMatches words matches.now → Has (MayGive flag (λ value. result ≡ true) (result ≡ false)) words }
@@ -388,6 +435,15 @@ fn serve_of(matches: &ArgMatches<'_>) -> Option<ServeWords>
     let Some(ask_idle) = find_seconds(matches, "ask-idle") else {
         return None;
     };
+    let Some(log) = find_log(matches) else {
+        return None;
+    };
+    let Some(feed_from) = find_allowed(matches, "feed-from") else {
+        return None;
+    };
+    let Some(ask_from) = find_allowed(matches, "ask-from") else {
+        return None;
+    };
     let Some(feed_port) = port_of(feed_number) else {
         return None;
     };
@@ -405,6 +461,9 @@ fn serve_of(matches: &ArgMatches<'_>) -> Option<ServeWords>
             shared,
             idle,
             ask_idle,
+            log,
+            feed_from,
+            ask_from,
         },
         rounds,
     };
@@ -412,9 +471,9 @@ fn serve_of(matches: &ArgMatches<'_>) -> Option<ServeWords>
 }
 
 /// What the words after `serve` ask for: `--feeds N`, `--askers M`, `--feed-port P`, `--ask-port Q`, `--rounds K`,
-/// `--address A`, `--ask-address A`, `--ports each` or `shared`, `--idle S`, `--ask-idle S` and `--lenient`,
-/// in any order. Each may be left out, and is given at most once, as `--name value` or as `--name=value`, and `--lenient`
-/// alone. It answers too whether that one is given. `Usage` exactly where the words are no
+/// `--address A`, `--ask-address A`, `--ports each` or `shared`, `--idle S`, `--ask-idle S`, `--log none`, `routers` or
+/// `clients`, `--feed-from P,P,..`, `--ask-from P,P,..` and `--lenient`, in any order. Each may be left out, and is given at most once, as `--name value` or as
+/// `--name=value`, and `--lenient` alone. It answers too whether that one is given. `Usage` exactly where the words are no
 /// such settings.
 pub fn read_serve(alloc: Global, words: &[String]) -> Result<(ServeWords, bool), WordsFault>
     ensures ok { IfOk result (λ read. IsServe read.0 read.1 (map string_bytes words.now)) }

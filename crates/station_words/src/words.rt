@@ -312,6 +312,22 @@ pub fn read_words(alloc: Global, words: &[String]) -> Result<Call, WordsFault>
     }
 }
 
+/// The words behind `--check-options`, where it is the first of the words: of those it is asked whether they are a command. No
+/// command begins with it.
+pub fn behind_check(words: &[String]) -> Option<&[String]>
+    ensures some { IfSome result (λ others. map string_bytes words.now ≡ codes "--check-options" ∷ map string_bytes others.now) }
+    ensures none { IfNone result ((others : List (List ℕ)) → map string_bytes words.now ≡ codes "--check-options" ∷ others → ⊥) }
+{
+    match first_of(words) {
+        Some((first, others)) => if is_word(first, "--check-options") {
+            Some(others)
+        } else {
+            None
+        },
+        None => None,
+    }
+}
+
 // The word at this place; empty where there is none.
 fn word_at(words: &[String], place: usize) -> &str
     ensures { result.now ≡ get_or (map string_bytes words.now) place [] }

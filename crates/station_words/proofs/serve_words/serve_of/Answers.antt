@@ -38,6 +38,15 @@ returns-in_default-find_seconds-clause-none c = λ words are serve lenient is. c
 pub returns-in_default-find_seconds-2-clause-none : goal.returns-in_default-find_seconds-2-clause-none
 returns-in_default-find_seconds-2-clause-none c = λ words are serve lenient is. c.in_default-find_seconds-2.ensures.none words are serve.at.ask_idle (is.settings, is.are_settings, is.ask_idle)
 
+pub returns-in_default-find_log-clause-none : goal.returns-in_default-find_log-clause-none
+returns-in_default-find_log-clause-none c = λ words are serve lenient is. c.in_default-find_log.ensures.none words are serve.at.log (is.settings, is.are_settings, is.log)
+
+pub returns-in_default-find_allowed-clause-none : goal.returns-in_default-find_allowed-clause-none
+returns-in_default-find_allowed-clause-none c = λ words are serve lenient is. c.in_default-find_allowed.ensures.none words are serve.at.feed_from (is.settings, is.are_settings, is.feed_from)
+
+pub returns-in_default-find_allowed-2-clause-none : goal.returns-in_default-find_allowed-2-clause-none
+returns-in_default-find_allowed-2-clause-none c = λ words are serve lenient is. c.in_default-find_allowed-2.ensures.none words are serve.at.ask_from (is.settings, is.are_settings, is.ask_from)
+
 pub returns-in_default-port_of-clause-none : goal.returns-in_default-port_of-clause-none
 returns-in_default-port_of-clause-none c = λ words are serve lenient is.
     let same = c.in-Some-find_number-2.ensures.only words are serve.at.feed_port (is.settings, is.are_settings, is.feed_port) in
@@ -64,6 +73,9 @@ returns-then-may_serve-clause-some c = λ words are lenient has.
       ports = holds_in _ words first.0 first.1 (c.in-Some-find_ports.ensures.some words are);
       idle = holds_in _ words first.0 first.1 (c.in-Some-find_seconds.ensures.some words are);
       ask_idle = holds_in _ words first.0 first.1 (c.in-Some-find_seconds-2.ensures.some words are);
+      log = holds_in _ words first.0 first.1 (c.in-Some-find_log.ensures.some words are);
+      feed_from = holds_in _ words first.0 first.1 (c.in-Some-find_allowed.ensures.some words are);
+      ask_from = holds_in _ words first.0 first.1 (c.in-Some-find_allowed-2.ensures.some words are);
       flagged = holds_in _ words first.0 first.1 has;
       may_serve = c.may_serve.ensures.0 c.if-may_serve.true;
     }
