@@ -63,6 +63,13 @@ impl Allowed {
         self.count += 1;
     }
 
+    /// Whether there is no prefix.
+    pub fn is_anywhere(&self) -> bool
+        ensures { IsTrue result ↔ (self.now ≡ []) }
+    {
+        self.count == 0
+    }
+
     /// Whether a connection from this address may come.
     pub fn contains(&self, address: &Addr) -> bool
         ensures { IsTrue result ↔ MayConnect self.now address.now }

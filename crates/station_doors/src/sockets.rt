@@ -129,8 +129,11 @@ fn prepare(stream: &TcpStream, idle: Option<u32>) -> io::Result<()> {
     stream.set_nodelay(true)
 }
 
-// Whether the stream comes from where it may. One whose other end is gone already comes from nowhere.
+// Whether the stream comes from where it may. Where it matters, one whose other end is gone already comes from nowhere.
 fn may_come(stream: &TcpStream, allowed: &Allowed) -> bool {
+    if allowed.is_anywhere() {
+        return true;
+    }
     match stream.peer_addr() {
         Ok(from) => allowed.allows(&from.ip()),
         Err(_) => false,
