@@ -12,3 +12,4 @@ pub mod MemLink
 pub mod SureLink
 pub mod MemYard
 pub mod Counts
+pub mod Accepting

@@ -168,6 +168,16 @@ pub trait Yard {
         ensures counted { CountsCall (seen self.old) (seen self.new) }
         ensures cause { HasCause (faults self.old) (faults self.new) result };
 
+    /// Hands out the disk of this path where one is there, as `disk` does. A real yard makes no file, and fails where
+    /// there is none.
+    fn kept_disk(&mut self, path: &str) -> Result<Self::Disk, Failed>
+        ensures told { HandsOutDisk Self.Disk.tells Self.Disk.shows Self.Disk.faults path.now (seen self.old).calls (seen self.old).told (seen self.new).told result }
+        ensures counted { CountsCall (seen self.old) (seen self.new) }
+        ensures cause { HasCause (faults self.old) (faults self.new) result }
+    {
+        self.disk(path)
+    }
+
     /// Takes back the port that was handed out under this number. It raises no count.
     fn take_port(&mut self, lane: u32, port: Self::Port)
         ensures told { TakesBack lane (Self.Port.aside port) (seen self.old).told (seen self.new).told }

@@ -1,5 +1,6 @@
-ghost use Rattle.std.specs.Prelude.{◌≡◌, ◌↔◌, None, Some, IfOk, IsOk, IsSome, ◌<◌, ◌≤◌, slice_get};
+ghost use Rattle.std.specs.Prelude.{◌≡◌, ◌↔◌, None, Some, Ok, IfOk, IsOk, IsSome, ◌<◌, ◌≤◌, slice_get};
 ghost use Rattle.wire_io.specs.Faults.{HasCause};
+ghost use Rattle.disk_doors.specs.Opening.{made_where_none, as_it_is};
 ghost use Rattle.station_doors.specs.Files.{HasFileCause};
 ghost use Rattle.station_doors.specs.Doors.{CountsCall, LeavesRest, askers_of, counts_only, one_more};
 
@@ -84,6 +85,24 @@ impl<'a, R, N> HostYard<'a, R, N> {
         ensures calm { self.new.faults ≡ self.old.faults }
     {
         self.fault = Some(HostFault { port, error });
+    }
+
+    // Counts a call, and hands out the disk that was opened in it, or keeps why none was.
+    fn hand_out(&mut self, opened: io::Result<HostDisk>) -> Result<HostDisk, Failed>
+        ensures same { IfOk result (λ disk. opened ≡ Ok disk) }
+        ensures counted { CountsCall (counts_only self.old.calls self.old.listened self.old.endings) (counts_only self.new.calls self.new.listened self.new.endings) }
+        ensures cause { HasCause self.old.faults self.new.faults result }
+        ensures input { self.new.input ≡ self.old.input }
+    {
+        self.calls = self.calls.saturating_add(1);
+        match opened {
+            Ok(disk) => Ok(disk),
+            Err(error) => {
+                self.blame(None, error);
+                self.faults = self.faults.saturating_add(1);
+                Err(Failed)
+            }
+        }
     }
 }
 
@@ -229,19 +248,23 @@ impl<
     }
 
     fn disk(&mut self, path: &str) -> Result<HostDisk, Failed>
+        ensures made { IfOk result (λ disk. disk.opened ≡ made_where_none) }
         ensures counted { CountsCall (counts_only self.old.calls self.old.listened self.old.endings) (counts_only self.new.calls self.new.listened self.new.endings) }
         ensures cause { HasCause self.old.faults self.new.faults result }
         ensures input { self.new.input ≡ self.old.input }
     {
-        self.calls = self.calls.saturating_add(1);
-        match HostDisk::open(self.net, path) {
-            Ok(disk) => Ok(disk),
-            Err(error) => {
-                self.blame(None, error);
-                self.faults = self.faults.saturating_add(1);
-                Err(Failed)
-            }
-        }
+        let opened = HostDisk::open(self.net, path);
+        self.hand_out(opened)
+    }
+
+    fn kept_disk(&mut self, path: &str) -> Result<HostDisk, Failed>
+        ensures kept { IfOk result (λ disk. disk.opened ≡ as_it_is) }
+        ensures counted { CountsCall (counts_only self.old.calls self.old.listened self.old.endings) (counts_only self.new.calls self.new.listened self.new.endings) }
+        ensures cause { HasCause self.old.faults self.new.faults result }
+        ensures input { self.new.input ≡ self.old.input }
+    {
+        let opened = HostDisk::open_kept(self.net, path);
+        self.hand_out(opened)
     }
 
     fn file(&mut self, alloc: Global, path: &str) -> Result<ByteList, FileFault>

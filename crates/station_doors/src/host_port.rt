@@ -8,14 +8,14 @@ use crate::log::PlaceLog;
 use crate::sockets::{accept_next, read_stream};
 use crate::{Allowed, Port};
 use std::io::{self, Read};
-use std::net::{SocketAddr, TcpListener, TcpStream};
-use std::sync::Wait;
-use std::time::Clock;
+use std::net::{TcpListener, TcpStream};
+use std::thread::sleep;
+use std::time::{Clock, Duration};
 use wire_io::Failed;
 
 /// A port over a reader, which has one connection, or over a listener, which has one after another. Over a reader it
-/// tells what the reader tells, over a listener nothing of content. A connection of a listener that says nothing for
-/// `idle` seconds is a fault of the read that waits; one from elsewhere than it may come from isn't taken.
+/// tells what the reader tells, over a listener nothing of content. A reader that has nothing yet is waited for, also where
+/// its reads don't wait. A connection of a listener that says nothing for `idle` seconds is a fault of the read that waits.
 #[derive(Drop)]
 pub struct HostPort<'a, R, N> {
     clock: &'a N,
@@ -82,8 +82,43 @@ fn come<N: Clock + Wait>(
     }
 }
 
-// Reads from the input, or else from the stream. It fails too where there is neither. Why that failed is kept.
-fn read_from<R: Read>(
+// How long an input that has nothing yet is left alone before it is read again, in thousandths of a second: the first time,
+// and at most.
+const FIRST_PAUSE: u64 = 1;
+
+const LONGEST_PAUSE: u64 = 64;
+
+// Reads from the input. One that has nothing yet, and whose reads don't wait, is read again after a pause, each twice as
+// long as the one before. Why the input failed is kept.
+fn read_input<R: Read, N: Clock>(
+    clock: &N,
+    input: &mut R,
+    buf: &mut [u8],
+    reason: &mut Option<io::Error>,
+) -> Result<usize, Failed>
+    ensures bound { IfOk result (λ n. n ≤ length buf.new) }
+    ensures rest { ReadConsumes (R.remaining input.old) (R.remaining input.new) result buf.new }
+{
+    let mut pause = FIRST_PAUSE;
+    'reads: for _ in 0..u64::MAX {
+        match input.read(buf) {
+            Ok(count) => return Ok(count),
+            Err(error) => {
+                if error.kind() != io::ErrorKind::WouldBlock {
+                    *reason = Some(error);
+                    return Err(Failed);
+                }
+            }
+        }
+        sleep(clock, Duration::from_millis(pause));
+        pause = pause.saturating_mul(2).min(LONGEST_PAUSE);
+    }
+    Err(Failed)
+}
+
+// Reads from the input, or else from the stream. It fails too where there is neither.
+fn read_from<R: Read, N: Clock>(
+    clock: &N,
     input: &mut Option<R>,
     stream: &mut Option<TcpStream>,
     buf: &mut [u8],
@@ -93,13 +128,7 @@ fn read_from<R: Read>(
     ensures rest { ReadConsumes (rest_of R.remaining input.old) (rest_of R.remaining input.new) result buf.new }
 {
     if let Some(input) = input {
-        return match input.read(buf) {
-            Ok(count) => Ok(count),
-            Err(error) => {
-                *reason = Some(error);
-                Err(Failed)
-            }
-        };
+        return read_input(clock, input, buf, reason);
     }
     match stream {
         Some(stream) => match read_stream(stream, buf) {
@@ -142,7 +171,13 @@ impl<'a, R: Read + Drop, N: Clock + Wait + Sync> Port for HostPort<'a, R, N> {
     }
 
     fn read(&mut self, buf: &mut [u8]) -> Result<usize, Failed> {
-        let came = read_from(&mut self.input, &mut self.stream, buf, &mut self.reason);
+        let came = read_from(
+            self.clock,
+            &mut self.input,
+            &mut self.stream,
+            buf,
+            &mut self.reason,
+        );
         self.counts.read(came)
     }
 

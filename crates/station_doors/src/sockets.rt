@@ -1,4 +1,6 @@
-ghost use Rattle.std.specs.Prelude.{◌≡◌, ◌<◌, ◌≤◌, Some, length, slice_get, IfOk, IfSome};
+ghost use Rattle.std.specs.Prelude.{◌≡◌, ◌<◌, ◌≤◌, Some, length, slice_get, Contains, IfOk, IfSome, IsSomeAnd, IsTrue};
+ghost use Rattle.std.specs.IoError.{raw_os_error};
+ghost use Rattle.station_doors.specs.Accepting.{ended, unreachable, of_protocol, crowded, IsLost};
 
 use crate::{Allowed, HostFault};
 use ip_prefix::{Addr, Family};
@@ -89,22 +91,35 @@ pub(crate) fn take_listener(
     }
 }
 
-// Whether it was one connection that was lost before it was taken, or the call was broken off. The next may come.
-fn is_passing(kind: ErrorKind) -> bool {
-    matches!(
-        kind,
-        ErrorKind::ConnectionReset
-            | ErrorKind::ConnectionAborted
-            | ErrorKind::Interrupted
-            | ErrorKind::TimedOut
-            | ErrorKind::HostUnreachable
-            | ErrorKind::NetworkUnreachable
-            | ErrorKind::NetworkDown
-    )
-}
+// What accept(2) says on Linux. The connection ended before it was taken, or the call was broken off.
+const EINTR: i32 = 4;
 
-// What Linux says where it has no room for a further connection: no memory, too many open files of the system or of this
-// process, no buffer space.
+const ECONNABORTED: i32 = 103;
+
+const ECONNRESET: i32 = 104;
+
+const ETIMEDOUT: i32 = 110;
+
+// It can't be reached any more.
+const ENETDOWN: i32 = 100;
+
+const ENETUNREACH: i32 = 101;
+
+const EHOSTDOWN: i32 = 112;
+
+const EHOSTUNREACH: i32 = 113;
+
+// Its protocol had a fault.
+const ENONET: i32 = 64;
+
+const EPROTO: i32 = 71;
+
+const ENOPROTOOPT: i32 = 92;
+
+const EOPNOTSUPP: i32 = 95;
+
+// There is no room for a further connection: no memory, too many open files of the system or of this process, no buffer
+// space.
 const ENOMEM: i32 = 12;
 
 const ENFILE: i32 = 23;
@@ -113,12 +128,83 @@ const EMFILE: i32 = 24;
 
 const ENOBUFS: i32 = 105;
 
-// Whether the system has no room for a further connection now. It may have some later.
-fn is_crowded(error: &io::Error) -> bool {
-    matches!(
-        error.raw_os_error(),
-        Some(ENOMEM | ENFILE | EMFILE | ENOBUFS)
-    )
+fn is_ended(code: i32) -> bool
+    ensures { Contains ended code → IsTrue result }
+{
+    match code {
+        EINTR | ECONNABORTED | ECONNRESET | ETIMEDOUT => true,
+        _ => false,
+    }
+}
+
+fn is_unreachable(code: i32) -> bool
+    ensures { Contains unreachable code → IsTrue result }
+{
+    match code {
+        ENETDOWN | ENETUNREACH | EHOSTDOWN | EHOSTUNREACH => true,
+        _ => false,
+    }
+}
+
+fn is_of_protocol(code: i32) -> bool
+    ensures { Contains of_protocol code → IsTrue result }
+{
+    match code {
+        ENONET | EPROTO | ENOPROTOOPT | EOPNOTSUPP => true,
+        _ => false,
+    }
+}
+
+fn is_crowded(code: i32) -> bool
+    ensures { Contains crowded code → IsTrue result }
+{
+    match code {
+        ENOMEM | ENFILE | EMFILE | ENOBUFS => true,
+        _ => false,
+    }
+}
+
+// What is done after a connection couldn't be taken.
+#[derive(Clone, Copy, Debug, PartialEq, Eq)]
+enum AfterFault {
+    // The next one is taken: this one alone was lost, or the call was broken off.
+    Next,
+    // It is asked again a while later: the system has no room for a further connection now.
+    Later,
+    // The listener is given up.
+    Never,
+}
+
+// What is done after this error number.
+fn after_code(code: i32) -> AfterFault
+    ensures next { IsLost code → result ≡ AfterFault.Next }
+    ensures crowded { Contains crowded code → result ≡ AfterFault.Never → ⊥ }
+{
+    if is_ended(code) {
+        return AfterFault::Next;
+    }
+    if is_unreachable(code) {
+        return AfterFault::Next;
+    }
+    if is_of_protocol(code) {
+        return AfterFault::Next;
+    }
+    if is_crowded(code) {
+        AfterFault::Later
+    } else {
+        AfterFault::Never
+    }
+}
+
+// What is done after this error. One that isn't the system's ends it.
+fn after_fault(error: &io::Error) -> AfterFault
+    ensures next { IsSomeAnd (raw_os_error error.now) IsLost → result ≡ AfterFault.Next }
+    ensures crowded { IsSomeAnd (raw_os_error error.now) (Contains crowded) → result ≡ AfterFault.Never → ⊥ }
+{
+    match error.raw_os_error() {
+        Some(code) => after_code(code),
+        None => AfterFault::Never,
+    }
 }
 
 // Bounds how long each read and each write of the stream waits, and lets its writes go out at once.
@@ -141,8 +227,8 @@ fn may_come(stream: &TcpStream, allowed: &Allowed) -> bool {
 }
 
 // Waits for the next connection, whose reads and writes then wait for `idle` seconds at most. One that is lost before it
-// is ready is passed over, and one from elsewhere than `allowed` is closed before a byte of it is read. Where the system has
-// no room for one it is asked again a second later. None where that failed for another cause.
+// is ready is passed over, and where the system has no room for one it is asked again a second later. None where that
+// failed for another cause; `after_fault` says which is which.
 pub(crate) fn accept_next<C: Clock>(
     clock: &C,
     listener: &TcpListener,
@@ -160,18 +246,11 @@ pub(crate) fn accept_next<C: Clock>(
                     return Some(stream);
                 }
             }
-            Err(error) => {
-                if is_crowded(&error) {
-                    if !is_waiting {
-                        is_waiting = true;
-                        log.waiting(clock, crowd_text(&error));
-                    }
-                    sleep(clock, Duration::from_secs(1));
-                } else if !is_passing(error.kind()) {
-                    log.stopped(clock, &error);
-                    return None;
-                }
-            }
+            Err(error) => match after_fault(&error) {
+                AfterFault::Next => {}
+                AfterFault::Later => sleep(clock, Duration::from_secs(1)),
+                AfterFault::Never => return None,
+            },
         }
     }
     None
