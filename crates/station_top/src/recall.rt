@@ -85,7 +85,7 @@ pub(crate) fn refuse<O: Sink>(out: &mut O, fault: RecoverFault) -> Status
     }
 }
 
-// Recovers the archive of the path's disk, gives the disk back, and writes the reply on the content.
+// Recovers the archive of the path's disk, where one is there, gives the disk back, and writes the reply on the content.
 fn run_recall<A: Account + Drop, R: BodyReading + Drop, Y: Yard, O: Sink>(
     alloc: Global,
     path: &str,
@@ -101,7 +101,7 @@ fn run_recall<A: Account + Drop, R: BodyReading + Drop, Y: Yard, O: Sink>(
     ensures yard { AnswersFault (Y.faults yard.old) (Y.faults yard.new) result Status.YardFault }
     ensures aside { O.aside out.new ≡ O.aside out.old }
 {
-    let Ok(mut disk) = yard.disk(path) else {
+    let Ok(mut disk) = yard.kept_disk(path) else {
         return Status::YardFault;
     };
     let content = recover(alloc, &mut disk);
@@ -112,8 +112,8 @@ fn run_recall<A: Account + Drop, R: BodyReading + Drop, Y: Yard, O: Sink>(
     }
 }
 
-/// Asks the yard for the disk of this path, gives it back, and writes the reply that is asked for on what the archive keeps,
-/// and the stop line. Bodies are read leniently or by the RFCs alone.
+/// Asks the yard for the disk of this path, where one is there, gives it back, and writes the reply that is asked for on
+/// what the archive keeps, and the stop line. Bodies are read leniently or by the RFCs alone.
 pub(crate) fn run_recall_by<A: Account + Drop, Y: Yard, O: Sink>(
     alloc: Global,
     lenient: bool,
