@@ -11,7 +11,7 @@ use Rattle.station_doors.specs.declared.listening.Listening.{Listening}
 
 -- the most routers that are listened for, and the most clients
 abbrev pub most_places : ℕ
-most_places = 64
+most_places = 1024
 
 -- one more, at most what 64 bits hold
 abbrev pub one_more : ℕ → ℕ

@@ -11,7 +11,7 @@ use std::thread::sleep;
 use std::time::{Clock, Duration};
 
 /// The most routers, and the most clients, that are listened for.
-pub const MOST_PLACES: u32 = 64;
+pub const MOST_PLACES: u32 = 1024;
 
 // The address as the network takes it.
 pub(crate) fn ip_of(address: &Addr) -> IpAddr {
