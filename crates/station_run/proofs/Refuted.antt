@@ -15,6 +15,7 @@ use Rattle.bmp_specs.specs.Walk.{Stops as WalkStops, Verdict, broken, more, term
 use Rattle.bmp_specs.proofs.FrameCode.{frame_one}
 use Rattle.bmp_specs.proofs.MessageOne.{strict_exact}
 use Rattle.bmp_specs.proofs.WalkOne.{at_front, front_verdict, stop_verdict}
+use Rattle.cut_publisher.specs.Cuts.{most_passes}
 use Rattle.cut_publisher.specs.History.{Asker, Fed, Site}
 use Rattle.cut_publisher.specs.Opening.{fresh_feed}
 use Rattle.drill_streams.specs.DrillStream.{IsDrillStream}
@@ -23,7 +24,7 @@ use Rattle.rib_model.specs.declared.entry.Entry.{Entry}
 use Rattle.router_tables.specs.Tables.{TablesValue}
 use Rattle.wire_io.specs.Aside.{Aside, Plan, nothing_aside}
 use Rattle.wire_io.specs.declared.sink.Failed.{Failed}
-use Rattle.station_doors.specs.Doors.{IsRefusal, Opens, Returned, YardSeen, YardValue, one_more, untouched, untouched_link}
+use Rattle.station_doors.specs.Doors.{IsRefusal, Opens, Returned, YardSeen, YardValue, most_places, one_more, untouched, untouched_link}
 use Rattle.station_doors.specs.declared.listening.Listening.{Listening}
 use Rattle.feed_worker.specs.Feed.{Connection, Serves, ServesFeed, Stops, Visits, lives_of}
 use Rattle.feed_worker.specs.declared.feed.LaneEnd.{LaneEnd}
@@ -37,6 +38,11 @@ use Rattle.station_run.specs.Served.{LaneRun, LaneServes, LanesServe, last_of}
 use Rattle.station_run.specs.declared.outcome.Outcome.{Outcome}
 use Rattle.station_run.specs.declared.outcome.Outcome.TheVariants.{Done, NoMemory}
 use Rattle.station_run.proofs.Counted.{end_counts_connections}
+
+-- ---- another bound of the routers that are listened for than of the lanes
+-- As many routers and clients are listened for at most as a station has passes for.
+places_are_passes : most_places ≡ most_passes
+places_are_passes = refl
 
 -- ---- lanes that listen where askers are told to
 abbrev feed_port_of : Option Listening → ℕ

@@ -2,7 +2,7 @@
 ghost use Rattle.std.specs.Prelude.{◌≡◌, ◌+◌, ◌≤◌, ℕ, Some, [], length, vec_len, IfOk, OnOk, OnErr, MatchResult};
 ghost use Rattle.std.specs.Vec.{vec_capacity};
 ghost use Rattle.wire_io.specs.Faults.{HasCause};
-ghost use Rattle.station_doors.specs.Doors.{LeavesRest};
+ghost use Rattle.station_doors.specs.Doors.{LeavesRest, most_places};
 ghost use Rattle.station_run.specs.Handed.{AllComeBack, FailsAt, Lends, LendsButRefuses, LinksComeBack, PortsComeBack, Refuses, call_after, link_shows, numbered, numbered_links};
 ghost use Rattle.station_run.specs.Serve.{TakesNone};
 
@@ -60,7 +60,7 @@ fn ask_all<Y: Yard>(
 
 // Gives the ports back.
 fn give_ports<Y: Yard>(yard: &mut Y, mut ports: Vec<LanePort<Y::Port>>)
-    requires few { length ports.items ≤ 64 }
+    requires few { length ports.items ≤ most_places }
     ensures told { PortsComeBack (Y.seen yard.old).told (Y.seen yard.new).told (numbered Y.Port.aside 0 ports.items) 0 }
     ensures rest { LeavesRest (Y.seen yard.old) (Y.seen yard.new) }
     ensures calm { Y.faults yard.new ≡ Y.faults yard.old }
@@ -75,7 +75,7 @@ fn give_ports<Y: Yard>(yard: &mut Y, mut ports: Vec<LanePort<Y::Port>>)
 
 // Gives the links back.
 fn give_links<Y: Yard>(yard: &mut Y, mut links: Vec<Y::Link>)
-    requires few { length links.items ≤ 64 }
+    requires few { length links.items ≤ most_places }
     ensures told { LinksComeBack (Y.seen yard.old).told (Y.seen yard.new).told (numbered_links (link_shows Y.Link.aside Y.Link.told Y.Link.faults) 0 links.items) 0 }
     ensures rest { LeavesRest (Y.seen yard.old) (Y.seen yard.new) }
     ensures calm { Y.faults yard.new ≡ Y.faults yard.old }
@@ -90,7 +90,7 @@ fn give_links<Y: Yard>(yard: &mut Y, mut links: Vec<Y::Link>)
 
 /// Gives all ports and links back, each under its number. It raises no count.
 pub fn give_back<Y: Yard>(yard: &mut Y, doors: Doors<Y::Port, Y::Link>)
-    requires few { (length doors.ports.items ≤ 64) × (length doors.links.items ≤ 64) }
+    requires few { (length doors.ports.items ≤ most_places) × (length doors.links.items ≤ most_places) }
     ensures told { AllComeBack (Y.seen yard.old).told (Y.seen yard.new).told
         (numbered Y.Port.aside 0 doors.ports.items) (numbered_links (link_shows Y.Link.aside Y.Link.told Y.Link.faults) 0 doors.links.items) }
     ensures rest { LeavesRest (Y.seen yard.old) (Y.seen yard.new) }
@@ -108,8 +108,8 @@ pub fn open_doors<Y: Yard>(
     yard: &mut Y,
     doors: Doors<Y::Port, Y::Link>,
 ) -> Result<Doors<Y::Port, Y::Link>, Failed>
-    requires ports { (doors.ports.items ≡ []) × (at.now.feeds ≤ vec_capacity doors.ports) × (at.now.feeds ≤ 64) }
-    requires links { (doors.links.items ≡ []) × (at.now.askers ≤ vec_capacity doors.links) × (at.now.askers ≤ 64) }
+    requires ports { (doors.ports.items ≡ []) × (at.now.feeds ≤ vec_capacity doors.ports) × (at.now.feeds ≤ most_places) }
+    requires links { (doors.links.items ≡ []) × (at.now.askers ≤ vec_capacity doors.links) × (at.now.askers ≤ most_places) }
     ensures asked { IfOk result (λ d. (length d.ports.items ≡ at.now.feeds) × (length d.links.items ≡ at.now.askers)) }
     ensures lends { IfOk result (λ d. Lends (Y.seen yard.old).told (Y.seen yard.new).told (Y.seen yard.old).calls (1 + (at.now.feeds + at.now.askers))
         (numbered Y.Port.aside 0 d.ports.items) (numbered_links (link_shows Y.Link.aside Y.Link.told Y.Link.faults) 0 d.links.items)) }

@@ -6,6 +6,7 @@ ghost use Rattle.cut_publisher.specs.Opening.{IsOpened};
 ghost use Rattle.rib_model.specs.Entries.{entry_values};
 ghost use Rattle.router_tables.specs.Tables.{StandsFor};
 ghost use Rattle.wire_io.specs.Writes.{Writes};
+ghost use Rattle.station_doors.specs.Doors.{most_places};
 ghost use Rattle.station_run.specs.Serve.{AnswersFault, Comes, done_line, ready_line};
 
 use crate::doors::{Doors, give_back, open_doors};
@@ -37,7 +38,7 @@ fn make_room<B: BodyReading + Drop, P: Port + Drop, K: Link + Drop>(
     alloc: Global,
     at: &Listening,
 ) -> Option<Room<B, P, K>>
-    requires { (at.now.feeds ≤ 64) × (at.now.askers ≤ 64) }
+    requires { (at.now.feeds ≤ most_places) × (at.now.askers ≤ most_places) }
     ensures ports { IfSome result (λ r. (r.doors.ports.items ≡ []) × (at.now.feeds ≤ vec_capacity r.doors.ports)) }
     ensures links { IfSome result (λ r. (r.doors.links.items ≡ []) × (at.now.askers ≤ vec_capacity r.doors.links)) }
     ensures tasks { IfSome result (λ r. (r.tasks.items ≡ []) × (at.now.feeds + at.now.askers ≤ vec_capacity r.tasks)) }
@@ -103,7 +104,7 @@ where
     Y::Ending: FromEnding,
     requires named { station.publisher.station ≡ J.site }
     requires opened { IsOpened at.now.feeds at.now.askers station.publisher station.feeds station.asks }
-    requires few { (at.now.feeds ≤ 64) × (at.now.askers ≤ 64) }
+    requires few { (at.now.feeds ≤ most_places) × (at.now.askers ≤ most_places) }
     requires ports { (room.doors.ports.items ≡ []) × (at.now.feeds ≤ vec_capacity room.doors.ports) }
     requires links { (room.doors.links.items ≡ []) × (at.now.askers ≤ vec_capacity room.doors.links) }
     requires tasks { (room.tasks.items ≡ []) × (at.now.feeds + at.now.askers ≤ vec_capacity room.tasks) }
@@ -185,8 +186,8 @@ pub fn serve<B: BodyReading + Drop + Send, Y: Yard, O: Sink, R: Threads + Wait +
 ) -> Outcome
 where
     Y::Ending: FromEnding,
-    requires feeds { (0 < at.now.feeds) × (at.now.feeds ≤ 64) }
-    requires askers { (0 < at.now.askers) × (at.now.askers ≤ 64) }
+    requires feeds { (0 < at.now.feeds) × (at.now.feeds ≤ most_places) }
+    requires askers { (0 < at.now.askers) × (at.now.askers ≤ most_places) }
     ensures comes { Comes Y.Ending.shows B.meaning at.now rounds (Y.seen yard.old) (Y.seen yard.new) (O.told out.old) (O.told out.new) result }
     ensures out { AnswersFault (O.faults out.old) (O.faults out.new) result Outcome.WriteFault }
     ensures yard { AnswersFault (Y.faults yard.old) (Y.faults yard.new) result Outcome.YardFault }

@@ -1,4 +1,5 @@
 use Rattle.std.proofs.Common.{◌≡◌, ◌+◌, ◌≤◌, length}
+use Rattle.station_doors.specs.Doors.{most_places}
 use Rattle.station_run.specs.Handed.{link_shows}
 use Rattle.station_run.proofs.Returning.{ReturnLinks}
 use Rattle.station_run.proofs.doors.give_links.Given as goal
@@ -6,7 +7,7 @@ use Rattle.station_run.proofs.doors.give_links.Given as goal
 abbrev pub invariant-loop-link : goal.invariant-loop-link
 invariant-loop-link g l = record {
   back : ReturnLinks (link_shows g.Y.Link.Sink.aside g.Y.Link.Sink.told g.Y.Link.Sink.faults) (g.Y.Yard.seen l.fn.yard).told (g.Y.Yard.seen l.yard).told l.fn.links.items l.links.items l.number;
-  few : l.number + length l.links.items ≤ 64;
+  few : l.number + length l.links.items ≤ most_places;
   calls : (g.Y.Yard.seen l.yard).calls ≡ (g.Y.Yard.seen l.fn.yard).calls;
   faults : g.Y.Yard.faults l.yard ≡ g.Y.Yard.faults l.fn.yard;
   listened : (g.Y.Yard.seen l.yard).listened ≡ (g.Y.Yard.seen l.fn.yard).listened;

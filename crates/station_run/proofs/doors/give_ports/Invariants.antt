@@ -1,11 +1,12 @@
 use Rattle.std.proofs.Common.{◌≡◌, ◌+◌, ◌≤◌, length}
+use Rattle.station_doors.specs.Doors.{most_places}
 use Rattle.station_run.proofs.Returning.{Return}
 use Rattle.station_run.proofs.doors.give_ports.Given as goal
 
 abbrev pub invariant-loop-port : goal.invariant-loop-port
 invariant-loop-port g l = record {
   back : Return g.Y.Port.Port.aside (g.Y.Yard.seen l.fn.yard).told (g.Y.Yard.seen l.yard).told l.fn.ports.items l.ports.items l.lane;
-  few : l.lane + length l.ports.items ≤ 64;
+  few : l.lane + length l.ports.items ≤ most_places;
   calls : (g.Y.Yard.seen l.yard).calls ≡ (g.Y.Yard.seen l.fn.yard).calls;
   faults : g.Y.Yard.faults l.yard ≡ g.Y.Yard.faults l.fn.yard;
   listened : (g.Y.Yard.seen l.yard).listened ≡ (g.Y.Yard.seen l.fn.yard).listened;
