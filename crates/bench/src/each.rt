@@ -24,8 +24,9 @@ fn each_on<R: Threads + Wait + Clock + Print + AllocGlobal + Sync>(
 ) -> io::Result<()> {
     on_stream(rt, stream)?;
     serving::run(rt, rt.alloc(), stream, Client::Keeps, Some(16), None)?;
-    publisher::run(rt, rt.alloc(), Call::Publish, Some(3))?;
-    publisher::run(rt, rt.alloc(), Call::Snapshot, Some(3))?;
+    publisher::run(rt, rt.alloc(), Call::Publish, Some(3), Some(2), Some(2))?;
+    publisher::run(rt, rt.alloc(), Call::PublishHeld, Some(3), Some(2), None)?;
+    publisher::run(rt, rt.alloc(), Call::Snapshot, Some(3), None, None)?;
     on_prefixes(rt)
 }
 

@@ -72,13 +72,24 @@ fn measure<R: Threads + Wait + Clock + Print + Input + AllocGlobal + Sync>(
     match word {
         "each" => each::run(rt, rt.reader()),
         "frames" => frames::run(rt, rt.reader(), numbers.first),
-        "publish" => publisher::run(rt, rt.alloc(), Call::Publish, numbers.first),
-        "snapshot" => publisher::run(rt, rt.alloc(), Call::Snapshot, numbers.first),
+        "publish" => publication(rt, Call::Publish, numbers),
+        "publish_held" => publication(rt, Call::PublishHeld, numbers),
+        "snapshot" => publication(rt, Call::Snapshot, numbers),
         _ => match client(word) {
             Some(client) => serve(rt, client, numbers),
             None => measure_tables(rt, word, numbers),
         },
     }
+}
+
+// Publications or snapshots in a station of so many lanes and askers.
+fn publication<R: Wait + Print + AllocGlobal>(
+    rt: &R,
+    call: Call,
+    numbers: Numbers,
+) -> io::Result<()> {
+    let (lanes, askers) = (short(numbers.second), short(numbers.third));
+    publisher::run(rt, rt.alloc(), call, numbers.first, lanes, askers)
 }
 
 // The client of this word.
@@ -131,7 +142,8 @@ fn measure_lane<R: Print + Input + AllocGlobal>(
 }
 
 fn usage(rt: &impl Print) -> io::Result<()> {
-    println!(rt; "usage: bench each | frames [PIECE] | publish [N] | snapshot [N]")?;
+    println!(rt; "usage: bench each | frames [PIECE]")?;
+    println!(rt; "       bench publish | publish_held | snapshot [N [LANES [ASKERS]]]")?;
     println!(rt;
         "       bench trie [N [TIMES]] | shuffled [N [TIMES]] | map [N] | map_shuffled [N]"
     )?;

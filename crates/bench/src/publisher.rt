@@ -1,10 +1,11 @@
-ghost use Rattle.std.specs.Prelude.{◌≡◌};
+ghost use Rattle.std.specs.Prelude.{◌≡◌, ℕ, ◌<◌, ◌≤◌};
 ghost use Rattle.cut_publisher.specs.Opening.{IsOpened, AreFeedsOf};
 
 use cut_publisher::{
     AskList, AskPass, FeedList, FeedPass, Naming, Publisher, Station, Subject, name, open_station,
     publish, snapshot,
 };
+use station_doors::MOST_PLACES;
 use std::alloc::Global;
 use std::io;
 use std::marker::Brand;
@@ -33,27 +34,43 @@ impl Subject for Tally {
 #[derive(Clone, Copy)]
 pub enum Call {
     Publish,
+    /// Each with a snapshot after it, so that somebody holds the cut that the next one replaces.
+    PublishHeld,
     Snapshot,
 }
 
-/// Makes the call so many times, in a station of one lane and one asker. It prints the asker's
-/// revision after its last snapshot.
+/// Makes the call so many times, in a station of so many lanes and askers (one of each), from 1 to 1,024, of which
+/// one lane and one asker are at work. It prints the asker's revision after its last snapshot.
 pub fn run<R: Wait + Print>(
     rt: &R,
     alloc: Global,
     call: Call,
     times: Option<usize>,
+    lanes: Option<u32>,
+    askers: Option<u32>,
 ) -> io::Result<()> {
     let times = times.map_or(USUAL, |times| times.min(MOST as usize) as u32);
-    match revision(rt, alloc, call, times) {
+    let lanes = lanes.unwrap_or(1).clamp(1, MOST_PLACES);
+    let askers = askers.unwrap_or(1).clamp(1, MOST_PLACES);
+    match revision(rt, alloc, call, times, lanes, askers) {
         Some(revision) => println!(rt; "revision {revision}"),
         None => Err(io::Error::from(io::ErrorKind::OutOfMemory)),
     }
 }
 
-fn revision<R: Wait>(rt: &R, alloc: Global, call: Call, times: u32) -> Option<u64> {
+fn revision<R: Wait>(
+    rt: &R,
+    alloc: Global,
+    call: Call,
+    times: u32,
+    lanes: u32,
+    askers: u32,
+) -> Option<u64>
+    requires lanes { (0 < lanes) × (lanes ≤ MOST_PLACES) }
+    requires askers { (0 < askers) × (askers ≤ MOST_PLACES) }
+{
     let first = Arc::new(alloc, Tally { count: 0 }).ok()?;
-    let station = open_station(alloc, first, 1, 1).ok()?;
+    let station = open_station(alloc, first, lanes, askers).ok()?;
     revision_in::<Brand, R>(rt, alloc, station, call, times)
 }
 
@@ -65,7 +82,7 @@ fn revision_in<J: Naming, R: Wait>(
     times: u32,
 ) -> Option<u64>
     requires named { station.publisher.station ≡ J.site }
-    requires opened { IsOpened 1 1 station.publisher station.feeds station.asks }
+    requires opened { (lanes : ℕ) × (askers : ℕ) × IsOpened lanes askers station.publisher station.feeds station.asks }
 {
     let Station {
         publisher,
@@ -112,6 +129,12 @@ fn calls<J: Naming, R: Wait>(
                 publish_one(rt, alloc, publisher, &mut feed);
             }
             snapshot(&mut ask);
+        }
+        Call::PublishHeld => {
+            for _ in 0..times {
+                publish_one(rt, alloc, publisher, &mut feed);
+                snapshot(&mut ask);
+            }
         }
         Call::Snapshot => {
             publish_one(rt, alloc, publisher, &mut feed);

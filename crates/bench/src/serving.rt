@@ -11,6 +11,7 @@ mod watch;
 use cut_publisher::{Naming, Station, name, open_station};
 use lanes::{Outcome, lanes_of, serve_all};
 use router_tables::RouterTables;
+use station_doors::MOST_PLACES;
 use std::alloc::Global;
 use std::io;
 use std::io::Read;
@@ -24,9 +25,6 @@ use wire_io::ByteList;
 
 /// The most bytes of one read of a port.
 const READ: usize = 65_536;
-
-/// The most lanes.
-const MOST_LANES: u32 = 64;
 
 /// All bytes of the input.
 pub fn read_all<R: Read + Drop>(alloc: Global, mut input: R) -> io::Result<ByteList> {
@@ -52,7 +50,7 @@ fn no_memory() -> io::Error {
 /// read by read with a client beside it, and prints how many entries were published, how many turns the client had,
 /// the revision that it saw last, and how many versions it kept.
 ///
-/// Where the number of lanes is given, from 1 to 64, each of them takes the input so at once with the others, beside a
+/// Where the number of lanes is given, from 1 to 1,024, each of them takes the input so at once with the others, beside a
 /// client of its own. Then the numbers are those of all, and the greatest revision; and it prints three times, in
 /// microseconds, and by the second of them how many messages the lanes published in a second.
 ///
@@ -71,7 +69,7 @@ pub fn run<I: Read + Drop, R: Threads + Wait + Clock + Print + Sync>(
 ) -> io::Result<()> {
     let connection = [read_all(alloc, input)?];
     let piece = piece.unwrap_or(READ as u32).max(1);
-    let count = lanes.unwrap_or(1).clamp(1, MOST_LANES);
+    let count = lanes.unwrap_or(1).clamp(1, MOST_PLACES);
     let (outcome, times) = outcome_of(rt, alloc, connection, client, piece, count)?;
     print_outcome(rt, &outcome)?;
     if lanes.is_some() {
@@ -136,7 +134,7 @@ fn outcome_of<R: Threads + Wait + Clock + Sync>(
     lanes: u32,
 ) -> io::Result<(Outcome, Times)>
     requires piece { 0 < piece }
-    requires lanes { (0 < lanes) × (lanes ≤ 64) }
+    requires lanes { (0 < lanes) × (lanes ≤ MOST_PLACES) }
 {
     let first = no_tables(alloc).ok_or(no_memory())?;
     let Ok(station) = open_station(alloc, first, lanes, lanes) else {
