@@ -123,18 +123,16 @@ fn calls<J: Naming, R: Wait>(
 ) -> u64
     requires { feed.station ≡ J.site }
 {
+    let is_held = matches!(call, Call::PublishHeld);
     match call {
-        Call::Publish => {
+        Call::Publish | Call::PublishHeld => {
             for _ in 0..times {
                 publish_one(rt, alloc, publisher, &mut feed);
+                if is_held {
+                    snapshot(&mut ask);
+                }
             }
             snapshot(&mut ask);
-        }
-        Call::PublishHeld => {
-            for _ in 0..times {
-                publish_one(rt, alloc, publisher, &mut feed);
-                snapshot(&mut ask);
-            }
         }
         Call::Snapshot => {
             publish_one(rt, alloc, publisher, &mut feed);
