@@ -58,7 +58,7 @@ impl ServeOption {
     // What its value must be.
     pub(crate) fn wanted(&self) -> &'static str {
         match self {
-            ServeOption::Feeds | ServeOption::Askers => "a number from 1 to 64",
+            ServeOption::Feeds | ServeOption::Askers => "a number from 1 to 1024",
             ServeOption::FeedPort | ServeOption::AskPort => "a port from 1 to 65535",
             ServeOption::Rounds => "a number from 1 to 4096, or forever",
             ServeOption::Address | ServeOption::AskAddress => "an IPv4 or IPv6 address",
