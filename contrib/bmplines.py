@@ -307,7 +307,7 @@ def parse(line):
 
 
 class Station:
-    """One connection to an asker's port of a station, for one query after another. Where there is none it is tried for again
+    """One connection to a station's port for clients, for one query after another. Where there is none it is tried for again
     for as many seconds as `retry` says."""
 
     def __init__(self, host, port, seconds, retry=0):

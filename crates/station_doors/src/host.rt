@@ -5,8 +5,9 @@ ghost use Rattle.station_doors.specs.Files.{HasFileCause};
 ghost use Rattle.station_doors.specs.Doors.{CountsCall, LeavesRest, askers_of, counts_only, one_more};
 
 use crate::files::read_whole;
-use crate::sockets::{MOST_PLACES, listen_at, take_listener};
-use crate::{Allowed, FileFault, HostFault, HostLink, HostPort, Listening, Yard};
+use crate::log::{Place, PlaceLog, Places, say_listening};
+use crate::sockets::{MOST_PLACES, ip_of, listen_at, take_listener};
+use crate::{Allowed, FileFault, HostFault, HostLink, HostPort, Lines, Listening, Log, Yard};
 use disk_doors::HostDisk;
 use std::alloc::Global;
 use std::fs;
@@ -218,7 +219,8 @@ impl<
                 Some(at) => (at.idle, at.feed_from),
                 None => (None, Allowed::anywhere()),
             };
-            return Ok(HostPort::over(self.net, input, listener, idle, allowed));
+            let log = place_log(self.lines, self.listened, Place::Lane(lane));
+            return Ok(HostPort::over(self.net, input, listener, idle, allowed, log));
         }
         self.faults = self.faults.saturating_add(1);
         Err(Failed)
@@ -238,7 +240,8 @@ impl<
                     Some(at) => (at.ask_idle, at.ask_from),
                     None => (None, Allowed::anywhere()),
                 };
-                Ok(HostLink::over(self.net, listener, idle, allowed))
+                let log = place_log(self.lines, self.listened, Place::Client(number));
+                Ok(HostLink::over(self.net, listener, idle, allowed, log))
             }
             None => {
                 self.faults = self.faults.saturating_add(1);

@@ -6,13 +6,14 @@ use crate::counts::Counts;
 use crate::log::PlaceLog;
 use crate::sockets::{accept_next, read_stream, write_stream};
 use crate::{Allowed, Link};
-use std::net::{TcpListener, TcpStream};
+use std::net::{SocketAddr, TcpListener, TcpStream};
+use std::sync::Wait;
 use std::time::Clock;
 use wire_io::{Failed, Sink};
 
 /// A link over a listener. It tells nothing of content. A write to a client that went away is a fault, as any
 /// other write that fails, and a read or a write that waits for more than `idle` seconds. A connection from elsewhere than it
-/// may come from isn't taken.
+/// may come from isn't taken. It says in the log of its yard what comes and goes.
 #[derive(Drop)]
 pub struct HostLink<'a, N> {
     clock: &'a N,
@@ -34,6 +35,7 @@ impl<'a, N: Clock> HostLink<'a, N> {
         listener: TcpListener,
         idle: Option<u32>,
         allowed: Allowed,
+        log: PlaceLog<'a>,
     ) -> HostLink<'a, N>
         ensures listener { result.listener ≡ listener }
         ensures calm { result.faults ≡ 0 }
@@ -98,7 +100,20 @@ impl<'a, N: Clock> Sink for HostLink<'a, N> {
 
 impl<'a, N: Clock + Wait + Sync> Link for HostLink<'a, N> {
     fn next_connection(&mut self) -> Result<bool, Failed> {
-        self.stream = accept_next(self.clock, &self.listener, self.idle, &self.allowed);
+        self.stream = accept_next(
+            self.clock,
+            &self.listener,
+            self.idle,
+            &self.allowed,
+            &self.log,
+        );
+        self.from = match &self.stream {
+            Some(stream) => stream.peer_addr().ok(),
+            None => None,
+        };
+        if self.stream.is_some() {
+            self.log.connected(self.clock, self.from);
+        }
         let came = if self.stream.is_some() {
             Some(true)
         } else {

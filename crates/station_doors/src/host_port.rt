@@ -6,16 +6,18 @@ ghost use Rattle.station_doors.specs.Doors.{Opens, Closes};
 use crate::counts::Counts;
 use crate::log::PlaceLog;
 use crate::sockets::{accept_next, read_stream};
-use crate::{Allowed, Port};
+use crate::{Allowed, Ended, Port};
 use std::io::{self, Read};
-use std::net::{TcpListener, TcpStream};
+use std::net::{SocketAddr, TcpListener, TcpStream};
+use std::sync::Wait;
 use std::thread::sleep;
 use std::time::{Clock, Duration};
 use wire_io::Failed;
 
 /// A port over a reader, which has one connection, or over a listener, which has one after another. Over a reader it
 /// tells what the reader tells, over a listener nothing of content. A reader that has nothing yet is waited for, also where
-/// its reads don't wait. A connection of a listener that says nothing for `idle` seconds is a fault of the read that waits.
+/// its reads don't wait. A connection of a listener that says nothing for `idle` seconds is a fault of the read that waits;
+/// one from elsewhere than it may come from isn't taken. It says in the log of its yard what comes and goes.
 #[derive(Drop)]
 pub struct HostPort<'a, R, N> {
     clock: &'a N,
@@ -40,6 +42,7 @@ impl<'a, R: Drop, N: Clock> HostPort<'a, R, N> {
         listener: Option<TcpListener>,
         idle: Option<u32>,
         allowed: Allowed,
+        log: PlaceLog<'a>,
     ) -> HostPort<'a, R, N>
         ensures input { result.input ≡ input }
         ensures listener { result.listener ≡ listener }
@@ -69,13 +72,14 @@ fn come<N: Clock + Wait>(
     clock: &N,
     idle: Option<u32>,
     allowed: &Allowed,
+    log: &PlaceLog<'_>,
     listener: &Option<TcpListener>,
     stream: &mut Option<TcpStream>,
     is_first: bool,
 ) -> Option<bool> {
     match listener {
         Some(listener) => {
-            *stream = accept_next(clock, listener, idle, allowed);
+            *stream = accept_next(clock, listener, idle, allowed, log);
             if stream.is_some() { Some(true) } else { None }
         }
         None => Some(is_first),
@@ -116,7 +120,7 @@ fn read_input<R: Read, N: Clock>(
     Err(Failed)
 }
 
-// Reads from the input, or else from the stream. It fails too where there is neither.
+// Reads from the input, or else from the stream. It fails too where there is neither. Why that failed is kept.
 fn read_from<R: Read, N: Clock>(
     clock: &N,
     input: &mut Option<R>,
@@ -155,6 +159,7 @@ impl<'a, R: Read + Drop, N: Clock + Wait + Sync> Port for HostPort<'a, R, N> {
             self.clock,
             self.idle,
             &self.allowed,
+            &self.log,
             &self.listener,
             &mut self.stream,
             is_first,

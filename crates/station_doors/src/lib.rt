@@ -43,6 +43,7 @@ pub use host::HostYard;
 pub use host_fault::HostFault;
 pub use host_link::HostLink;
 pub use host_port::HostPort;
+pub use lines::Lines;
 pub use listening::{Listening, Log};
 pub use mem_link::MemLink;
 pub use mem_port::MemPort;

@@ -158,6 +158,22 @@ impl<'a> PlaceLog<'a> {
         }
     }
 
+    // A connection from where none may come was closed unread, the so manieth since one was taken.
+    pub(crate) fn refused<R: Wait>(&self, rt: &R, from: Option<SocketAddr>, count: u32) {
+        if let Some(lines) = self.lines
+            && self.says_all
+        {
+            let mut line = Line::new();
+            let _ = write!(
+                line,
+                "level=warning {} {} event=refused count={count}",
+                self.place,
+                Address(from)
+            );
+            lines.say(rt, line);
+        }
+    }
+
     // The connection of a router was closed. Why its last read failed is said where it did.
     pub(crate) fn ended<R: Wait>(
         &self,

@@ -2,6 +2,7 @@ ghost use Rattle.std.specs.Prelude.{◌≡◌, ◌<◌, ◌≤◌, Some, length,
 ghost use Rattle.std.specs.IoError.{raw_os_error};
 ghost use Rattle.station_doors.specs.Accepting.{ended, unreachable, of_protocol, crowded, IsLost};
 
+use crate::log::PlaceLog;
 use crate::{Allowed, HostFault};
 use ip_prefix::{Addr, Family};
 use std::io::{self, ErrorKind, Read, Write};
@@ -227,19 +228,31 @@ fn may_come(stream: &TcpStream, allowed: &Allowed) -> bool {
 }
 
 // Waits for the next connection, whose reads and writes then wait for `idle` seconds at most. One that is lost before it
-// is ready is passed over, and where the system has no room for one it is asked again a second later. None where that
-// failed for another cause; `after_fault` says which is which.
-pub(crate) fn accept_next<C: Clock>(
+// is ready is passed over, and one from elsewhere than `allowed` is closed before a byte of it is read: the log says so of the
+// first such one, the second, the fourth and so on. Where the system has no room for a connection it is asked again a second
+// later: the log says when that begins and when it is over. None where that failed for another cause, which the log says too;
+// `after_fault` says which is which.
+pub(crate) fn accept_next<C: Clock + Wait>(
     clock: &C,
     listener: &TcpListener,
     idle: Option<u32>,
     allowed: &Allowed,
+    log: &PlaceLog<'_>,
 ) -> Option<TcpStream> {
     let mut is_waiting = false;
+    let mut refused = 0u32;
     for stream in listener.incoming() {
         match stream {
             Ok(stream) => {
+                if is_waiting {
+                    is_waiting = false;
+                    log.waiting(clock, "there is room again");
+                }
                 if !may_come(&stream, allowed) {
+                    refused = u32::saturating_add(refused, 1);
+                    if refused.is_power_of_two() {
+                        log.refused(clock, stream.peer_addr().ok(), refused);
+                    }
                     continue;
                 }
                 if prepare(&stream, idle).is_ok() {
@@ -248,8 +261,17 @@ pub(crate) fn accept_next<C: Clock>(
             }
             Err(error) => match after_fault(&error) {
                 AfterFault::Next => {}
-                AfterFault::Later => sleep(clock, Duration::from_secs(1)),
-                AfterFault::Never => return None,
+                AfterFault::Later => {
+                    if !is_waiting {
+                        is_waiting = true;
+                        log.waiting(clock, crowd_text(&error));
+                    }
+                    sleep(clock, Duration::from_secs(1));
+                }
+                AfterFault::Never => {
+                    log.stopped(clock, &error);
+                    return None;
+                }
             },
         }
     }
