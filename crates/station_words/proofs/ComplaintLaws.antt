@@ -1,18 +1,19 @@
 -- A complaint is never about a command.
-use Rattle.std.proofs.Common.{◌≡◌, ◌≢◌, ℕ, ◌+◌, Bool, true, false, List, [], ◌∷◌, ◌++◌, None, Some, length, get_or, codes, refl, sym, ap, subst, ◌∙◌, inl, inr, arith}
-use Rattle.std.specs.Prelude.{◌⊎◌, ◌==◌}
+use Rattle.std.proofs.Common.{◌≡◌, ◌≢◌, ℕ, ◌+◌, Bool, true, false, List, [], ◌∷◌, ◌++◌, Option, None, Some, length, get_or, codes, refl, sym, ap, subst, ◌∙◌, inl, inr, arith}
+use Rattle.std.specs.Prelude.{◌⊎◌, ◌==◌, IfSome}
 use Rattle.std.specs.List.{join_with_byte, position}
 use Rattle.std.specs.Str.{bytes_eq}
 use Rattle.bmp_specs.specs.NumberText.{IsNumberText}
+use Rattle.bmp_specs.specs.PrefixText.{IsPrefixText}
 use Rattle.bmp_specs.specs.Query.{QueryValue, space}
 use Rattle.bmp_specs.specs.Values.{PrefixValue}
 use Rattle.ip_prefix.proofs.PrefixReading.{same_number}
-use Rattle.station_words.specs.Complaints.{BeginsSetting, ComplainsOfNoCall, Follow, HasExtra, IsCommandName, IsDashed, IsGiven, IsMisfit, IsValueOf, LacksValue, LacksWords, OpenAsks, OpenFeeds, ServeComplains, StandInFront, name_of, no_query, no_recalled as lacks_recalled, no_question, no_archive as lacks_archive, no_vrps, no_prefix as lacks_prefix, few_numbers, after_check, after_relay, after_file, after_prefix, after_numbers, after_text, for_prefix, for_seed, for_lanes, for_messages}
+use Rattle.station_words.specs.Complaints.{AreSound, BeginsSetting, Complains, ComplainsOfNoCall, Follow, HasExtra, IsCommandName, IsDashed, IsGiven, IsMisfit, IsValueOf, LacksValue, LacksWords, OpenAsks, OpenFeeds, ServeComplains, StandInFront, name_of, no_query, no_recalled as lacks_recalled, no_question, no_archive as lacks_archive, no_vrps, no_prefix as lacks_prefix, no_seed, no_lanes, no_messages, after_check, after_relay, after_file, after_prefix, after_numbers, after_text, for_prefix, for_seed, for_lanes, for_messages}
 use Rattle.station_words.specs.DrillWords.{IsDrill}
 use Rattle.station_words.specs.ServeWords.{Setting, ArePorts, AreSettings, IsInFront, IsOption, IsPorts, IsServe, MayGive, flag, flag_alone, one_word, ports_for, two_words, values_of}
 use Rattle.station_words.specs.Words.{AsksOf, ChecksAreNoCall, IsAsking, IsCall, IsCommand, IsPlain, NamesFile}
 use Rattle.station_words.specs.declared.complaint.Complaint.{Complaint}
-use Rattle.station_words.specs.declared.complaint.Complaint.TheVariants.{NoWords, NoCommand, NoQuery, Quit, Needs, Extra, NotA, NoOption, NoValue, Twice, HasValue, BadValue, PastEnd, Meet, Other}
+use Rattle.station_words.specs.declared.complaint.Complaint.TheVariants.{NoWords, NoCommand, NoQuery, Quit, Needs, Extra, NotA, NoOption, NoValue, Twice, HasValue, BadValue, PastEnd, Meet}
 use Rattle.station_words.specs.declared.drill_words.DrillWords.{DrillWords}
 use Rattle.station_words.specs.declared.serve_options.ServeOption.{ServeOption}
 use Rattle.station_words.specs.declared.serve_options.ServeOption.TheVariants.{Feeds, Askers, FeedPort, AskPort, Rounds, Address, AskAddress, Ports, Idle, AskIdle, Log as LogOption, FeedFrom, AskFrom, Lenient}
@@ -21,7 +22,7 @@ use Rattle.station_words.specs.declared.words.Call.{Call}
 use Rattle.station_words.specs.declared.words.Command.{Command}
 use Rattle.station_words.specs.declared.words.Command.TheVariants.{Replay, Check, Serve, Drill, Relay, Rov, Archive, Recall, Help, Version}
 use Rattle.station_words.proofs.EmptyLine.{no_line}
-use Rattle.station_words.proofs.Commands.{asks_none, no_archive, no_asking, no_check, no_drill, no_help, no_judged, no_recall, no_recalled, no_relay, no_replay, no_rov, no_serve, no_version, same_plain, two_unnamed}
+use Rattle.station_words.proofs.Commands.{asks_none, no_archive, no_asking, no_check, no_drill, no_help, no_judged, no_recall, no_recalled, no_relay, no_replay, no_rov, no_serve, no_version, same_plain}
 use Rattle.station_words.proofs.OptionServe.{name_once}
 use Rattle.station_words.proofs.OptionTaken.{IsOnce}
 use Rattle.station_words.proofs.OptionWalk.{IsPlainValue}
@@ -103,28 +104,33 @@ module _ (words : List (List ℕ)) where
   lacking command (lacks_archive named follow) = not_archive [] follow (λ file same. cc same)
   lacking command (no_vrps named follow) = not_rov [] follow (λ file prefix names. let split = names.spelled in cc split)
   lacking command (lacks_prefix named file follow) = not_rov (file ∷ []) follow (λ other prefix names. let split = names.spelled in cc split)
-  lacking command (few_numbers named given split few) = not_drill given split (λ drill is. let three : length given ≡ 3 = ap length is.spelled in omega (arith, three, few))
+  lacking command (no_seed named split) = not_drill [] split (λ drill is. let spelled = is.spelled in cc spelled)
+  lacking command (no_lanes named seed split is_seed) = not_drill (seed ∷ []) split (λ drill is. let spelled = is.spelled in cc spelled)
+  lacking command (no_messages named seed lanes split is_seed are_lanes) = not_drill (seed ∷ lanes ∷ []) split (λ drill is. let spelled = is.spelled in cc spelled)
 
   extra : (command word : List ℕ) → HasExtra command word words → (call : Call) → IsCall call words → ⊥
   extra command word (after_check named more follow) = not_plain (codes "check") (λ given. no_check (codes "check") given refl) word more follow
   extra command word (after_relay named more follow) = not_plain (codes "relay") (λ given. no_relay (codes "relay") given refl) word more follow
   extra command word (after_file named file more follow) = not_archive (file ∷ word ∷ more) follow (λ other same. cc same)
-  extra command word (after_prefix named file prefix more follow) = not_rov (file ∷ prefix ∷ word ∷ more) follow (λ other value names. let split = names.spelled in cc split)
-  extra command word (after_numbers named seed lanes messages more split) = not_drill (seed ∷ lanes ∷ messages ∷ word ∷ more) split (λ drill is. let four : length (seed ∷ lanes ∷ messages ∷ word ∷ more) ≡ 3 = ap length is.spelled in omega (arith, four))
+  extra command word (after_prefix named file text more follow prefix is_prefix) = not_rov (file ∷ text ∷ word ∷ more) follow (λ other value names. let split = names.spelled in cc split)
+  extra command word (after_numbers named seed lanes messages more split is_seed are_lanes are_messages) = not_drill (seed ∷ lanes ∷ messages ∷ word ∷ more) split (λ drill is. let four : length (seed ∷ lanes ∷ messages ∷ word ∷ more) ≡ 3 = ap length is.spelled in omega (arith, four))
   extra command word (after_text (inl help) more split) = not_call words command (word ∷ more) split (no_help command (word ∷ more) help (λ none. cc none))
   extra command word (after_text (inr version) more split) = not_call words command (word ∷ more) split (no_version command (word ∷ more) version (λ none. cc none))
 
   misfit : (word : List ℕ) → IsMisfit word words → (call : Call) → IsCall call words → ⊥
-  misfit word (for_prefix file follow none) = not_rov (file ∷ word ∷ []) follow (two_unnamed (file ∷ word ∷ []) file word refl None none)
+  misfit word (for_prefix file more follow none) = not_rov (file ∷ word ∷ more) follow (λ other prefix names.
+      let spelled = names.spelled in
+      let same : names.text ≡ word = cc spelled in
+      none prefix (subst (λ (l : List ℕ). IsPrefixText l prefix) same names.is_prefix))
   misfit word (for_seed more split none) = not_drill (word ∷ more) split (λ drill is.
       let spelled = is.spelled in
       let same : is.seed ≡ word = cc spelled in
       none drill.seed (subst (λ (l : List ℕ). IsNumberText l drill.seed) same is.is_seed) (omega arith) is.is_seed.within)
-  misfit word (for_lanes seed more split none) = not_drill (seed ∷ word ∷ more) split (λ drill is.
+  misfit word (for_lanes seed more split is_seed none) = not_drill (seed ∷ word ∷ more) split (λ drill is.
       let spelled = is.spelled in
       let same : is.lanes ≡ word = cc spelled in
       none drill.lanes (subst (λ (l : List ℕ). IsNumberText l drill.lanes) same is.is_lanes) is.may_drill.lanes.0 is.may_drill.lanes.1)
-  misfit word (for_messages seed lanes more split none) = not_drill (seed ∷ lanes ∷ word ∷ more) split (λ drill is.
+  misfit word (for_messages seed lanes more split is_seed are_lanes none) = not_drill (seed ∷ lanes ∷ word ∷ more) split (λ drill is.
       let spelled = is.spelled in
       let same : is.messages ≡ word = cc spelled in
       none drill.messages (subst (λ (l : List ℕ). IsNumberText l drill.messages) same is.is_messages) is.may_drill.messages.0 is.may_drill.messages.1)
@@ -132,7 +138,7 @@ module _ (words : List (List ℕ)) where
 -- ---- after `serve`
 
 -- the settings in front are the first ones, and the words left are the others
-behind : (ss ts : List Setting) (words left : List (List ℕ)) → StandInFront ss words left → AreSettings ts words → (us : List Setting) × (ts ≡ ss ++ us) × AreSettings us left
+pub behind : (ss ts : List Setting) (words left : List (List ℕ)) → StandInFront ss words left → AreSettings ts words → (us : List Setting) × (ts ≡ ss ++ us) × AreSettings us left
 behind [] ts words left same are = (ts, refl, subst (λ (l : List (List ℕ)). AreSettings ts l) same are)
 behind (s ∷ ss) [] words left (others, front, rest) are = absurd (not_none s words others are front)
 behind (s ∷ ss) (t ∷ ts) words left (others, front, rest) (more, also, are) =
@@ -157,7 +163,7 @@ option_of name (inr (inr (inr (inr (inr (inr (inr (inr (inr (inr (inl (e))))))))
 option_of name (inr (inr (inr (inr (inr (inr (inr (inr (inr (inr (inr (inl (e))))))))))))) = (FeedFrom, e)
 option_of name (inr (inr (inr (inr (inr (inr (inr (inr (inr (inr (inr (inr (e))))))))))))) = (AskFrom, e)
 
-begins : (s : Setting) (word : List ℕ) (left others : List (List ℕ)) → IsInFront s (word ∷ left) others → BeginsSetting word
+pub begins : (s : Setting) (word : List ℕ) (left others : List (List ℕ)) → IsInFront s (word ∷ left) others → BeginsSetting word
 begins s word left others (flag_alone is e) = (Lenient, inl (cc e))
 begins s word left others (two_words o e) =
     let named = option_of s.0 o in
@@ -184,7 +190,7 @@ letters_behind name more (inr (inr (inr (inr (inr (inr (inr (inr (inr (inr (inr 
 letters_behind name more (inr (inr (inr (inr (inr (inr (inr (inr (inr (inr (inr (inr (e))))))))))))) = λ is. let h : 212 ≡ 209 = sym (ap (λ (l : List ℕ). get_or (l ++ more) 2 0 + get_or (l ++ more) 3 0) e) ∙ is in absurd (omega (arith, h))
 
 -- the flag with a value begins no setting
-no_valued_flag : (s : Setting) (word value : List ℕ) (left others : List (List ℕ)) → word ≡ flag ++ 61 ∷ value → IsInFront s (word ∷ left) others → ⊥
+pub no_valued_flag : (s : Setting) (word value : List ℕ) (left others : List (List ℕ)) → word ≡ flag ++ 61 ∷ value → IsInFront s (word ∷ left) others → ⊥
 no_valued_flag s word value left others is (flag_alone alone e) =
     let same : word ≡ flag = cc e in
     let h : 0 ≡ 61 = ap (λ (l : List ℕ). get_or l 9 0) (sym same ∙ is) in
@@ -197,7 +203,7 @@ no_valued_flag s word value left others is (one_word o e) =
     letters_behind s.0 (61 ∷ s.1) o (ap (λ (l : List ℕ). get_or l 2 0 + get_or l 3 0) (sym same ∙ is))
 
 -- the option stands in front with its value, if it does
-with_value : (s : Setting) (name : List ℕ) (left others : List (List ℕ)) → IsOption name → IsInFront s (name ∷ left) others → (s.0 ≡ name) × (left ≡ s.1 ∷ others)
+pub with_value : (s : Setting) (name : List ℕ) (left others : List (List ℕ)) → IsOption name → IsInFront s (name ∷ left) others → (s.0 ≡ name) × (left ≡ s.1 ∷ others)
 with_value s name left others is (flag_alone alone e) =
     let same : name ≡ flag = cc e in
     absurd (no_flag name is same)
@@ -210,7 +216,7 @@ with_value s name left others is (one_word o e) =
     let clash : None ≡ Some (length s.0) = sym (none_in name is) ∙ ap (λ (l : List ℕ). position (λ x. x == 61) l) same ∙ found_behind s.0 s.1 o in
     absurd (cc clash)
 
-not_plain_value : (value : List ℕ) → IsDashed value → IsPlainValue value → ⊥
+pub not_plain_value : (value : List ℕ) → IsDashed value → IsPlainValue value → ⊥
 not_plain_value value ([], is) plain = let end = subst IsPlainValue is plain in let h = end.dashes in cc h
 not_plain_value value (x ∷ xs, is) plain = let long = subst IsPlainValue is plain in let h = long.long in cc h
 
@@ -227,13 +233,25 @@ pub values_first : (name value : List ℕ) (us : List Setting) → values_of nam
 values_first name value us = let same = (bytes_eq-Decides name name).1 refl in rw same refl
 
 -- one value among many is the one that there is
-no_more : {A : Type 0} (xs zs : List A) (y : A) → xs ++ y ∷ zs ≡ [] → ⊥
+pub no_more : {A : Type 0} (xs zs : List A) (y : A) → xs ++ y ∷ zs ≡ [] → ⊥
 no_more [] zs y e = cc e
 no_more (x ∷ xs) zs y e = cc e
 
-only_one : {A : Type 0} (xs zs : List A) (y v : A) → xs ++ y ∷ zs ≡ v ∷ [] → (xs ≡ []) × (y ≡ v)
+pub only_one : {A : Type 0} (xs zs : List A) (y v : A) → xs ++ y ∷ zs ≡ v ∷ [] → (xs ≡ []) × (y ≡ v)
 only_one [] zs y v e = (refl, cc e)
 only_one (x ∷ xs) zs y v e = let rest : xs ++ y ∷ zs ≡ [] = cc e in absurd (no_more xs zs y rest)
+
+-- a setting behind others, which has that value
+pub stands_there : (settings : List Setting) (words : List (List ℕ)) → AreSettings settings words → (ss : List Setting) (left others : List (List ℕ)) (option : ServeOption) (value : List ℕ) → StandInFront ss words left → IsInFront (name_of option, value) left others
+    → (rest : List (List ℕ)) × (values_of (name_of option) settings ≡ values_of (name_of option) ss ++ value ∷ rest)
+stands_there settings words are ss left others option value stand front = go (behind ss settings words left stand are)
+  where
+    go : (us : List Setting) × (settings ≡ ss ++ us) × AreSettings us left → (rest : List (List ℕ)) × (values_of (name_of option) settings ≡ values_of (name_of option) ss ++ value ∷ rest)
+    go ([], same, are) = absurd (not_none (name_of option, value) left others are front)
+    go (u ∷ us, same, (more, first, are)) =
+        let one = same_front (name_of option, value) u left others more front first in
+        let us_are : u ∷ us ≡ (name_of option, value) ∷ us = ap (λ (t : Setting). t ∷ us) (sym one.setting) in
+        (values_of (name_of option) us, ap (values_of (name_of option)) same ∙ values_behind (name_of option) ss (u ∷ us) ∙ ap (λ (l : List (List ℕ)). values_of (name_of option) ss ++ l) (ap (values_of (name_of option)) us_are ∙ values_first (name_of option) value us))
 
 module _ (serve : ServeWords) (lenient : Bool) (words : List (List ℕ)) (is : IsServe serve lenient words) where
   once_named : (option : ServeOption) → IsOnce (values_of (name_of option) is.settings)
@@ -255,14 +273,7 @@ module _ (serve : ServeWords) (lenient : Bool) (words : List (List ℕ)) (is : I
   -- a setting behind others, which has that value
   module _ (ss : List Setting) (left others : List (List ℕ)) (option : ServeOption) (value : List ℕ) (stand : StandInFront ss words left) (front : IsInFront (name_of option, value) left others) where
     is_there : (rest : List (List ℕ)) × (values_of (name_of option) is.settings ≡ values_of (name_of option) ss ++ value ∷ rest)
-    is_there = go (behind ss is.settings words left stand is.are_settings)
-      where
-        go : (us : List Setting) × (is.settings ≡ ss ++ us) × AreSettings us left → (rest : List (List ℕ)) × (values_of (name_of option) is.settings ≡ values_of (name_of option) ss ++ value ∷ rest)
-        go ([], same, are) = absurd (not_none (name_of option, value) left others are front)
-        go (u ∷ us, same, (more, first, are)) =
-            let one = same_front (name_of option, value) u left others more front first in
-            let us_are : u ∷ us ≡ (name_of option, value) ∷ us = ap (λ (t : Setting). t ∷ us) (sym one.setting) in
-            (values_of (name_of option) us, ap (values_of (name_of option)) same ∙ values_behind (name_of option) ss (u ∷ us) ∙ ap (λ (l : List (List ℕ)). values_of (name_of option) ss ++ l) (ap (values_of (name_of option)) us_are ∙ values_first (name_of option) value us))
+    is_there = stands_there is.settings words is.are_settings ss left others option value stand front
 
     -- so it is its only one, which is no option
     is_only : (values_of (name_of option) ss ≡ []) × (values_of (name_of option) is.settings ≡ value ∷ []) × IsPlainValue value
@@ -350,16 +361,16 @@ module _ (serve : ServeWords) (lenient : Bool) (words : List (List ℕ)) (is : I
   twice ss option value left others stand (first, more, given) front = let only = is_only ss left others option value stand front in cc (sym only.0 ∙ given)
 
 pub serve_law : (complaint : Complaint) (given : List (List ℕ)) → ServeComplains complaint given → (serve : ServeWords) (lenient : Bool) → IsServe serve lenient given → ⊥
-serve_law (NoOption word) given (ss, left, stand, none) serve lenient is = let next = next_begins serve lenient given is ss word.now left stand in none (begins next.0 word.now left next.1 next.2)
-serve_law (HasValue word) given (ss, left, stand, (value, valued)) serve lenient is = let next = next_begins serve lenient given is ss word.now left stand in no_valued_flag next.0 word.now value left next.1 valued next.2
-serve_law (NoValue option) given (ss, left, stand, named, lacks) serve lenient is = lacks_value serve lenient given is ss option left stand named lacks
-serve_law (Twice option) given (ss, left, stand, again, (value, others, front)) serve lenient is = twice serve lenient given is ss option value left others stand again front
-serve_law (BadValue option value) given (ss, left, others, stand, front, bad) serve lenient is = bad (has_form serve lenient given is option value.now (is_only serve lenient given is ss left others option value.now stand front).1)
+serve_law (NoOption word) given (ss, left, stand, none) serve lenient is = let next = next_begins serve lenient given is ss word.now left stand.0 in none (begins next.0 word.now left next.1 next.2)
+serve_law (HasValue word) given (ss, left, stand, (value, valued)) serve lenient is = let next = next_begins serve lenient given is ss word.now left stand.0 in no_valued_flag next.0 word.now value left next.1 valued next.2
+serve_law (NoValue option) given (ss, left, stand, named, lacks) serve lenient is = lacks_value serve lenient given is ss option left stand.0 named lacks
+serve_law (Twice option) given (ss, left, stand, again, (value, others, front)) serve lenient is = twice serve lenient given is ss option value left others stand.0 again front
+serve_law (BadValue option value) given (ss, left, others, stand, fresh, front, bad) serve lenient is = bad (has_form serve lenient given is option value.now (is_only serve lenient given is ss left others option value.now stand.0 front).1)
 serve_law (PastEnd option first count) given complains serve lenient is = past option complains
   where
     past : (option : ServeOption) → ServeComplains (PastEnd option first count) given → ⊥
-    past FeedPort (has, far) = let are = feeds_are serve lenient given is first count (holds_in _ given is.settings is.are_settings has) in omega (arith, are.0, are.1, far, is.may_serve.feed_ports.1)
-    past AskPort (has, far) = let are = asks_are serve lenient given is first count (holds_in _ given is.settings is.are_settings has) in omega (arith, are.0, are.1, far, is.may_serve.ask_ports.1)
+    past FeedPort (has, far) = let are = feeds_are serve lenient given is first count (holds_in (λ (settings : List Setting). AreSound settings × OpenFeeds first count settings) given is.settings is.are_settings has).1 in omega (arith, are.0, are.1, far, is.may_serve.feed_ports.1)
+    past AskPort (has, far) = let are = asks_are serve lenient given is first count (holds_in (λ (settings : List Setting). AreSound settings × OpenAsks first count settings) given is.settings is.are_settings has).1 in omega (arith, are.0, are.1, far, is.may_serve.ask_ports.1)
     past Feeds none = none
     past Askers none = none
     past Rounds none = none
@@ -373,9 +384,9 @@ serve_law (PastEnd option first count) given complains serve lenient is = past o
     past AskFrom none = none
     past Lenient none = none
 serve_law (Meet feed feeds ask askers) given (has, below, above) serve lenient is =
-    let both = holds_in (λ (settings : List Setting). OpenFeeds feed feeds settings × OpenAsks ask askers settings) given is.settings is.are_settings has in
-    let f = feeds_are serve lenient given is feed feeds both.0 in
-    let a = asks_are serve lenient given is ask askers both.1 in
+    let all = holds_in (λ (settings : List Setting). AreSound settings × OpenFeeds feed feeds settings × OpenAsks ask askers settings) given is.settings is.are_settings has in
+    let f = feeds_are serve lenient given is feed feeds all.1 in
+    let a = asks_are serve lenient given is ask askers all.2 in
     elim is.may_serve.apart [
       | inl apart ↦ omega (arith, f.0, f.1, a.0, below, apart)
       | inr apart ↦ omega (arith, f.0, a.0, a.1, above, apart)
@@ -387,7 +398,6 @@ serve_law Quit given none serve lenient is = none
 serve_law (Needs command needs) given none serve lenient is = none
 serve_law (Extra command word) given none serve lenient is = none
 serve_law (NotA word wanted) given none serve lenient is = none
-serve_law Other given none serve lenient is = none
 
 served : (complaint : Complaint) (words : List (List ℕ)) → (given : List (List ℕ)) × (words ≡ codes "serve" ∷ given) × ServeComplains complaint given → (call : Call) → IsCall call words → ⊥
 served complaint words (given, split, complains) = not_call words (codes "serve") given split (no_serve (codes "serve") given refl (serve_law complaint given complains))
@@ -400,7 +410,6 @@ of_no_call Quit words (asked, are, is_quit, only) = not_asked words asked are (�
 of_no_call (Needs command needs) words lacks = lacking words command.now lacks
 of_no_call (Extra command word) words has = extra words command.now word.now has
 of_no_call (NotA word wanted) words is = misfit words word.now is
-of_no_call Other words is = is.0
 of_no_call (NoOption word) words complains = served (NoOption word) words complains
 of_no_call (NoValue option) words complains = served (NoValue option) words complains
 of_no_call (Twice option) words complains = served (Twice option) words complains
@@ -408,3 +417,8 @@ of_no_call (HasValue word) words complains = served (HasValue word) words compla
 of_no_call (BadValue option value) words complains = served (BadValue option value) words complains
 of_no_call (PastEnd option first count) words complains = served (PastEnd option first count) words complains
 of_no_call (Meet feed feeds ask askers) words complains = served (Meet feed feeds ask askers) words complains
+
+-- what is found wrong with words says that they are no call
+pub found_no_call : (found : Option Complaint) (words : List (List ℕ)) → IfSome found (λ complaint. Complains complaint words) → IfSome found (λ complaint. (call : Call) → IsCall call words → ⊥)
+found_no_call None words is = tt
+found_no_call (Some complaint) words is = of_no_call complaint words is

@@ -12,4 +12,5 @@ pub mod ServeKept
 pub mod EmptyLine
 pub mod ComplaintLaws
 pub mod ComplaintSteps
+pub mod SoundWords
 mod Refuted

@@ -32,31 +32,31 @@ use Rattle.station_words.proofs.OptionTaken.{AreOnce, IsName, IsOnce, are_uses, 
 use Rattle.station_words.proofs.AllowedText.{allowed_lacks}
 use Rattle.station_words.proofs.Settings.{Never, Once, flag_empty}
 
-plain_number : (text : List ℕ) (n : ℕ) → IsNumberText text n → IsPlainValue text
+pub plain_number : (text : List ℕ) (n : ℕ) → IsNumberText text n → IsPlainValue text
 plain_number text n is = no_hyphen text (All-from_get_or (λ b. b ≢ 45) text 0 (λ k h same. let at = all_digits most_number text n (lit< tt) is k h in omega (arith, at.0, same)))
 
-plain_text_in : (family : Family) (text octets : List ℕ) → IsTextIn family text octets → IsPlainValue text
+pub plain_text_in : (family : Family) (text octets : List ℕ) → IsTextIn family text octets → IsPlainValue text
 plain_text_in V4 text octets (numbers, is, _) = no_hyphen text (v4_lacks 45 (omega arith) (λ e. omega (arith, e)) text numbers (v4_to text numbers is))
 plain_text_in V6 text octets (groups, is, _) = no_hyphen text (v6_lacks 45 (omega arith) (λ e. omega (arith, e)) text groups is)
 
-plain_rounds : (value : List ℕ) (n : ℕ) → IsRounds value n → IsPlainValue value
+pub plain_rounds : (value : List ℕ) (n : ℕ) → IsRounds value n → IsPlainValue value
 plain_rounds value n (inl is) = plain_number value n is.0
 plain_rounds value n (inr is) = subst IsPlainValue (sym is.0) (record { dashes = refl; long = refl; short = refl })
 
-plain_ports : (value : List ℕ) (b : Bool) → IsPorts value b → IsPlainValue value
+pub plain_ports : (value : List ℕ) (b : Bool) → IsPorts value b → IsPlainValue value
 plain_ports value true is = subst IsPlainValue (sym is) (record { dashes = refl; long = refl; short = refl })
 plain_ports value false is = subst IsPlainValue (sym is) (record { dashes = refl; long = refl; short = refl })
 
-plain_seconds : (value : List ℕ) (t : Option ℕ) → IsSeconds value t → IsPlainValue value
+pub plain_seconds : (value : List ℕ) (t : Option ℕ) → IsSeconds value t → IsPlainValue value
 plain_seconds value None is = absurd is
 plain_seconds value (Some n) is = plain_number value n is.0
 
-plain_log : (value : List ℕ) (log : Log) → IsLog value log → IsPlainValue value
+pub plain_log : (value : List ℕ) (log : Log) → IsLog value log → IsPlainValue value
 plain_log value NoConnections is = subst IsPlainValue (sym is) (record { dashes = refl; long = refl; short = refl })
 plain_log value Routers is = subst IsPlainValue (sym is) (record { dashes = refl; long = refl; short = refl })
 plain_log value Clients is = subst IsPlainValue (sym is) (record { dashes = refl; long = refl; short = refl })
 
-plain_allowed : (value : List ℕ) (allowed : List PrefixValue) → IsAllowed value allowed → IsPlainValue value
+pub plain_allowed : (value : List ℕ) (allowed : List PrefixValue) → IsAllowed value allowed → IsPlainValue value
 plain_allowed value allowed is = no_hyphen value (allowed_lacks 45 (omega arith) (λ e. omega (arith, e)) (λ e. omega (arith, e)) (λ e. omega (arith, e)) (omega arith) (λ e. omega (arith, e)) value allowed is)
 
 once_given : (name : List ℕ) (settings : List Setting) (Is : List ℕ → Type 0) → ((value : List ℕ) → Is value → IsPlainValue value) → Gives name Is settings → IsOnce (values_of name settings)

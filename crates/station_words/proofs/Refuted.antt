@@ -1,16 +1,23 @@
 -- Mistakes that the clauses refuse: each wrong result, at the words that would show it, doesn't meet its clause.
-use Rattle.std.proofs.Common.{◌≡◌, ℕ, ◌+◌, Bool, true, false, List, [], ◌∷◌, length, codes, ap, sym, ◌∙◌, refl, inl, inr, arith}
+use Rattle.std.proofs.Common.{◌≡◌, ℕ, ◌+◌, Bool, true, false, List, [], ◌∷◌, length, codes, ap, sym, subst, ◌∙◌, refl, inl, inr, arith, lit<}
+use Rattle.std.specs.Prelude.{◌⊎◌, ⊤}
 use Rattle.std.specs.Borrow.{Bor}
 use Rattle.bmp_specs.specs.AddressText.{IsAddressText}
+use Rattle.bmp_specs.specs.NumberText.{IsNumberText, most_number}
+use Rattle.bmp_specs.specs.Query.{cut}
 use Rattle.bmp_specs.specs.Values.{PrefixValue}
+use Rattle.ip_prefix.proofs.Decimals.{all_digits}
+use Rattle.query_lang.specs.Reading.{words_of}
+use Rattle.query_lang.proofs.LineWords.{is_query}
 use Rattle.station_doors.specs.Doors.{most_places}
 use Rattle.station_doors.specs.declared.listening.Log.TheVariants.{Routers, Clients}
-use Rattle.station_words.specs.Complaints.{IsGoodBeginning, IsGiven, ServeComplains, StandInFront, name_of}
-use Rattle.station_words.specs.ServeWords.{ArePorts, IsAllowed, IsInFront, IsLog, IsServe, MayGive, MayServe, Setting, flag, flag_alone, one_word}
+use Rattle.station_words.specs.Complaints.{AreCall, AreSound, IsBestBeginning, IsGoodBeginning, IsGiven, IsValueOf, JoinWords, LacksWords, ServeComplains, StandInFront, name_of, no_archive, no_lanes, no_messages, no_prefix, no_query, no_question, no_recalled, no_seed, no_vrps}
+use Rattle.station_words.specs.ServeWords.{ArePorts, IsAllowed, IsInFront, IsLog, IsPorts, IsServe, MayGive, MayServe, Setting, flag, flag_alone, one_word, values_of}
 use Rattle.station_words.specs.Words.{file_in}
-use Rattle.station_words.specs.declared.complaint.Complaint.TheVariants.{BadValue, Meet, Twice}
+use Rattle.station_words.specs.declared.complaint.Complaint.TheVariants.{BadValue, Meet, NoOption, Twice}
 use Rattle.station_words.specs.declared.serve_options.ServeOption.TheVariants.{Lenient, Ports}
 use Rattle.station_words.specs.declared.serve_words.ServeWords.{ServeWords}
+use Rattle.station_words.proofs.Commands.{no_serve}
 use Rattle.station_words.proofs.EmptyLine.{no_line}
 use Rattle.station_words.proofs.Settings.{holds_in, not_none, same_front, some_ports}
 
@@ -59,7 +66,7 @@ clients_do_not_stay_at_home serve lenient is differs = go (holds_in (GivesAskAdd
 
 -- what is given once isn't given twice
 once_is_not_twice : ServeComplains (Twice Lenient) (flag ∷ []) → ⊥
-once_is_not_twice (settings, left, stand, given, (value, others, front)) = go settings stand given
+once_is_not_twice (settings, left, (stand, sound), given, (value, others, front)) = go settings stand given
   where
     nothing : (s : Setting) (behind : List (List ℕ)) → IsInFront s (flag ∷ []) behind → [] ≡ behind
     nothing s behind is = (same_front (flag, []) s (flag ∷ []) [] behind (flag_alone refl refl) is).behind
@@ -71,12 +78,115 @@ once_is_not_twice (settings, left, stand, given, (value, others, front)) = go se
 
 -- a value of the right form isn't complained of
 each_is_no_bad_value : (value : Bor (List ℕ)) (given : List (List ℕ)) → value.now ≡ codes "each" → ServeComplains (BadValue Ports value) given → ⊥
-each_is_no_bad_value value given is (settings, left, others, stand, front, bad) = bad (false, is)
+each_is_no_bad_value value given is (settings, left, others, stand, fresh, front, bad) = bad (false, is)
+
+-- the setting `--ports=each`, and one with a value that no option has
+abbrev each_port : Setting
+each_port = (codes "--ports", codes "each")
+
+abbrev one_port : Setting
+one_port = (codes "--ports", codes "one")
+
+front_each : (more : List (List ℕ)) → IsInFront each_port (codes "--ports=each" ∷ more) more
+front_each more = one_word (inr (inr (inr (inr (inr (inr (inl (refl)))))))) refl
+
+front_one : (more : List (List ℕ)) → IsInFront one_port (codes "--ports=one" ∷ more) more
+front_one more = one_word (inr (inr (inr (inr (inr (inr (inl (refl)))))))) refl
+
+-- a word that is no option isn't told where the value in front of it is wrong
+the_first_fault_is_told : (word : Bor (List ℕ)) → word.now ≡ codes "--feds" → ServeComplains (NoOption word) (codes "--ports=one" ∷ codes "--feds" ∷ []) → ⊥
+the_first_fault_is_told word is (settings, left, (stand, sound), none) = go settings stand sound
+  where
+    wrong : (ss : List Setting) → MayGive (codes "--ports") (λ value. IsValueOf Ports value) ⊤ (one_port ∷ ss) → ⊥
+    wrong ss (inl (value, once, (true, shared))) =
+        let same : codes "one" ≡ value = cc once in
+        let both : codes "one" ≡ codes "shared" = same ∙ shared in
+        absurd (cc both)
+    wrong ss (inl (value, once, (false, each))) =
+        let same : codes "one" ≡ value = cc once in
+        let both : codes "one" ≡ codes "each" = same ∙ each in
+        absurd (cc both)
+    wrong ss (inr (gone, so)) = absurd (cc gone)
+
+    go : (settings : List Setting) → StandInFront settings (codes "--ports=one" ∷ codes "--feds" ∷ []) (word.now ∷ left) → AreSound settings → ⊥
+    go [] same sound =
+        let first : codes "--ports=one" ≡ word.now = cc same in
+        let both : codes "--ports=one" ≡ codes "--feds" = first ∙ is in
+        absurd (cc both)
+    go (s ∷ ss) (others, front, rest) sound =
+        let same = same_front one_port s (codes "--ports=one" ∷ codes "--feds" ∷ []) (codes "--feds" ∷ []) others (front_one (codes "--feds" ∷ [])) front in
+        wrong ss (subst (λ (t : Setting). AreSound (t ∷ ss)) (sym same.setting) sound Ports)
+
+-- an option that stands twice isn't told for its second value
+twice_comes_before_the_value : (value : Bor (List ℕ)) → value.now ≡ codes "one" → ServeComplains (BadValue Ports value) (codes "--ports=each" ∷ codes "--ports=one" ∷ []) → ⊥
+twice_comes_before_the_value value is (settings, left, others, (stand, sound), fresh, front, bad) = go settings stand fresh
+  where
+    go : (settings : List Setting) → StandInFront settings (codes "--ports=each" ∷ codes "--ports=one" ∷ []) left → values_of (codes "--ports") settings ≡ [] → ⊥
+    go [] same fresh =
+        let here = subst (λ (l : List (List ℕ)). IsInFront (codes "--ports", value.now) l others) (sym same) front in
+        let one = same_front each_port (codes "--ports", value.now) (codes "--ports=each" ∷ codes "--ports=one" ∷ []) (codes "--ports=one" ∷ []) others (front_each (codes "--ports=one" ∷ [])) here in
+        let second : codes "each" ≡ value.now = ap (λ (t : Setting). t.1) one.setting in
+        let both : codes "each" ≡ codes "one" = second ∙ is in
+        absurd (cc both)
+    go (s ∷ ss) (more, first, rest) fresh =
+        let same = same_front each_port s (codes "--ports=each" ∷ codes "--ports=one" ∷ []) (codes "--ports=one" ∷ []) more (front_each (codes "--ports=one" ∷ [])) first in
+        let gone = subst (λ (t : Setting). values_of (codes "--ports") (t ∷ ss) ≡ []) (sym same.setting) fresh in
+        absurd (cc gone)
+
+-- words of `serve` that are wrong aren't passed over in silence
+silence_after_serve_is_refused : AreCall (codes "serve" ∷ codes "--ports=one" ∷ []) ⊎ JoinWords (codes "serve" ∷ codes "--ports=one" ∷ []) → ⊥
+silence_after_serve_is_refused (inl (call, is)) =
+    let spelled : is.first ∷ is.given ≡ codes "serve" ∷ codes "--ports=one" ∷ [] = sym is.spelled in
+    let first : is.first ≡ codes "serve" = cc spelled in
+    let given : is.given ≡ codes "--ports=one" ∷ [] = cc spelled in
+    no_serve is.first is.given first (λ serve lenient served. no_call serve lenient (subst (λ (l : List (List ℕ)). IsServe serve lenient l) given served)) call.command call.lenient is.is_command
+  where
+    no_ports : (value : List ℕ) (shared : Bool) → codes "one" ≡ value → IsPorts value shared → ⊥
+    no_ports value true one is = let both : codes "one" ≡ codes "shared" = one ∙ is in absurd (cc both)
+    no_ports value false one is = let both : codes "one" ≡ codes "each" = one ∙ is in absurd (cc both)
+
+    go : (shared : Bool) → ArePorts shared (one_port ∷ []) → ⊥
+    go shared (inl (value, once, is)) = no_ports value shared (cc once) is
+    go shared (inr (none, usual)) = absurd (cc none)
+
+    no_call : (serve : ServeWords) (lenient : Bool) → IsServe serve lenient (codes "--ports=one" ∷ []) → ⊥
+    no_call serve lenient is = go serve.at.shared (holds_in (ArePorts serve.at.shared) (codes "--ports=one" ∷ []) (one_port ∷ []) ([], front_one [], refl) (is.settings, is.are_settings, is.ports))
+silence_after_serve_is_refused (inr (first, given, split, inl replay)) =
+    let name : codes "serve" ≡ first = cc split in
+    let both : codes "serve" ≡ codes "replay" = name ∙ replay in
+    absurd (cc both)
+silence_after_serve_is_refused (inr (first, given, split, inr recall)) =
+    let name : codes "serve" ≡ first = cc split in
+    let both : codes "serve" ≡ codes "recall" = name ∙ recall in
+    absurd (cc both)
+
+-- `a` is no number
+no_number : (n : ℕ) → IsNumberText (codes "a") n → ⊥
+no_number n is = let at = all_digits most_number (codes "a") n (lit< tt) is 0 (omega arith) in absurd (omega (arith, at.1))
+
+-- that words are missing after `drill` isn't told where the first of them is wrong
+a_wrong_seed_comes_before_what_is_missing : LacksWords (codes "drill") (codes "drill" ∷ codes "a" ∷ []) → ⊥
+a_wrong_seed_comes_before_what_is_missing (no_query named follow) = absurd (cc named)
+a_wrong_seed_comes_before_what_is_missing (no_recalled named follow) = absurd (cc named)
+a_wrong_seed_comes_before_what_is_missing (no_question named file follow) = absurd (cc named)
+a_wrong_seed_comes_before_what_is_missing (no_archive named follow) = absurd (cc named)
+a_wrong_seed_comes_before_what_is_missing (no_vrps named follow) = absurd (cc named)
+a_wrong_seed_comes_before_what_is_missing (no_prefix named file follow) = absurd (cc named)
+a_wrong_seed_comes_before_what_is_missing (no_seed named split) = absurd (cc split)
+a_wrong_seed_comes_before_what_is_missing (no_lanes named seed split (n, is, least, most)) =
+    let same : codes "a" ≡ seed = cc split in
+    no_number n (subst (λ (l : List ℕ). IsNumberText l n) (sym same) is)
+a_wrong_seed_comes_before_what_is_missing (no_messages named seed lanes split is_seed are_lanes) = absurd (cc split)
 
 -- an empty word is no beginning of a query
 an_empty_word_is_no_good_beginning : IsGoodBeginning 1 ([] ∷ []) → ⊥
 an_empty_word_is_no_good_beginning (inl is) = absurd (cc is)
 an_empty_word_is_no_good_beginning (inr (query, asking)) = no_line query asking.is_query
+
+-- of words that begin with a query the query is told
+a_query_in_front_is_told : IsBestBeginning 0 2 (codes "cut" ∷ codes "x" ∷ []) → ⊥
+unfolding words_of
+a_query_in_front_is_told (is, none) = none 1 (omega arith) (omega arith) cut (record { is_query = is_query (codes "cut") cut refl; goes_on = λ same. cc same })
 
 -- ports that begin where the others end don't meet
 ports_side_by_side_do_not_meet : (feed feeds askers : ℕ) (given : List (List ℕ)) → ServeComplains (Meet feed feeds (feed + feeds) askers) given → ⊥

@@ -1,5 +1,5 @@
 -- Why words are no command: what each reason says of them.
-use Rattle.std.specs.Prelude.{◌≡◌, ◌⊎◌, ℕ, ◌+◌, ◌≤◌, ◌<◌, ◌++◌, Bool, true, false, List, [], ◌∷◌, Option, slice_index_or, codes, length, map, take}
+use Rattle.std.specs.Prelude.{◌≡◌, ◌⊎◌, ⊤, ℕ, ◌+◌, ◌≤◌, ◌<◌, ◌++◌, Bool, true, false, List, [], ◌∷◌, Option, slice_index_or, codes, length, map, take}
 use Rattle.std.specs.List.{join_with_byte}
 use Rattle.std.specs.String.{string_bytes}
 use Rattle.bmp_specs.specs.AddressText.{IsAddressText}
@@ -9,12 +9,13 @@ use Rattle.bmp_specs.specs.Query.{QueryValue, IsQuery, quit, space}
 use Rattle.bmp_specs.specs.Values.{AddressValue, PrefixValue}
 use Rattle.station_doors.specs.Doors.{most_places}
 use Rattle.station_doors.specs.declared.listening.Log.{Log}
-use Rattle.station_words.specs.ServeWords.{Setting, ArePorts, Has, IsAllowed, IsInFront, IsLog, IsOption, IsPorts, IsRounds, IsSeconds, MayGive, equals_sign, flag, ports_for, values_of}
+use Rattle.station_words.specs.ServeWords.{Setting, ArePorts, Gives, Has, IsAllowed, IsInFront, IsLog, IsOption, IsPorts, IsRounds, IsSeconds, IsServe, MayGive, equals_sign, flag, ports_for, values_of}
 use Rattle.station_words.specs.Words.{IsAsking, IsCall, IsPlain}
 use Rattle.station_words.specs.declared.complaint.Complaint.{Complaint}
-use Rattle.station_words.specs.declared.complaint.Complaint.TheVariants.{NoWords, NoCommand, NoQuery, Quit, Needs, Extra, NotA, NoOption, NoValue, Twice, HasValue, BadValue, PastEnd, Meet, Other}
+use Rattle.station_words.specs.declared.complaint.Complaint.TheVariants.{NoWords, NoCommand, NoQuery, Quit, Needs, Extra, NotA, NoOption, NoValue, Twice, HasValue, BadValue, PastEnd, Meet}
 use Rattle.station_words.specs.declared.serve_options.ServeOption.{ServeOption}
 use Rattle.station_words.specs.declared.serve_options.ServeOption.TheVariants.{Feeds, Askers, FeedPort, AskPort, Rounds, Address, AskAddress, Ports, Idle, AskIdle, Log as LogOption, FeedFrom, AskFrom, Lenient}
+use Rattle.station_words.specs.declared.serve_words.ServeWords.{ServeWords}
 use Rattle.station_words.specs.declared.words.Call.{Call}
 
 -- the names of the commands
@@ -29,29 +30,6 @@ Follow name plain words = (lenient : Bool) × (given : List (List ℕ)) × (word
 abbrev pub AreAsked : List (List ℕ) → List (List ℕ) → Type 0
 AreAsked asked words = Follow (codes "replay") asked words ⊎ ((file : List ℕ) × Follow (codes "recall") (file ∷ asked) words)
 
--- after the command too few words stand
-pub data LacksWords (command : List ℕ) (words : List (List ℕ)) : Type 0 where
-  no_query : command ≡ codes "replay" → Follow (codes "replay") [] words → LacksWords command words
-  no_recalled : command ≡ codes "recall" → Follow (codes "recall") [] words → LacksWords command words
-  no_question : command ≡ codes "recall" → (file : List ℕ) → Follow (codes "recall") (file ∷ []) words → LacksWords command words
-  no_archive : command ≡ codes "archive" → Follow (codes "archive") [] words → LacksWords command words
-  no_vrps : command ≡ codes "rov" → Follow (codes "rov") [] words → LacksWords command words
-  no_prefix : command ≡ codes "rov" → (file : List ℕ) → Follow (codes "rov") (file ∷ []) words → LacksWords command words
-  few_numbers : command ≡ codes "drill" → (given : List (List ℕ)) → words ≡ codes "drill" ∷ given → length given < 3 → LacksWords command words
-
--- the names of the commands that ask for a text
-abbrev pub IsTextName : List ℕ → Type 0
-IsTextName command = ((command ≡ codes "--help") ⊎ (command ≡ codes "-h")) ⊎ ((command ≡ codes "--version") ⊎ (command ≡ codes "-V"))
-
--- after the command the word stands where none may
-pub data HasExtra (command word : List ℕ) (words : List (List ℕ)) : Type 0 where
-  after_check : command ≡ codes "check" → (more : List (List ℕ)) → Follow (codes "check") (word ∷ more) words → HasExtra command word words
-  after_relay : command ≡ codes "relay" → (more : List (List ℕ)) → Follow (codes "relay") (word ∷ more) words → HasExtra command word words
-  after_file : command ≡ codes "archive" → (file : List ℕ) (more : List (List ℕ)) → Follow (codes "archive") (file ∷ word ∷ more) words → HasExtra command word words
-  after_prefix : command ≡ codes "rov" → (file prefix : List ℕ) (more : List (List ℕ)) → Follow (codes "rov") (file ∷ prefix ∷ word ∷ more) words → HasExtra command word words
-  after_numbers : command ≡ codes "drill" → (seed lanes messages : List ℕ) (more : List (List ℕ)) → words ≡ codes "drill" ∷ seed ∷ lanes ∷ messages ∷ word ∷ more → HasExtra command word words
-  after_text : IsTextName command → (more : List (List ℕ)) → words ≡ command ∷ word ∷ more → HasExtra command word words
-
 -- the text is a number between these
 abbrev pub IsNumberWithin : ℕ → ℕ → List ℕ → Type 0
 IsNumberWithin least most text = (n : ℕ) × IsNumberText text n × (least ≤ n) × (n ≤ most)
@@ -60,12 +38,47 @@ IsNumberWithin least most text = (n : ℕ) × IsNumberText text n × (least ≤ 
 abbrev pub IsNoNumber : ℕ → ℕ → List ℕ → Type 0
 IsNoNumber least most text = (n : ℕ) → IsNumberText text n → least ≤ n → n ≤ most → ⊥
 
--- the word stands where a prefix or a number must, and is none
+-- the numbers of `drill`: the seed, the lanes, the messages
+abbrev pub IsSeed : List ℕ → Type 0
+IsSeed text = IsNumberWithin 0 4294967295 text
+
+abbrev pub AreLanes : List ℕ → Type 0
+AreLanes text = IsNumberWithin 1 16 text
+
+abbrev pub AreMessages : List ℕ → Type 0
+AreMessages text = IsNumberWithin 1 100000 text
+
+-- after the command too few words stand, and those that stand there are right
+pub data LacksWords (command : List ℕ) (words : List (List ℕ)) : Type 0 where
+  no_query : command ≡ codes "replay" → Follow (codes "replay") [] words → LacksWords command words
+  no_recalled : command ≡ codes "recall" → Follow (codes "recall") [] words → LacksWords command words
+  no_question : command ≡ codes "recall" → (file : List ℕ) → Follow (codes "recall") (file ∷ []) words → LacksWords command words
+  no_archive : command ≡ codes "archive" → Follow (codes "archive") [] words → LacksWords command words
+  no_vrps : command ≡ codes "rov" → Follow (codes "rov") [] words → LacksWords command words
+  no_prefix : command ≡ codes "rov" → (file : List ℕ) → Follow (codes "rov") (file ∷ []) words → LacksWords command words
+  no_seed : command ≡ codes "drill" → words ≡ codes "drill" ∷ [] → LacksWords command words
+  no_lanes : command ≡ codes "drill" → (seed : List ℕ) → words ≡ codes "drill" ∷ seed ∷ [] → IsSeed seed → LacksWords command words
+  no_messages : command ≡ codes "drill" → (seed lanes : List ℕ) → words ≡ codes "drill" ∷ seed ∷ lanes ∷ [] → IsSeed seed → AreLanes lanes → LacksWords command words
+
+-- the names of the commands that ask for a text
+abbrev pub IsTextName : List ℕ → Type 0
+IsTextName command = ((command ≡ codes "--help") ⊎ (command ≡ codes "-h")) ⊎ ((command ≡ codes "--version") ⊎ (command ≡ codes "-V"))
+
+-- after the command the word stands where none may, and those in front of it are right
+pub data HasExtra (command word : List ℕ) (words : List (List ℕ)) : Type 0 where
+  after_check : command ≡ codes "check" → (more : List (List ℕ)) → Follow (codes "check") (word ∷ more) words → HasExtra command word words
+  after_relay : command ≡ codes "relay" → (more : List (List ℕ)) → Follow (codes "relay") (word ∷ more) words → HasExtra command word words
+  after_file : command ≡ codes "archive" → (file : List ℕ) (more : List (List ℕ)) → Follow (codes "archive") (file ∷ word ∷ more) words → HasExtra command word words
+  after_prefix : command ≡ codes "rov" → (file text : List ℕ) (more : List (List ℕ)) → Follow (codes "rov") (file ∷ text ∷ word ∷ more) words → (prefix : PrefixValue) → IsPrefixText text prefix → HasExtra command word words
+  after_numbers : command ≡ codes "drill" → (seed lanes messages : List ℕ) (more : List (List ℕ)) → words ≡ codes "drill" ∷ seed ∷ lanes ∷ messages ∷ word ∷ more → IsSeed seed → AreLanes lanes → AreMessages messages → HasExtra command word words
+  after_text : IsTextName command → (more : List (List ℕ)) → words ≡ command ∷ word ∷ more → HasExtra command word words
+
+-- the word stands where a prefix or a number must, and is none, and those in front of it are right
 pub data IsMisfit (word : List ℕ) (words : List (List ℕ)) : Type 0 where
-  for_prefix : (file : List ℕ) → Follow (codes "rov") (file ∷ word ∷ []) words → ((prefix : PrefixValue) → IsPrefixText word prefix → ⊥) → IsMisfit word words
+  for_prefix : (file : List ℕ) (more : List (List ℕ)) → Follow (codes "rov") (file ∷ word ∷ more) words → ((prefix : PrefixValue) → IsPrefixText word prefix → ⊥) → IsMisfit word words
   for_seed : (more : List (List ℕ)) → words ≡ codes "drill" ∷ word ∷ more → IsNoNumber 0 4294967295 word → IsMisfit word words
-  for_lanes : (seed : List ℕ) (more : List (List ℕ)) → words ≡ codes "drill" ∷ seed ∷ word ∷ more → IsNoNumber 1 16 word → IsMisfit word words
-  for_messages : (seed lanes : List ℕ) (more : List (List ℕ)) → words ≡ codes "drill" ∷ seed ∷ lanes ∷ word ∷ more → IsNoNumber 1 100000 word → IsMisfit word words
+  for_lanes : (seed : List ℕ) (more : List (List ℕ)) → words ≡ codes "drill" ∷ seed ∷ word ∷ more → IsSeed seed → IsNoNumber 1 16 word → IsMisfit word words
+  for_messages : (seed lanes : List ℕ) (more : List (List ℕ)) → words ≡ codes "drill" ∷ seed ∷ lanes ∷ word ∷ more → IsSeed seed → AreLanes lanes → IsNoNumber 1 100000 word → IsMisfit word words
 
 -- ---- after `serve`
 
@@ -124,7 +137,15 @@ LacksValue words = (words ≡ []) ⊎ ((word : List ℕ) × (others : List (List
 abbrev pub IsGiven : List ℕ → List Setting → Type 0
 IsGiven name settings = (value : List ℕ) × (more : List (List ℕ)) × (values_of name settings ≡ value ∷ more)
 
--- the options that were seen, by their places, are given
+-- Nothing is wrong with the settings: each option is given once at most, with a value of its form.
+abbrev pub AreSound : List Setting → Type 0
+AreSound settings = (option : ServeOption) → MayGive (name_of option) (λ value. IsValueOf option value) ⊤ settings
+
+-- the same of the settings in front of the words, and these are left
+abbrev pub StandSound : List Setting → List (List ℕ) → List (List ℕ) → Type 0
+StandSound settings words left = StandInFront settings words left × AreSound settings
+
+-- the place of an option among those that were seen
 abbrev pub index_of : ServeOption → ℕ
 index_of Feeds = 0
 index_of Askers = 1
@@ -144,8 +165,14 @@ index_of Lenient = 10
 abbrev pub is_seen : List Bool → ServeOption → Bool
 is_seen seen option = slice_index_or seen (index_of option) false
 
+-- the option was seen, and is given once with a value of its form; or it wasn't, and isn't given
+abbrev pub Tells : Bool → ServeOption → List Setting → Type 0
+Tells true option settings = Gives (name_of option) (λ value. IsValueOf option value) settings
+Tells false option settings = values_of (name_of option) settings ≡ []
+
+-- the options that were seen are those that are given
 abbrev pub Knows : List Bool → List Setting → Type 0
-Knows seen settings = (option : ServeOption) → is_seen seen option ≡ true → IsGiven (name_of option) settings
+Knows seen settings = (option : ServeOption) → Tells (is_seen seen option) option settings
 
 -- what is wrong with the setting that these words begin with
 abbrev pub FrontComplains : Complaint → List ℕ → List (List ℕ) → Type 0
@@ -169,26 +196,44 @@ OpenFeeds first count settings = OpenPorts (codes "--feed-port") (codes "--feeds
 abbrev pub OpenAsks : ℕ → ℕ → List Setting → Type 0
 OpenAsks first count settings = OpenPorts (codes "--ask-port") (codes "--askers") 11120 16 first count settings
 
--- what is wrong with the words after `serve`
+-- What is wrong with the words after `serve`. It is the first fault from the left: nothing is wrong with the settings in front of
+-- it. Where ports are wrong, all the words are settings with which nothing is wrong by themselves.
 abbrev pub ServeComplains : Complaint → List (List ℕ) → Type 0
-ServeComplains (NoOption word) given = (settings : List Setting) × (left : List (List ℕ)) × StandInFront settings given (word.now ∷ left) × (BeginsSetting word.now → ⊥)
-ServeComplains (HasValue word) given = (settings : List Setting) × (left : List (List ℕ)) × StandInFront settings given (word.now ∷ left) × ((value : List ℕ) × (word.now ≡ flag ++ equals_sign ∷ value))
-ServeComplains (NoValue option) given = (settings : List Setting) × (left : List (List ℕ)) × StandInFront settings given (name_of option ∷ left) × IsOption (name_of option) × LacksValue left
-ServeComplains (Twice option) given = (settings : List Setting) × (left : List (List ℕ)) × StandInFront settings given left × IsGiven (name_of option) settings × ((value : List ℕ) × (others : List (List ℕ)) × IsInFront (name_of option, value) left others)
-ServeComplains (BadValue option value) given = (settings : List Setting) × (left others : List (List ℕ)) × StandInFront settings given left × IsInFront (name_of option, value.now) left others × (IsValueOf option value.now → ⊥)
-ServeComplains (PastEnd FeedPort first count) given = Has (λ settings. OpenFeeds first count settings) given × (65536 < first + count)
-ServeComplains (PastEnd AskPort first count) given = Has (λ settings. OpenAsks first count settings) given × (65536 < first + count)
+ServeComplains (NoOption word) given = (settings : List Setting) × (left : List (List ℕ)) × StandSound settings given (word.now ∷ left) × (BeginsSetting word.now → ⊥)
+ServeComplains (HasValue word) given = (settings : List Setting) × (left : List (List ℕ)) × StandSound settings given (word.now ∷ left) × ((value : List ℕ) × (word.now ≡ flag ++ equals_sign ∷ value))
+ServeComplains (NoValue option) given = (settings : List Setting) × (left : List (List ℕ)) × StandSound settings given (name_of option ∷ left) × IsOption (name_of option) × LacksValue left
+ServeComplains (Twice option) given = (settings : List Setting) × (left : List (List ℕ)) × StandSound settings given left × IsGiven (name_of option) settings × ((value : List ℕ) × (others : List (List ℕ)) × IsInFront (name_of option, value) left others)
+ServeComplains (BadValue option value) given =
+    (settings : List Setting) × (left others : List (List ℕ)) × StandSound settings given left × (values_of (name_of option) settings ≡ []) × IsInFront (name_of option, value.now) left others × (IsValueOf option value.now → ⊥)
+ServeComplains (PastEnd FeedPort first count) given = Has (λ settings. AreSound settings × OpenFeeds first count settings) given × (65536 < first + count)
+ServeComplains (PastEnd AskPort first count) given = Has (λ settings. AreSound settings × OpenAsks first count settings) given × (65536 < first + count)
 ServeComplains (PastEnd option first count) given = ⊥
-ServeComplains (Meet feed feeds ask askers) given = Has (λ settings. OpenFeeds feed feeds settings × OpenAsks ask askers settings) given × (ask < feed + feeds) × (feed < ask + askers)
+ServeComplains (Meet feed feeds ask askers) given = Has (λ settings. AreSound settings × OpenFeeds feed feeds settings × OpenAsks ask askers settings) given × (ask < feed + feeds) × (feed < ask + askers)
 ServeComplains complaint given = ⊥
+
+-- the words are those of a call of `serve`
+abbrev pub AreServe : List (List ℕ) → Type 0
+AreServe words = (serve : ServeWords) × (lenient : Bool) × IsServe serve lenient words
 
 -- the words are a call
 abbrev pub AreCall : List (List ℕ) → Type 0
 AreCall words = (call : Call) × IsCall call words
 
+-- the words after this one are joined, which takes memory
+abbrev pub JoinsWords : List ℕ → Type 0
+JoinsWords first = (first ≡ codes "replay") ⊎ (first ≡ codes "recall")
+
+-- the same of the first of these
+abbrev pub JoinWords : List (List ℕ) → Type 0
+JoinWords words = (first : List ℕ) × (given : List (List ℕ)) × (words ≡ first ∷ given) × JoinsWords first
+
 -- that many of the first words are a query, or 0
 abbrev pub IsGoodBeginning : ℕ → List (List ℕ) → Type 0
 IsGoodBeginning good asked = (good ≡ 0) ⊎ ((query : QueryValue) × IsAsking (join_with_byte space (take good asked)) query)
+
+-- the same, and of those below this number no longer beginning is a query
+abbrev pub IsBestBeginning : ℕ → ℕ → List (List ℕ) → Type 0
+IsBestBeginning good end asked = IsGoodBeginning good asked × ((more : ℕ) → more < end → good < more → (query : QueryValue) → IsAsking (join_with_byte space (take more asked)) query → ⊥)
 
 -- what is wrong with the words
 abbrev pub Complains : Complaint → List (List ℕ) → Type 0
@@ -196,12 +241,11 @@ Complains NoWords words = words ≡ []
 Complains (NoCommand word) words = (given : List (List ℕ)) × (words ≡ word.now ∷ given) × (IsCommandName word.now → ⊥)
 Complains (NoQuery asked good) words =
     AreAsked (map string_bytes asked.now) words × ((query : QueryValue) → IsQuery (join_with_byte space (map string_bytes asked.now)) query → ⊥)
-    × IsGoodBeginning good (map string_bytes asked.now)
+    × IsBestBeginning good (length asked.now) (map string_bytes asked.now)
 Complains Quit words = (asked : List (List ℕ)) × AreAsked asked words × IsQuery (join_with_byte space asked) quit × ((query : QueryValue) → IsQuery (join_with_byte space asked) query → query ≡ quit)
 Complains (Needs command needs) words = LacksWords command.now words
 Complains (Extra command word) words = HasExtra command.now word.now words
 Complains (NotA word wanted) words = IsMisfit word.now words
-Complains Other words = ((call : Call) → IsCall call words → ⊥) × ((given : List (List ℕ)) × (words ≡ codes "serve" ∷ given))
 Complains complaint words = (given : List (List ℕ)) × (words ≡ codes "serve" ∷ given) × ServeComplains complaint given
 
 -- a complaint is never about a command

@@ -15,6 +15,7 @@ help_text = codes "bmpstation: a station for the BGP Monitoring Protocol (RFC 78
     ++ codes "  rov [--lenient] FILE P     whether the VRPs in FILE allow each route within P\n"
     ++ codes "  archive [--lenient] FILE   keep that stream in FILE, which is new or empty\n"
     ++ codes "  recall [--lenient] FILE Q  the reply of query Q on the stream kept in FILE\n"
+    ++ codes "  --check-options WORDS      tell by the status whether WORDS are a command\n"
     ++ codes "  --help, -h                 this text\n"
     ++ codes "  --version, -V              which version this is\n"
     ++ codes "\n"

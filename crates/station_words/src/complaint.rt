@@ -1,19 +1,17 @@
 //! Why words are no command, for whoever wrote them.
 //!
 //! `why_no_command` is asked where `read_words` found no command. It takes the words apart once more, from the left, and
-//! names the first of them that no command has at its place. What it says decides nothing: `read_words` does.
+//! names the first of them that can't stand where it does. What it says decides nothing: `read_words` does.
 
-ghost use Rattle.std.specs.Prelude.{◌≡◌, ◌≤◌, ◌⊎◌, ◌∷◌, ℕ, List, true, IfSome, IfNone, codes, length, map};
+ghost use Rattle.std.specs.Prelude.{◌≡◌, ◌+◌, ◌≤◌, ◌⊎◌, ◌∷◌, ℕ, List, IfSome, IfNone, codes, length, map};
 ghost use Rattle.std.specs.String.{string_bytes};
-ghost use Rattle.station_words.specs.Complaints.{AreAsked, AreCall, Complains, IsGoodBeginning, IsTextName};
-ghost use Rattle.station_words.specs.Words.{IsCall, TakeMemory, TakesMemory};
+ghost use Rattle.station_words.specs.Complaints.{AreAsked, AreCall, Complains, IsBestBeginning, IsTextName, JoinWords, JoinsWords};
+ghost use Rattle.station_words.specs.Words.{IsCall};
 ghost use Rattle.station_words.specs.declared.words.Call.{Call as AnyCall};
 
 use crate::serve_options::{ServeOption, is_number, words_complaint};
-use crate::serve_words::ports_complaint;
-use crate::words::{
-    WordsFault, first_of, is_word, read_asked, read_prefix, read_words, split_lenient,
-};
+use crate::serve_ports::ports_complaint;
+use crate::words::{WordsFault, first_of, read_asked, read_prefix, split_lenient};
 use query_lang::{Query, parse};
 use std::alloc::Global;
 
@@ -85,33 +83,32 @@ pub enum Complaint<'a> {
         ask: u32,
         askers: u32,
     },
-
-    /// They are none for a reason that wasn't found. They begin with `serve`.
-    Other,
 }
 
-// So many words, where the first of these are a query that has a reply, or else as many as before.
-fn more_good(alloc: Global, asked: &[String], good: usize, count: usize) -> usize
+// So many words, where the first of these are a query that has a reply, or else as many as before: the most of those seen.
+// None where memory is wanting.
+fn more_good(alloc: Global, asked: &[String], good: usize, count: usize) -> Option<usize>
     requires within { count ≤ length asked.now }
-    requires good { IsGoodBeginning good (map string_bytes asked.now) }
-    ensures { IsGoodBeginning result (map string_bytes asked.now) }
+    requires best { IsBestBeginning good count (map string_bytes asked.now) }
+    ensures { IfSome result (λ more. IsBestBeginning more (count + 1) (map string_bytes asked.now)) }
 {
     match read_asked(alloc, &asked[..count]) {
-        Ok(_) => count,
-        Err(_) => good,
+        Ok(_) => Some(count),
+        Err(WordsFault::Usage) => Some(good),
+        Err(WordsFault::NoMemory) => None,
     }
 }
 
-// How many of the first words are a query that has a reply: the most that are found, and not all. 0 where none are, or
-// where memory is wanting.
-fn good_words(alloc: Global, asked: &[String]) -> usize
-    ensures { IsGoodBeginning result (map string_bytes asked.now) }
+// How many of the first words are a query that has a reply: the most that are one, and not all. 0 where none are. None where
+// memory is wanting.
+fn good_words(alloc: Global, asked: &[String]) -> Option<usize>
+    ensures { IfSome result (λ good. IsBestBeginning good (length asked.now) (map string_bytes asked.now)) }
 {
     let mut good = 0;
     for count in 0..asked.len() {
-        good = more_good(alloc, asked, good, count);
+        good = more_good(alloc, asked, good, count)?;
     }
-    good
+    Some(good)
 }
 
 // Why the words that are asked are no query with a reply. None where they are one, or where memory is wanting.
@@ -124,10 +121,10 @@ fn query_complaint<'a>(alloc: Global, asked: &'a [String]) -> Option<Complaint<'
     match parse(line.as_bytes()) {
         Some(Query::Quit) => Some(Complaint::Quit),
         Some(_) => None,
-        None => Some(Complaint::NoQuery {
-            asked,
-            good: good_words(alloc, asked),
-        }),
+        None => match good_words(alloc, asked) {
+            Some(good) => Some(Complaint::NoQuery { asked, good }),
+            None => None,
+        },
     }
 }
 
@@ -228,18 +225,18 @@ fn rov_complaint<'a>(given: &'a [String]) -> Option<Complaint<'a>>
             needs: "a file and a prefix",
         });
     };
-    if let Some((word, _)) = first_of(left) {
-        return Some(Complaint::Extra {
-            command: "rov",
-            word,
-        });
-    }
-    match read_prefix(text) {
-        Some(_) => None,
-        None => Some(Complaint::NotA {
+    let Some(_) = read_prefix(text) else {
+        return Some(Complaint::NotA {
             word: text,
             wanted: "a prefix",
+        });
+    };
+    match first_of(left) {
+        Some((word, _)) => Some(Complaint::Extra {
+            command: "rov",
+            word,
         }),
+        None => None,
     }
 }
 
@@ -303,24 +300,25 @@ fn lone_complaint<'a>(command: &'a str, given: &'a [String]) -> Option<Complaint
     }
 }
 
-fn serve_complaint<'a>(alloc: Global, given: &'a [String]) -> Option<Complaint<'a>>
-    ensures { IfSome result (λ complaint. Complains complaint (codes "serve" ∷ map string_bytes given.now)) }
+fn serve_complaint<'a>(given: &'a [String]) -> Option<Complaint<'a>>
+    ensures some { IfSome result (λ complaint. Complains complaint (codes "serve" ∷ map string_bytes given.now)) }
+    ensures none { IfNone result (AreCall (codes "serve" ∷ map string_bytes given.now)) }
 {
     match words_complaint(given) {
         Some(complaint) => Some(complaint),
-        None => ports_complaint(alloc, given),
+        None => ports_complaint(given),
     }
 }
 
 // Why a word and those after it are no command. None where no reason is found.
 fn complaint_at<'a>(alloc: Global, first: &'a str, given: &'a [String]) -> Option<Complaint<'a>>
     ensures some { IfSome result (λ complaint. Complains complaint (first.now ∷ map string_bytes given.now)) }
-    ensures none { IfNone result (AreCall (first.now ∷ map string_bytes given.now) ⊎ TakesMemory first.now) }
+    ensures none { IfNone result (AreCall (first.now ∷ map string_bytes given.now) ⊎ JoinsWords first.now) }
 {
     match first {
         "replay" => replay_complaint(alloc, given),
         "check" => check_complaint(given),
-        "serve" => serve_complaint(alloc, given),
+        "serve" => serve_complaint(given),
         "drill" => drill_complaint(given),
         "relay" => relay_complaint(given),
         "rov" => rov_complaint(given),
@@ -331,29 +329,8 @@ fn complaint_at<'a>(alloc: Global, first: &'a str, given: &'a [String]) -> Optio
     }
 }
 
-// The same of all the words.
-fn complaint_of<'a>(alloc: Global, words: &'a [String]) -> Option<Complaint<'a>>
-    ensures some { IfSome result (λ complaint. Complains complaint (map string_bytes words.now)) }
-    ensures none { IfNone result (AreCall (map string_bytes words.now) ⊎ TakeMemory (map string_bytes words.now)) }
-{
-    match first_of(words) {
-        Some((first, given)) => complaint_at(alloc, first, given),
-        None => Some(Complaint::NoWords),
-    }
-}
-
-// Whether the words begin with `serve`.
-fn is_serving(words: &[String]) -> bool
-    ensures { result ≡ true → (given : List (List ℕ)) × (map string_bytes words.now ≡ codes "serve" ∷ given) }
-{
-    match first_of(words) {
-        Some((first, _)) => is_word(first, "serve"),
-        None => false,
-    }
-}
-
-/// Why the words are no command. None only where they are one, or where they begin with `replay`, `serve` or `recall` and
-/// there may have been no memory to read them.
+/// Why the words are no command. None only where they are one, or where they begin with `replay` or `recall` and there was no
+/// memory to join those that follow.
 pub fn why_no_command<'a>(alloc: Global, words: &'a [String]) -> Option<Complaint<'a>>
     // What it says is so.
     ensures some { IfSome result (λ complaint. Complains complaint (map string_bytes words.now)) }
@@ -361,18 +338,10 @@ pub fn why_no_command<'a>(alloc: Global, words: &'a [String]) -> Option<Complain
     // The words are no call.
     ensures none_read { IfSome result (λ complaint. (call : AnyCall) → IsCall call (map string_bytes words.now) → ⊥) }
 
-    ensures none { IfNone result (AreCall (map string_bytes words.now) ⊎ TakeMemory (map string_bytes words.now)) }
+    ensures none { IfNone result (AreCall (map string_bytes words.now) ⊎ JoinWords (map string_bytes words.now)) }
 {
-    match read_words(alloc, words) {
-        Ok(_) => None,
-        Err(WordsFault::NoMemory) => None,
-        Err(WordsFault::Usage) => match complaint_of(alloc, words) {
-            Some(complaint) => Some(complaint),
-            None => if is_serving(words) {
-                Some(Complaint::Other)
-            } else {
-                None
-            },
-        },
+    match first_of(words) {
+        Some((first, given)) => complaint_at(alloc, first, given),
+        None => Some(Complaint::NoWords),
     }
 }

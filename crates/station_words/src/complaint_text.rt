@@ -122,7 +122,6 @@ impl Display for Complaint<'_> {
                 Ports(feed, feeds),
                 Ports(ask, askers)
             ),
-            Complaint::Other => f.write_str("no command (see bmpstation --help)"),
         }
     }
 }

@@ -19,6 +19,7 @@ pub fn help() -> &'static str
         "  rov [--lenient] FILE P     whether the VRPs in FILE allow each route within P\n",
         "  archive [--lenient] FILE   keep that stream in FILE, which is new or empty\n",
         "  recall [--lenient] FILE Q  the reply of query Q on the stream kept in FILE\n",
+        "  --check-options WORDS      tell by the status whether WORDS are a command\n",
         "  --help, -h                 this text\n",
         "  --version, -V              which version this is\n",
         "\n",

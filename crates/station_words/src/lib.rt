@@ -9,9 +9,10 @@
 //!
 //! Proved: `read_words` answers the call that the words are, and `Usage` only where they are no call; it answers
 //! `NoMemory` only where they begin with `replay`, `serve` or `recall`. `file_word` finds the word at the place of a call's
-//! file, and each text is the one of `specs/Explain.antt`, byte by byte. What a complaint says of the words is so, no call
-//! has one, and words that are no call have one, unless memory may have been wanting; its line is tested alone. Words of
-//! `serve` that were a call while five of its options had to be given are the same call.
+//! file, and each text is the one of `specs/Explain.antt`, byte by byte. What a complaint says of the words is so, and is of
+//! the first fault from the left; no call has one, and words that are no call have one, unless they are to be joined and memory
+//! was wanting; its line is tested alone. Words of `serve` that were a call while five of its options had to be given are the
+//! same call.
 //! Begin with `specs/Words.antt`, `specs/ServeWords.antt` and `specs/DrillWords.antt`, then `src/words.rt`, and with
 //! `specs/Complaints.antt` for `src/complaint.rt`. What `clap` is told of the options, and what it finds, is in
 //! `src/serve_words.rt` and `specs/ServeOptions.antt`.
@@ -24,6 +25,7 @@ mod drill_words;
 mod explain;
 mod laws;
 mod serve_options;
+mod serve_ports;
 mod serve_words;
 mod words;
 

@@ -1,9 +1,9 @@
 //! The options of `serve`, read one after another, for whoever asks what is wrong with them.
 
-ghost use Rattle.std.specs.Prelude.{◌≡◌, ◌<◌, ◌⊎◌, ◌++◌, ◌∷◌, ℕ, List, Bool, true, false, IfSome, IfNone, IfOk, IfErr, map};
+ghost use Rattle.std.specs.Prelude.{◌≡◌, ◌<◌, ◌⊎◌, ◌++◌, ◌∷◌, [], ℕ, List, Bool, true, false, IfSome, IfNone, IfOk, IfErr, map};
 ghost use Rattle.std.specs.String.{string_bytes};
-ghost use Rattle.station_words.specs.Complaints.{FrontComplains, IsDashed, IsNoNumber, IsNumberWithin, IsValueOf, Knows, ServeComplains, StandInFront, index_of, is_seen, name_of};
-ghost use Rattle.station_words.specs.ServeWords.{IsInFront, IsOption, Setting as AnySetting};
+ghost use Rattle.station_words.specs.Complaints.{AreSound, FrontComplains, IsDashed, IsNoNumber, IsNumberWithin, IsValueOf, Knows, ServeComplains, StandInFront, index_of, is_seen, name_of};
+ghost use Rattle.station_words.specs.ServeWords.{AreSettings, Has, IsInFront, IsOption, Setting as AnySetting, values_of};
 ghost use Rattle.station_words.specs.declared.serve_options.ServeOption.{ServeOption as AnyOption};
 
 use crate::allowed_words::allowed_of;
@@ -80,6 +80,14 @@ impl ServeOption {
             ServeOption::Lenient => true,
             _ => false,
         }
+    }
+
+    // Whether it is this one.
+    fn equals(&self, other: ServeOption) -> bool
+        ensures yes { result ≡ true → self.now ≡ other }
+        ensures no { result ≡ false → self.now ≡ other → ⊥ }
+    {
+        self.index() == other.index()
     }
 
     // Its place among the options.
@@ -194,14 +202,16 @@ pub(crate) fn is_number(value: &str, least: u32, most: u32) -> bool
 }
 
 fn is_addr(value: &str) -> bool
-    ensures { result ≡ false → IsValueOf ServeOption.Address value.now → ⊥ }
+    ensures yes { result ≡ true → IsValueOf ServeOption.Address value.now }
+    ensures no { result ≡ false → IsValueOf ServeOption.Address value.now → ⊥ }
 {
     parse_addr(value.as_bytes()).is_some()
 }
 
 // Whether the option takes this value.
 fn takes(option: ServeOption, value: &str) -> bool
-    ensures { result ≡ false → IsValueOf option value.now → ⊥ }
+    ensures yes { result ≡ true → IsValueOf option value.now }
+    ensures no { result ≡ false → IsValueOf option value.now → ⊥ }
 {
     match option {
         ServeOption::Feeds => is_number(value, 1, MOST_PLACES),
@@ -241,7 +251,9 @@ impl Seen {
     }
 
     fn add(&mut self, option: ServeOption)
-        ensures { (other : AnyOption) → is_seen self.new.given other ≡ true → (is_seen self.old.given other ≡ true) ⊎ (other ≡ option) }
+        ensures there { is_seen self.new.given option ≡ true }
+        ensures kept { (other : AnyOption) → is_seen self.old.given other ≡ true → is_seen self.new.given other ≡ true }
+        ensures only { (other : AnyOption) → is_seen self.new.given other ≡ true → (is_seen self.old.given other ≡ true) ⊎ (other ≡ option) }
     {
         self.given[option.index()] = true;
     }
@@ -254,7 +266,7 @@ fn step<'a>(
     more: &'a [String],
 ) -> Result<&'a [String], Complaint<'a>>
     ensures ok { IfOk result (λ left. (settings : List AnySetting) (given : List (List ℕ)) → StandInFront settings given (word.now ∷ map string_bytes more.now) → Knows seen.old.given settings
-        → (after : List AnySetting) × StandInFront after given (map string_bytes left.now) × Knows seen.new.given after) }
+        → (setting : AnySetting) × StandInFront (settings ++ setting ∷ []) given (map string_bytes left.now) × Knows seen.new.given (settings ++ setting ∷ [])) }
     ensures err { IfErr result (λ complaint. (settings : List AnySetting) (given : List (List ℕ)) → StandInFront settings given (word.now ∷ map string_bytes more.now) → Knows seen.old.given settings → ServeComplains complaint given) }
 {
     match read_setting(word, more) {
@@ -272,9 +284,10 @@ fn step<'a>(
     }
 }
 
-/// What is wrong with the words after `serve`, where one of them can't stand where it does.
+/// What is wrong with the words after `serve`, where one of them can't stand where it does: the first such from the left.
 pub(crate) fn words_complaint<'a>(given: &'a [String]) -> Option<Complaint<'a>>
-    ensures { IfSome result (λ complaint. ServeComplains complaint (map string_bytes given.now)) }
+    ensures some { IfSome result (λ complaint. ServeComplains complaint (map string_bytes given.now)) }
+    ensures none { IfNone result (Has AreSound (map string_bytes given.now)) }
 {
     let mut seen = Seen::none();
     let mut left = given;
@@ -285,6 +298,30 @@ pub(crate) fn words_complaint<'a>(given: &'a [String]) -> Option<Complaint<'a>>
         match step(&mut seen, word, more) {
             Ok(rest) => left = rest,
             Err(complaint) => return Some(complaint),
+        }
+    }
+    None
+}
+
+/// The value that the words after `serve` give for an option, where nothing is wrong with one of these words. None where they
+/// don't give it.
+pub(crate) fn value_of<'a>(given: &'a [String], option: ServeOption) -> Option<&'a str>
+    ensures some { (settings : List AnySetting) → AreSettings settings (map string_bytes given.now) → AreSound settings → IfSome result (λ value. values_of (name_of option) settings ≡ value.now ∷ []) }
+    ensures none { (settings : List AnySetting) → AreSettings settings (map string_bytes given.now) → AreSound settings → IfNone result (values_of (name_of option) settings ≡ []) }
+{
+    let mut left = given;
+    for _ in 0..given.len() {
+        let Some((word, more)) = first_of(left) else {
+            return None;
+        };
+        match read_setting(word, more) {
+            Ok((other, value, rest)) => {
+                if other.equals(option) {
+                    return Some(value);
+                }
+                left = rest;
+            }
+            Err(_) => return None,
         }
     }
     None

@@ -8,14 +8,11 @@ ghost use Rattle.bmp_specs.specs.NumberText.{IsNumberText};
 ghost use Rattle.bmp_specs.specs.Values.{AddressValue, PrefixValue};
 ghost use Rattle.clap.specs.Words.{app_of, rule_of};
 ghost use Rattle.station_doors.specs.declared.listening.Log.{Log as AnyLog};
-ghost use Rattle.station_words.specs.Complaints.{OpenAsks, OpenFeeds, ServeComplains};
 ghost use Rattle.station_words.specs.ServeOptions.{AreMatches, dashed, flag_rule, is_dashes, option_rule, options_of, serve_app, with_rules};
 ghost use Rattle.station_words.specs.ServeWords.{Gives, Has, ArePorts, IsAllowed, IsLog, IsPorts, IsRounds, IsSeconds, IsServe, MayGive, MayServe, flag, forever, is_given, usually_shared, loopback, ports_for};
 ghost use Rattle.station_words.specs.declared.serve_words.ServeWords.{ServeWords as AnyServe};
 
 use crate::allowed_words::allowed_of;
-use crate::complaint::Complaint;
-use crate::serve_options::ServeOption;
 use crate::words::WordsFault;
 use clap::builder::ValueRange;
 use clap::error::ErrorKind;
@@ -25,13 +22,13 @@ use station_doors::{Allowed, Listening, Log, MOST_PLACES};
 use std::alloc::{AllocError, Global};
 
 // What is asked for where an option isn't given.
-const FEEDS: u32 = 64;
+pub(crate) const FEEDS: u32 = 64;
 
-const ASKERS: u32 = 16;
+pub(crate) const ASKERS: u32 = 16;
 
-const FEED_PORT: u32 = 11019;
+pub(crate) const FEED_PORT: u32 = 11019;
 
-const ASK_PORT: u32 = 11120;
+pub(crate) const ASK_PORT: u32 = 11120;
 
 /// What `serve` is asked for.
 #[derive(Clone, Copy)]
@@ -240,7 +237,13 @@ fn gives(matches: &ArgMatches<'_>, name: &str) -> bool
 }
 
 // Whether one of these isn't given.
-fn is_short(feeds: bool, askers: bool, feed_port: bool, ask_port: bool, rounds: bool) -> bool
+pub(crate) fn is_short(
+    feeds: bool,
+    askers: bool,
+    feed_port: bool,
+    ask_port: bool,
+    rounds: bool,
+) -> bool
     ensures { result ≡ not (feeds && askers && feed_port && ask_port && rounds) }
 {
     !(feeds && askers && feed_port && ask_port && rounds)
@@ -368,7 +371,7 @@ fn port_of(number: u32) -> Option<u16>
 }
 
 // How many ports so many lanes or askers have.
-fn width(shared: bool, count: u32) -> u32
+pub(crate) fn width(shared: bool, count: u32) -> u32
     ensures { result ≡ ports_for shared count }
 {
     if shared { 1 } else { count }
@@ -485,68 +488,5 @@ pub fn read_serve(alloc: Global, words: &[String]) -> Result<(ServeWords, bool),
             None => Err(WordsFault::Usage),
         },
         Err(fault) => Err(fault),
-    }
-}
-
-// What is wrong with so many ports from these two on, if something is.
-fn apart_complaint<'a>(feed: u32, feeds: u32, ask: u32, askers: u32) -> Option<Complaint<'a>>
-    ensures { (given : List (List ℕ)) → Has (λ settings. OpenFeeds feed feeds settings × OpenAsks ask askers settings) given → IfSome result (λ complaint. ServeComplains complaint given) }
-{
-    let feed_end = feed as u64 + feeds as u64;
-    let ask_end = ask as u64 + askers as u64;
-    if feed_end > 65_536 {
-        return Some(Complaint::PastEnd {
-            option: ServeOption::FeedPort,
-            first: feed,
-            count: feeds,
-        });
-    }
-    if ask_end > 65_536 {
-        return Some(Complaint::PastEnd {
-            option: ServeOption::AskPort,
-            first: ask,
-            count: askers,
-        });
-    }
-    if (ask as u64) < feed_end && (feed as u64) < ask_end {
-        return Some(Complaint::Meet {
-            feed,
-            feeds,
-            ask,
-            askers,
-        });
-    }
-    None
-}
-
-// What is wrong with the ports of settings.
-fn matches_complaint<'a>(matches: &ArgMatches<'_>) -> Option<Complaint<'a>>
-    ensures { (words : List (List ℕ)) → AreMatches words matches.now → IfSome result (λ complaint. ServeComplains complaint words) }
-{
-    let Some(feeds) = find_number(matches, "feeds", FEEDS) else {
-        return None;
-    };
-    let Some(askers) = find_number(matches, "askers", ASKERS) else {
-        return None;
-    };
-    let Some(feed) = find_number(matches, "feed-port", FEED_PORT) else {
-        return None;
-    };
-    let Some(ask) = find_number(matches, "ask-port", ASK_PORT) else {
-        return None;
-    };
-    let Some(shared) = find_ports(matches) else {
-        return None;
-    };
-    apart_complaint(feed, width(shared, feeds), ask, width(shared, askers))
-}
-
-// What is wrong with the ports that the words after `serve` ask for. None too where these are no settings.
-pub(crate) fn ports_complaint<'a>(alloc: Global, given: &[String]) -> Option<Complaint<'a>>
-    ensures { IfSome result (λ complaint. ServeComplains complaint (map string_bytes given.now)) }
-{
-    match read_options(alloc, given) {
-        Ok(matches) => matches_complaint(&matches),
-        Err(_) => None,
     }
 }

@@ -16,7 +16,7 @@ returns-in-Some-Quit c = λ words are.
       λ query is. c.in-Some-Quit.ensures.only query (subst (λ (line : List ℕ). IsQuery line query) (sym joined) is) ∙ ends,
     )
 
-pub returns : goal.returns
-returns c = λ words are.
+pub returns-in-Some-good_words : goal.returns-in-Some-good_words
+returns-in-Some-good_words c = λ words are.
     let joined : c.as_bytes.result.now ≡ join_with_byte space (map string_bytes c.args.asked.now) = c.as_bytes.ensures.value ∙ c.in-Ok.ensures.ok ∙ joined_texts string_bytes space c.args.asked.now in
-    (are, λ query is. c.in-None.ensures.none query (subst (λ (line : List ℕ). IsQuery line query) (sym joined) is), c.good_words.ensures)
+    (are, λ query is. c.in-None.ensures.none query (subst (λ (line : List ℕ). IsQuery line query) (sym joined) is), c.in-Some-good_words.ensures)
