@@ -79,7 +79,7 @@ def helped_of_station():
     """The commands, the words beside them, and the options of serve, by the help."""
     head, serve = run([harness.PROGRAM, "--help"]).stdout.decode().split("options of serve")
     commands = set(re.findall(r"^  ([a-z]+)", head, re.M))
-    return commands, {"--help", "-h", "--version", "-V"}, set(re.findall(r"^  (--[a-z-]+)", serve, re.M))
+    return commands, {"--check-options", "--help", "-h", "--version", "-V"}, set(re.findall(r"^  (--[a-z-]+)", serve, re.M))
 
 
 def helped_of_tool(tool):
@@ -114,6 +114,10 @@ def completion_by_bash():
             same(offered("bmpstation", command, "--"), {"--lenient"}, command)
             same(offered("bmpstation", command, "--lenient", "--"), set(), command)
         same(offered("bmpstation", "drill", ""), set(), "drill")
+        same(offered("bmpstation", "--check-options"), {"--check-options"}, "--check-options")
+        same(offered("bmpstation", "--check-options", ""), commands | alone, "commands to be checked")
+        same(offered("bmpstation", "--check-options", "serve", ""), serve, "options of serve to be checked")
+        same(offered("bmpstation", "--check-options", "replay", "--lenient", ""), queries, "queries to be checked")
         for words in (("replay",), ("replay", "--lenient"), ("recall", "FILE"), ("recall", "--lenient", "FILE")):
             same(offered("bmpstation", *words, ""), queries, words)
             same(offered("bmpstation", *words, "table", ""), selectors, words)
@@ -145,6 +149,8 @@ def completion_by_zsh():
         offered("bmpstation ", commands)
         offered("bmpstation -", alone)
         offered("bmpstation serve --", serve)
+        offered("bmpstation --check-options ", commands)
+        offered("bmpstation --check-options serve --", serve)
         offered("bmpstation serve --feeds 4 --ports ", {"each", "shared"})
         offered("bmpstation serve --rounds=forever --feeds=4 --", serve - {"--rounds", "--feeds"}, {"--rounds", "--feeds"})
         offered("bmpstation replay ", queries)

@@ -2,15 +2,17 @@
 //!
 //! It ends with the status that `station` answers. All that it does is proved and said there
 //! (`station_top`); what standard input and files hold and where standard output goes is not. Where a call ends in a fault
-//! that standard output doesn't name, a line on standard error says which; that line is tested alone, and so is the thread
-//! that writes the log of `serve`.
+//! that standard output doesn't name, a line on standard error says which; that line is tested alone, and so are the line of
+//! a call that reads a terminal, the thread that writes the log of `serve`, and `--check-options`, by which words are only
+//! looked at: the station isn't called with words that are a command.
 #![tactic(auto)]
 
 mod fault_line;
+mod terminal_line;
 
 use fault_line::say_fault;
 use station_doors::{HostYard, Lines};
-use station_top::{Command, Status, WordsFault, read_words, station};
+use station_top::{Command, Status, WordsFault, behind_check, read_words, station};
 use std::alloc::Global;
 use std::fs::{File, Files};
 use std::io::ErrorKind;
@@ -21,6 +23,7 @@ use std::sync::Wait;
 use std::thread::Threads;
 use std::time::Clock;
 use std::{fs, mem, thread};
+use terminal_line::say_terminal;
 use wire_io::{NoMemory, StdSink};
 
 // Opens the standard streams that are closed, so that nothing else gets their numbers: no line meant for one of them goes
@@ -57,33 +60,40 @@ fn words(rt: &HostRuntime) -> Result<Vec<String>, NoMemory> {
     Ok(words)
 }
 
-// The log of a station that serves. Other commands have none.
-fn log_of(alloc: Global, words: &[String]) -> Result<Option<Lines>, NoMemory> {
+// The command that the words are, if they are one.
+fn command_of(alloc: Global, words: &[String]) -> Result<Option<Command>, NoMemory> {
     match read_words(alloc, words) {
-        Ok(call) => match call.command {
-            Command::Serve(_) => Ok(Some(Lines::new(alloc)?)),
-            _ => Ok(None),
-        },
+        Ok(call) => Ok(Some(call.command)),
         Err(WordsFault::Usage) => Ok(None),
         Err(WordsFault::NoMemory) => Err(NoMemory),
+    }
+}
+
+// The log of a station that serves. Other commands have none.
+fn log_of(alloc: Global, command: &Command) -> Result<Option<Lines>, NoMemory> {
+    match command {
+        Command::Serve(_) => Ok(Some(Lines::new(alloc)?)),
+        _ => Ok(None),
     }
 }
 
 // Hands the station its threads, the words, standard input with the network and the files, and standard output. Beside it
 // a thread writes the log, where there is one, and ends once all lines are written. Where no such thread can be had they
 // are written in the end.
-fn run<
+fn run_words<
     R: Threads
         + Wait
         + Net<Listener = TcpListener, Stream = TcpStream>
         + Files<File = File>
         + Clock
         + Sync,
->(rt: &HostRuntime, system: &R) -> Result<Status, NoMemory> {
+>(
+    rt: &HostRuntime,
+    system: &R,
+    words: &[String],
+    lines: Option<Lines>,
+) -> Result<Status, NoMemory> {
     let alloc = rt.alloc();
-    let words = words(rt)?;
-    let words = words.as_slice();
-    let lines = log_of(alloc, words)?;
     let mut yard = HostYard::new(alloc, rt.stdin(), system, lines.as_ref())?;
     let mut out = StdSink::new(rt.stdout());
     let status = match &lines {
@@ -103,6 +113,34 @@ fn run<
     };
     let _ = say_fault(rt, alloc, status, words, yard.fault());
     Ok(status)
+}
+
+// Runs the command that the words are. Behind `--check-options` they are only looked at: a command is not run, and ends with
+// status 0; words that are none are answered as they are without it.
+fn run<
+    R: Threads
+        + Wait
+        + Net<Listener = TcpListener, Stream = TcpStream>
+        + Files<File = File>
+        + Clock
+        + Sync,
+>(rt: &HostRuntime, system: &R) -> Result<Status, NoMemory> {
+    let alloc = rt.alloc();
+    let words = words(rt)?;
+    let words = words.as_slice();
+    let checked = behind_check(words);
+    let words = checked.unwrap_or(words);
+    match command_of(alloc, words)? {
+        Some(command) => {
+            if checked.is_some() {
+                return Ok(Status::Done);
+            }
+            let lines = log_of(alloc, &command)?;
+            let _ = say_terminal(rt, &command);
+            run_words(rt, system, words, lines)
+        }
+        None => run_words(rt, system, words, None),
+    }
 }
 
 fn main(rt: HostRuntime) -> ExitCode {
