@@ -8,6 +8,7 @@ pub mod CheckCounts
 pub mod Replaying
 pub mod Statuses
 pub mod Concluding
+pub mod HandedBack
 pub mod Through
 pub mod Drilling
 pub mod DrillOne

@@ -6,6 +6,7 @@ pub mod Replay
 pub mod Status
 pub mod Written
 pub mod Station
+pub mod Waiting
 pub mod Drill
 pub mod Rov
 pub mod RecallRuns

@@ -10,10 +10,10 @@ ghost use Rattle.station_top.specs.Station.{AnswersFault, ServesNobody};
 ghost use Rattle.station_top.specs.Written.{IsWritten};
 
 use crate::Status;
+use crate::alone::{status_after, unless_failed};
 use crate::counts::{Counts, put_number};
 use crate::recall::refuse;
 use crate::take::take_input;
-use crate::top::{status_after, unless_failed};
 use bmp_message::{BodyReading, LenientReading, Reading};
 use bmp_specs::Cause;
 use disk_doors::Disk;

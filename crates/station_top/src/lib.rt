@@ -21,10 +21,11 @@
 //! that no port is asked for.
 //! Of `drill`: which words are its numbers, that the yard is asked for nothing, and that the bytes are the replies on
 //! what each lane makes of its stream.
-//! Begin with `specs/Station.antt`, then `src/top.rt`.
+//! Begin with `specs/Station.antt`, then `src/alone.rt` and `src/top.rt`.
 #![tactic(auto)]
 
 mod account;
+mod alone;
 mod archive;
 mod counts;
 mod drill;
@@ -35,11 +36,14 @@ mod rov;
 mod status;
 mod take;
 mod top;
+mod waiting;
 
+pub use alone::answer_alone;
 pub use law::drills_have_one_text;
 pub use station_words::{
-    Call, Command, Complaint, DrillWords, ServeWords, Shown, WordsFault, file_word, read_words,
-    why_no_command,
+    Call, Command, Complaint, DrillWords, ServeWords, Shown, WordsFault, behind_check, file_word,
+    read_words, why_no_command,
 };
 pub use status::Status;
 pub use top::station;
+pub use waiting::Waiting;

@@ -10,9 +10,9 @@ ghost use Rattle.station_top.specs.Written.{IsWritten};
 
 use crate::Status;
 use crate::account::{Account, Replies};
+use crate::alone::{status_after, unless_failed, write_reply};
 use crate::counts::put_number;
 use crate::take::{Taken, take_input};
-use crate::top::{status_after, unless_failed, write_reply};
 use bmp_message::{BodyReading, LenientReading, Reading};
 use bmp_specs::MOST_READ;
 use feed_archive::{RecoverFault, recover};

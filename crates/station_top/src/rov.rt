@@ -9,9 +9,9 @@ ghost use Rattle.station_top.specs.Station.{AnswersFault, RovConcludes, ServesNo
 
 use crate::Status;
 use crate::account::{Account, Replies};
+use crate::alone::{run_by, unless_failed};
 use crate::counts::put_number;
 use crate::replay::Replay;
-use crate::top::{run_by, unless_failed};
 use bmp_message::Entries;
 use ip_prefix::Prefix;
 use rib_model::Entry;

@@ -2,7 +2,7 @@ use Rattle.std.proofs.Common.{◌∷◌}
 use Rattle.bmp_specs.specs.Values.{opened}
 use Rattle.station_top.specs.Replay.{Gathers}
 use Rattle.station_top.proofs.Relaying.{relay_concludes, relay_counts, relay_unsettled, relay_untaken}
-use Rattle.station_top.proofs.top.run_relay.Goals as goal
+use Rattle.station_top.proofs.alone.run_relay.Goals as goal
 
 pub returns-in-Ok-into_tables-clause-concludes : goal.returns-in-Ok-into_tables-clause-concludes
 returns-in-Ok-into_tables-clause-concludes g c =

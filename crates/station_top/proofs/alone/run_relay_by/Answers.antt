@@ -1,4 +1,4 @@
-use Rattle.station_top.proofs.top.run_relay_by.Goals as goal
+use Rattle.station_top.proofs.alone.run_relay_by.Goals as goal
 
 pub returns-then-lenient-clause-concludes : goal.returns-then-lenient-clause-concludes
 returns-then-lenient-clause-concludes g c = rw c.if-lenient.true c.run_relay.ensures.concludes

@@ -1,5 +1,5 @@
 use Rattle.station_top.proofs.Statuses.{done_after, stopped_after}
-use Rattle.station_top.proofs.top.status_after.Goals as goal
+use Rattle.station_top.proofs.alone.status_after.Goals as goal
 
 pub returns-in-Ended : goal.returns-in-Ended
 returns-in-Ended c = done_after c.args.cause c.in-Ended.is

@@ -4,29 +4,13 @@ use Rattle.station_words.specs.declared.words.Command.TheVariants.{Recall}
 use Rattle.station_top.specs.ArchiveRuns.{ArchiveConcludes}
 use Rattle.station_top.specs.RecallRuns.{RecallConcludes}
 use Rattle.station_top.specs.Station.{IsReplyTo, RovConcludes}
-use Rattle.station_top.proofs.Concluding.{ends_write, ends_yard}
-use Rattle.station_top.proofs.top.run_call.Goals as goal
+use Rattle.station_top.proofs.alone.run_call.Goals as goal
 
 pub returns-in-Replay-clause-concludes : goal.returns-in-Replay-clause-concludes
 returns-in-Replay-clause-concludes g c = rw c.in-Replay.is (c.run_replay.ensures.calls, c.run_replay.ensures.concludes)
 
 pub returns-in-Check-clause-concludes : goal.returns-in-Check-clause-concludes
 returns-in-Check-clause-concludes g c = rw c.in-Check.is (c.run_by.ensures.calls, c.run_by.ensures.concludes)
-
-pub returns-in-Serve-clause-concludes : goal.returns-in-Serve-clause-concludes
-returns-in-Serve-clause-concludes g c = rw c.in-Serve.is (c.serve_by.result, c.serve_by.ensures.serves, c.status_served_by.ensures)
-
-pub returns-in-Serve-clause-out : goal.returns-in-Serve-clause-out
-returns-in-Serve-clause-out g c = ends_write _ _ c.serve_by.result c.status_served_by.result c.status_served_by.ensures c.serve_by.ensures.out
-
-pub returns-in-Serve-clause-yard : goal.returns-in-Serve-clause-yard
-returns-in-Serve-clause-yard g c = ends_yard _ _ c.serve_by.result c.status_served_by.result c.status_served_by.ensures c.serve_by.ensures.yard
-
-pub returns-in-Drill-clause-concludes : goal.returns-in-Drill-clause-concludes
-returns-in-Drill-clause-concludes g c = rw c.in-Drill.is (refl, refl, c.run_drill.ensures.concludes)
-
-pub returns-in-Drill-clause-yard : goal.returns-in-Drill-clause-yard
-returns-in-Drill-clause-yard g c = record { rose = λ is. absurd (c.run_drill.ensures.yard is); calm = λ _. refl }
 
 pub returns-in-Relay-clause-concludes : goal.returns-in-Relay-clause-concludes
 returns-in-Relay-clause-concludes g c = rw c.in-Relay.is (c.run_relay_by.ensures.calls, c.run_relay_by.ensures.concludes)

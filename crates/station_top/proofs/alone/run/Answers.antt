@@ -1,7 +1,7 @@
 use Rattle.std.proofs.Common.{◌∷◌}
 use Rattle.bmp_specs.specs.Values.{opened}
 use Rattle.station_top.proofs.Concluding.{short, answers_write, concludes_replied, concludes_unread, concludes_unready}
-use Rattle.station_top.proofs.top.run.Goals as goal
+use Rattle.station_top.proofs.alone.run.Goals as goal
 
 pub ready-requires : goal.ready-requires
 ready-requires g c = (short g.R.BodyReading.meaning g.met.R.BodyReading.gives_messages (g.A.Account.stands c.in-Ok.account) _ _ _ c.in-Ok.taken c.in-Ok.ensures.from).count

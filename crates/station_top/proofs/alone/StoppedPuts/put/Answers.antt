@@ -2,7 +2,7 @@ use Rattle.std.proofs.Common.{refl}
 use Rattle.bmp_specs.specs.Lines.{stop_line}
 use Rattle.wire_io.proofs.Joins.{join, more}
 use Rattle.station_top.proofs.Concluding.{stopped}
-use Rattle.station_top.proofs.top.StoppedPuts.put.Goals as goal
+use Rattle.station_top.proofs.alone.StoppedPuts.put.Goals as goal
 
 pub returns-in_err-put_reply : goal.returns-in_err-put_reply
 returns-in_err-put_reply g c entries tells =
