@@ -6,11 +6,12 @@
 //! of all that a crash inside a call may leave. What is proved over any disk that tells holds of a real one as
 //! far as that one is such a disk.
 //!
-//! `MemDisk` holds its file in memory and tells all. `HostDisk` is a file of the system, and tells nothing. `put`
-//! is a write and a sync.
+//! `MemDisk` holds its file in memory and tells all. `FileDisk` is a disk over a file, by the calls of `RawFile`, and
+//! tells what that tells; `HostDisk` is one over a file of the system, which tells nothing. `RawFiles` opens such files.
+//! `put` is a write and a sync.
 //!
 //! Begin with `specs/Images.antt`, which says what a crash may leave, and `specs/Disk.antt`, which says what each
-//! call does; then `src/disk.rt`.
+//! call does; then `src/disk.rt`, and `src/raw_file.rt` for what a file of the system is supposed to do.
 #![tactic(auto)]
 
 mod disk;
@@ -18,11 +19,15 @@ mod host_disk;
 mod laws;
 mod mem_disk;
 mod notes;
+mod opening;
 mod putting;
+mod raw_file;
 
 pub use disk::Disk;
-pub use host_disk::HostDisk;
+pub use host_disk::{FileDisk, HostDisk};
 pub use laws::{a_cut_write_leaves_an_image, the_file_may_be_left};
 pub use mem_disk::MemDisk;
 pub use notes::Notes;
+pub use opening::{RawFiles, open_made, open_there};
 pub use putting::put;
+pub use raw_file::RawFile;
