@@ -8,14 +8,24 @@ use Rattle.station_doors.specs.Allowed.{ComesFrom, MayConnect}
 use Rattle.std.proofs.Common.{◌≡◌, ℕ, ◌^◌, true, false, List, [], ◌∷◌, map, length, get_or, refl, sym, ap, subst, ◌∙◌, inl, inr, arith, Option, Some, None, Ok, Err}
 use Rattle.wire_io.specs.Aside.{Aside, nothing_aside}
 use Rattle.disk_doors.specs.Disk.{DiskValue, nothing}
-use Rattle.station_doors.specs.Doors.{YardValue, Returned, Reads, TakesBackTold}
+use Rattle.station_doors.specs.Doors.{KeepsInput, YardValue, Returned, Reads, TakesBackTold}
 use Rattle.station_doors.specs.Files.{GivesFile, ReadsWhole}
 use Rattle.station_doors.specs.Disks.{HandsOutDisk}
 use Rattle.station_doors.specs.Connections.{shows_of, port_shows}
 use Rattle.station_doors.specs.declared.connections.Session.{Session}
+use Rattle.station_doors.specs.declared.listening.Listening.{Listening}
 use Rattle.station_doors.specs.declared.connections.Last.TheVariants.{Gave}
 use Rattle.station_doors.specs.declared.files.FileFault.TheVariants.{TooLong}
 
+-- ---- the input of a yard that listens
+none_is_no_item : (n : ℕ) → None ≡ Some n → ⊥
+none_is_no_item n is = cc
+
+-- A yard that was asked to listen and hands out a lane's port still has its input.
+a_listening_yard_does_not_give_up_its_input : (at : Listening) (n : ℕ) → KeepsInput {R = ℕ} (Some at) (Some n) None → ⊥
+a_listening_yard_does_not_give_up_its_input at n keeps = none_is_no_item n (keeps refl)
+
+-- ---- what a yard hands out
 -- a yard that has nothing
 abbrev bare : YardValue
 bare = record { ports = []; links = []; fails = []; out = []; links_out = []; back = []; links_back = []; files = []; disks = [] }

@@ -1,5 +1,5 @@
 -- What ports and yards tell, and what their calls do to it.
-use Rattle.std.specs.Prelude.{◌≡◌, ℕ, ◌+◌, ◌-◌, ◌^◌, ◌<◌, min, Bool, true, false, List, [], ◌∷◌, ◌++◌, take, Option, Some, None, Result, Ok, Err, Contains, ◌⊎◌, nat_eq, if◌then◌else◌}
+use Rattle.std.specs.Prelude.{◌≡◌, IsSome, ℕ, ◌+◌, ◌-◌, ◌^◌, ◌<◌, min, Bool, true, false, List, [], ◌∷◌, ◌++◌, take, Option, Some, None, Result, Ok, Err, Contains, ◌⊎◌, nat_eq, if◌then◌else◌}
 use Rattle.std.specs.Io.KnownBytes.{ReadConsumes}
 use Rattle.bmp_specs.specs.declared.causes.Cause.{Cause}
 use Rattle.bmp_specs.specs.Life.{LastRead, gave, gave_none, failed, most_taken, most_read, Given}
@@ -12,6 +12,10 @@ use Rattle.station_doors.specs.declared.listening.Listening.{Listening}
 -- the most routers that are listened for, and the most clients
 abbrev pub most_places : ℕ
 most_places = 1024
+
+-- a yard that was asked to listen keeps the program's input as it is
+abbrev pub KeepsInput : {R : Type 0} → Option Listening → Option R → Option R → Type 0
+KeepsInput listened old new = IsSome listened → new ≡ old
 
 -- one more, at most what 64 bits hold
 abbrev pub one_more : ℕ → ℕ

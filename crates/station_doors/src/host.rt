@@ -1,8 +1,8 @@
-ghost use Rattle.std.specs.Prelude.{◌≡◌, ◌↔◌, None, Some, Ok, IfOk, IsOk, IsSome, ◌<◌, ◌≤◌, slice_get};
+ghost use Rattle.std.specs.Prelude.{◌≡◌, ◌↔◌, None, Some, Ok, IfOk, IfSome, IsOk, IsSome, ◌<◌, ◌≤◌, slice_get};
 ghost use Rattle.wire_io.specs.Faults.{HasCause};
 ghost use Rattle.disk_doors.specs.Opening.{made_where_none, as_it_is};
 ghost use Rattle.station_doors.specs.Files.{HasFileCause};
-ghost use Rattle.station_doors.specs.Doors.{CountsCall, LeavesRest, askers_of, counts_only, one_more};
+ghost use Rattle.station_doors.specs.Doors.{CountsCall, KeepsInput, LeavesRest, askers_of, counts_only, one_more};
 
 use crate::files::read_whole;
 use crate::log::{Place, PlaceLog, Places, say_listening};
@@ -14,7 +14,7 @@ use std::fs;
 use std::fs::{File, Files};
 use std::io::{self, Read};
 use std::net::{Net, SocketAddr, TcpListener, TcpStream};
-use std::sync::Wait;
+use std::sync::{Arc, Wait};
 use std::time::Clock;
 use wire_io::{ByteList, Failed, NoMemory};
 
@@ -28,8 +28,8 @@ use wire_io::{ByteList, Failed, NoMemory};
 pub struct HostYard<'a, R, N> {
     input: Option<R>,
     net: &'a N,
-    feeds: Vec<Option<TcpListener>>,
-    askers: Vec<Option<TcpListener>>,
+    feeds: Vec<Option<Arc<TcpListener>>>,
+    askers: Vec<Option<Arc<TcpListener>>>,
     listened: Option<Listening>,
     calls: u64,
     faults: u64,
@@ -44,7 +44,7 @@ impl<
     N: Net<Listener = TcpListener, Stream = TcpStream> + Clock + Sync,
 > HostYard<'a, R, N> {
     /// A yard over this input and this network, with or without a log, of which no call was made. It takes the memory for
-    /// all its listeners at once.
+    /// all its places at once.
     pub fn new(
         alloc: Global,
         input: R,
@@ -121,6 +121,26 @@ fn place_log<'a>(lines: Option<&'a Lines>, at: Option<Listening>, place: Place) 
     }
 }
 
+// After how many seconds a silent router is given up, and from where routers may come.
+fn feed_rules(at: Option<Listening>) -> (Option<u32>, Allowed)
+    ensures { IfSome at (λ at. (result.0 ≡ at.idle) × (result.1 ≡ at.feed_from)) }
+{
+    match at {
+        Some(at) => (at.idle, at.feed_from),
+        None => (None, Allowed::anywhere()),
+    }
+}
+
+// The same of clients.
+fn ask_rules(at: Option<Listening>) -> (Option<u32>, Allowed)
+    ensures { IfSome at (λ at. (result.0 ≡ at.ask_idle) × (result.1 ≡ at.ask_from)) }
+{
+    match at {
+        Some(at) => (at.ask_idle, at.ask_from),
+        None => (None, Allowed::anywhere()),
+    }
+}
+
 // Says where the yard listens.
 fn say_at<N: Wait>(net: &N, lines: &Lines, at: &Listening) {
     say_listening(
@@ -140,8 +160,8 @@ fn say_at<N: Wait>(net: &N, lines: &Lines, at: &Listening) {
 fn listen_all<N: Net<Listener = TcpListener, Stream = TcpStream>>(
     net: &N,
     at: &Listening,
-    feeds: &mut Vec<Option<TcpListener>>,
-    askers: &mut Vec<Option<TcpListener>>,
+    feeds: &mut Vec<Option<Arc<TcpListener>>>,
+    askers: &mut Vec<Option<Arc<TcpListener>>>,
 ) -> Result<(), HostFault> {
     listen_at(net, &at.address, at.feed_port, at.feeds, at.shared, feeds)?;
     listen_at(
@@ -182,10 +202,11 @@ impl<
         self.listened = Some(*at);
         match listen_all(self.net, at, &mut self.feeds, &mut self.askers) {
             Ok(()) => {
-                if let Some(lines) = self.lines
-                    && !matches!(at.log, Log::None)
-                {
-                    say_at(self.net, lines, at);
+                if let Some(lines) = self.lines {
+                    lines.expect(self.net, at.feeds as u64 + at.askers as u64);
+                    if !matches!(at.log, Log::None) {
+                        say_at(self.net, lines, at);
+                    }
                 }
                 Ok(())
             }
@@ -203,8 +224,9 @@ impl<
         ensures once { self.old.listened ≡ None → (IsOk result ↔ IsSome self.old.input) }
         ensures reader { self.old.listened ≡ None → IfOk result (λ port. self.old.input ≡ port.input) }
         ensures input { self.old.listened ≡ None → self.new.input ≡ None }
-        ensures kept { IsSome self.old.listened → self.new.input ≡ self.old.input }
+        ensures kept { KeepsInput self.old.listened self.old.input self.new.input }
         ensures lane { IsSome self.old.listened → IfOk result (λ port. (port.input ≡ None) × (slice_get self.old.feeds.items lane ≡ Some port.listener)) }
+        ensures rules { IfSome self.old.listened (λ at. IfOk result (λ port. (port.idle ≡ at.idle) × (port.allowed ≡ at.feed_from))) }
         ensures counted { CountsCall (counts_only self.old.calls self.old.listened self.old.endings) (counts_only self.new.calls self.new.listened self.new.endings) }
         ensures cause { HasCause self.old.faults self.new.faults result }
     {
@@ -215,10 +237,7 @@ impl<
             (self.input.take(), None)
         };
         if input.is_some() || listener.is_some() {
-            let (idle, allowed) = match self.listened {
-                Some(at) => (at.idle, at.feed_from),
-                None => (None, Allowed::anywhere()),
-            };
+            let (idle, allowed) = feed_rules(self.listened);
             let log = place_log(self.lines, self.listened, Place::Lane(lane));
             return Ok(HostPort::over(self.net, input, listener, idle, allowed, log));
         }
@@ -229,6 +248,7 @@ impl<
     fn link(&mut self, number: u32) -> Result<HostLink<'a, N>, Failed>
         requires { number < askers_of self.old.listened }
         ensures asker { IfOk result (λ link. slice_get self.old.askers.items number ≡ Some (Some link.listener)) }
+        ensures rules { IfSome self.old.listened (λ at. IfOk result (λ link. (link.idle ≡ at.ask_idle) × (link.allowed ≡ at.ask_from))) }
         ensures input { self.new.input ≡ self.old.input }
         ensures counted { CountsCall (counts_only self.old.calls self.old.listened self.old.endings) (counts_only self.new.calls self.new.listened self.new.endings) }
         ensures cause { HasCause self.old.faults self.new.faults result }
@@ -236,10 +256,7 @@ impl<
         self.calls = self.calls.saturating_add(1);
         match take_listener(&mut self.askers, number) {
             Some(listener) => {
-                let (idle, allowed) = match self.listened {
-                    Some(at) => (at.ask_idle, at.ask_from),
-                    None => (None, Allowed::anywhere()),
-                };
+                let (idle, allowed) = ask_rules(self.listened);
                 let log = place_log(self.lines, self.listened, Place::Client(number));
                 Ok(HostLink::over(self.net, listener, idle, allowed, log))
             }

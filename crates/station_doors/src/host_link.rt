@@ -7,7 +7,7 @@ use crate::log::PlaceLog;
 use crate::sockets::{accept_next, read_stream, write_stream};
 use crate::{Allowed, Link};
 use std::net::{SocketAddr, TcpListener, TcpStream};
-use std::sync::Wait;
+use std::sync::{Arc, Wait};
 use std::time::Clock;
 use wire_io::{Failed, Sink};
 
@@ -17,7 +17,7 @@ use wire_io::{Failed, Sink};
 #[derive(Drop)]
 pub struct HostLink<'a, N> {
     clock: &'a N,
-    listener: TcpListener,
+    listener: Arc<TcpListener>,
     idle: Option<u32>,
     allowed: Allowed,
     stream: Option<TcpStream>,
@@ -32,12 +32,13 @@ impl<'a, N: Clock> HostLink<'a, N> {
     // A link over this listener, of which no call was made.
     pub(crate) fn over(
         clock: &'a N,
-        listener: TcpListener,
+        listener: Arc<TcpListener>,
         idle: Option<u32>,
         allowed: Allowed,
         log: PlaceLog<'a>,
     ) -> HostLink<'a, N>
         ensures listener { result.listener ≡ listener }
+        ensures rules { (result.idle ≡ idle) × (result.allowed ≡ allowed) }
         ensures calm { result.faults ≡ 0 }
     {
         HostLink {
@@ -52,6 +53,22 @@ impl<'a, N: Clock> HostLink<'a, N> {
             log,
         }
     }
+}
+
+// The connection that comes next. None where that failed.
+fn come<N: Clock + Wait>(
+    clock: &N,
+    listener: &Arc<TcpListener>,
+    idle: Option<u32>,
+    allowed: &Allowed,
+    log: &PlaceLog<'_>,
+    is_first: bool,
+) -> Option<TcpStream> {
+    if is_first {
+        log.begun();
+    }
+    let listener: &TcpListener = listener;
+    accept_next(clock, listener, idle, allowed, log)
 }
 
 // Reads from the stream. It fails too where there is none.
@@ -100,12 +117,14 @@ impl<'a, N: Clock> Sink for HostLink<'a, N> {
 
 impl<'a, N: Clock + Wait + Sync> Link for HostLink<'a, N> {
     fn next_connection(&mut self) -> Result<bool, Failed> {
-        self.stream = accept_next(
+        let is_first = self.counts.is_unused();
+        self.stream = come(
             self.clock,
             &self.listener,
             self.idle,
             &self.allowed,
             &self.log,
+            is_first,
         );
         self.from = match &self.stream {
             Some(stream) => stream.peer_addr().ok(),

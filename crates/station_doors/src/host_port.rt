@@ -9,7 +9,7 @@ use crate::sockets::{accept_next, read_stream};
 use crate::{Allowed, Ended, Port};
 use std::io::{self, Read};
 use std::net::{SocketAddr, TcpListener, TcpStream};
-use std::sync::Wait;
+use std::sync::{Arc, Wait};
 use std::thread::sleep;
 use std::time::{Clock, Duration};
 use wire_io::Failed;
@@ -22,7 +22,7 @@ use wire_io::Failed;
 pub struct HostPort<'a, R, N> {
     clock: &'a N,
     input: Option<R>,
-    listener: Option<TcpListener>,
+    listener: Option<Arc<TcpListener>>,
     idle: Option<u32>,
     allowed: Allowed,
     stream: Option<TcpStream>,
@@ -39,13 +39,14 @@ impl<'a, R: Drop, N: Clock> HostPort<'a, R, N> {
     pub(crate) fn over(
         clock: &'a N,
         input: Option<R>,
-        listener: Option<TcpListener>,
+        listener: Option<Arc<TcpListener>>,
         idle: Option<u32>,
         allowed: Allowed,
         log: PlaceLog<'a>,
     ) -> HostPort<'a, R, N>
         ensures input { result.input ≡ input }
         ensures listener { result.listener ≡ listener }
+        ensures rules { (result.idle ≡ idle) × (result.allowed ≡ allowed) }
     {
         HostPort {
             clock,
@@ -73,12 +74,16 @@ fn come<N: Clock + Wait>(
     idle: Option<u32>,
     allowed: &Allowed,
     log: &PlaceLog<'_>,
-    listener: &Option<TcpListener>,
+    listener: &Option<Arc<TcpListener>>,
     stream: &mut Option<TcpStream>,
     is_first: bool,
 ) -> Option<bool> {
+    if is_first {
+        log.begun();
+    }
     match listener {
         Some(listener) => {
+            let listener: &TcpListener = listener;
             *stream = accept_next(clock, listener, idle, allowed, log);
             if stream.is_some() { Some(true) } else { None }
         }

@@ -6,21 +6,41 @@ use std::io::Write;
 use std::sync::Wait;
 use std::sync::atomic::{AtomicBool, AtomicU64, Ordering};
 use std::thread::Parker;
+use std::time::Clock;
 use wire_io::NoMemory;
 
 /// The most lines that wait to be written.
 const MOST_LINES: usize = 1024;
 
+/// How many seconds the places of a station have to begin, before those that didn't are said.
+const SETTLED: u64 = 5;
+
 /// The lines of a log that wait to be written: at most 1,024, of at most 512 bytes each, whose memory is taken at once.
 ///
 /// Who says something doesn't wait for whoever reads the log. Where there is no room a line is dropped, and how many were
 /// is said as soon as there is some. One thread writes the lines, and sleeps while there are none.
+///
+/// They also count the places of a station that began to be served, since each wants a thread and the system may give fewer.
 #[derive(Drop)]
 pub struct Lines {
     waiting: ArrayQueue<Line>,
     dropped: AtomicU64,
     is_over: AtomicBool,
     bell: Parker,
+    // How many places there are, from which second of the clock on, how many of them began, and whether it was said that
+    // some didn't.
+    places: AtomicU64,
+    since: AtomicU64,
+    begun: AtomicU64,
+    is_lack_said: AtomicBool,
+}
+
+// The second of the clock. 0 where it can't be read.
+fn second_of<N: Clock>(clock: &N) -> u64 {
+    match clock.monotonic() {
+        Ok(time) => time.as_secs(),
+        Err(_) => 0,
+    }
 }
 
 impl Lines {
@@ -31,7 +51,36 @@ impl Lines {
             dropped: AtomicU64::new(0),
             is_over: AtomicBool::new(false),
             bell: Parker::new(),
+            places: AtomicU64::new(0),
+            since: AtomicU64::new(0),
+            begun: AtomicU64::new(0),
+            is_lack_said: AtomicBool::new(false),
         })
+    }
+
+    // From now on there are so many places.
+    pub(crate) fn expect<N: Clock>(&self, clock: &N, places: u64) {
+        self.since.store(second_of(clock), Ordering::SeqCst);
+        self.places.store(places, Ordering::SeqCst);
+    }
+
+    // One of them began to be served.
+    pub(crate) fn begin(&self) {
+        self.begun.fetch_add(1, Ordering::SeqCst);
+    }
+
+    // How many places there are and how many of them began, where some didn't in five seconds. It is told once.
+    pub(crate) fn lacking<N: Clock>(&self, clock: &N) -> Option<(u64, u64)> {
+        let places = self.places.load(Ordering::SeqCst);
+        let begun = self.begun.load(Ordering::SeqCst);
+        let settled = self.since.load(Ordering::SeqCst).saturating_add(SETTLED);
+        if begun >= places || second_of(clock) < settled {
+            return None;
+        }
+        if self.is_lack_said.swap(true, Ordering::SeqCst) {
+            return None;
+        }
+        Some((places, begun))
     }
 
     // Says this line, or drops it.

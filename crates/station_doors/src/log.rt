@@ -9,6 +9,7 @@ use std::fmt::{Display, Formatter, Write as _};
 use std::io::{self, ErrorKind};
 use std::net::SocketAddr;
 use std::sync::Wait;
+use std::time::Clock;
 
 // Whose place a port or a link is.
 #[derive(Clone, Copy)]
@@ -141,9 +142,32 @@ pub(crate) struct PlaceLog<'a> {
     pub(crate) says_all: bool,
 }
 
+// Says how many places have no thread, where there are such.
+fn say_lacking<R: Clock + Wait>(rt: &R, lines: &Lines) {
+    if let Some((places, begun)) = lines.lacking(rt) {
+        let mut line = Line::new();
+        let _ = write!(
+            line,
+            "level=warning event=unserved count={} places={places} reason=\"the system gives no further thread\"",
+            places.saturating_sub(begun)
+        );
+        lines.say(rt, line);
+    }
+}
+
 impl<'a> PlaceLog<'a> {
+    // It begins to be served.
+    pub(crate) fn begun(&self) {
+        if let Some(lines) = self.lines {
+            lines.begin();
+        }
+    }
+
     // A connection was taken.
-    pub(crate) fn connected<R: Wait>(&self, rt: &R, from: Option<SocketAddr>) {
+    pub(crate) fn connected<R: Clock + Wait>(&self, rt: &R, from: Option<SocketAddr>) {
+        if let Some(lines) = self.lines {
+            say_lacking(rt, lines);
+        }
         if let Some(lines) = self.lines
             && self.says_all
         {

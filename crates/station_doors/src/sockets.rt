@@ -5,9 +5,10 @@ ghost use Rattle.station_doors.specs.Accepting.{ended, unreachable, of_protocol,
 use crate::log::PlaceLog;
 use crate::{Allowed, HostFault};
 use ip_prefix::{Addr, Family};
+use std::alloc::Global;
 use std::io::{self, ErrorKind, Read, Write};
 use std::net::{IpAddr, Net, SocketAddr, TcpListener, TcpStream};
-use std::sync::Wait;
+use std::sync::{Arc, Wait};
 use std::thread::sleep;
 use std::time::{Clock, Duration};
 
@@ -23,16 +24,17 @@ pub(crate) fn ip_of(address: &Addr) -> IpAddr {
     }
 }
 
-// The listener of this number: at the port so far after the first one, or, where they share that port, a further handle
-// of its listener.
+// The listener of this number: at the port so far after the first one, or, where they share that port, the one that number 0
+// has.
 fn listener_of<N: Net<Listener = TcpListener, Stream = TcpStream>>(
     net: &N,
+    alloc: Global,
     address: &Addr,
     first: u16,
     number: u32,
     shared: bool,
-    places: &[Option<TcpListener>],
-) -> Result<TcpListener, HostFault> {
+    places: &[Option<Arc<TcpListener>>],
+) -> Result<Arc<TcpListener>, HostFault> {
     let port = if shared {
         first as u64
     } else {
@@ -41,37 +43,48 @@ fn listener_of<N: Net<Listener = TcpListener, Stream = TcpStream>>(
     if port > 65_535 {
         return Err(no_port(None, ErrorKind::InvalidInput.into()));
     }
-    let at = SocketAddr::new(ip_of(address), port as u16);
     if shared {
         if let Some(Some(listener)) = places.first() {
-            return listener
-                .try_clone()
-                .map_err(|error| no_port(Some(at), error));
+            return Arc::try_clone(listener).map_err(|_| no_port(
+                None,
+                ErrorKind::OutOfMemory.into(),
+            ));
         }
     }
-    net.bind(at).map_err(|error| no_port(Some(at), error))
+    let at = SocketAddr::new(ip_of(address), port as u16);
+    let listener = net.bind(at).map_err(|error| no_port(Some(at), error))?;
+    Arc::new(alloc, listener).map_err(|_| no_port(None, ErrorKind::OutOfMemory.into()))
 }
 
 fn no_port(port: Option<SocketAddr>, error: io::Error) -> HostFault {
     HostFault { port, error }
 }
 
-// Listens for so many, each of which has a place: at the ports from the first one on, or at the first one alone. It fails
-// where one of them can't be had.
+// Listens for so many, each of which has a place: at the ports from the first one on, each by a listener of its own, or at the
+// first one alone, all by one listener. It fails where one of them can't be had.
 pub(crate) fn listen_at<N: Net<Listener = TcpListener, Stream = TcpStream>>(
     net: &N,
     address: &Addr,
     first: u16,
     count: u32,
     shared: bool,
-    places: &mut Vec<Option<TcpListener>>,
+    places: &mut Vec<Option<Arc<TcpListener>>>,
 ) -> Result<(), HostFault> {
     places.clear();
+    let alloc = *places.allocator();
     if count > MOST_PLACES {
         return Err(no_port(None, ErrorKind::InvalidInput.into()));
     }
     for number in 0..count {
-        let listener = listener_of(net, address, first, number, shared, places.as_slice())?;
+        let listener = listener_of(
+            net,
+            alloc,
+            address,
+            first,
+            number,
+            shared,
+            places.as_slice(),
+        )?;
         if places.push(Some(listener)).is_err() {
             return Err(no_port(None, ErrorKind::OutOfMemory.into()));
         }
@@ -81,9 +94,9 @@ pub(crate) fn listen_at<N: Net<Listener = TcpListener, Stream = TcpStream>>(
 
 // Takes the listener of this number out of its place.
 pub(crate) fn take_listener(
-    places: &mut Vec<Option<TcpListener>>,
+    places: &mut Vec<Option<Arc<TcpListener>>>,
     number: u32,
-) -> Option<TcpListener>
+) -> Option<Arc<TcpListener>>
     ensures { IfSome result (λ l. slice_get places.old.items number ≡ Some (Some l)) }
 {
     match places.get_mut(number as usize) {
