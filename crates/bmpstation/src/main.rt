@@ -1,28 +1,29 @@
 //! The program: its words, standard input, the network, files and standard output, handed to the station.
 //!
-//! It ends with the status that `station` answers. All that it does is proved and said there
-//! (`station_top`); what standard input and files hold and where standard output goes is not. Where a call ends in a fault
-//! that standard output doesn't name, a line on standard error says which; that line is tested alone, and so are the line of
-//! a call that reads a terminal, the thread that writes the log of `serve`, and `--check-options`, by which words are only
-//! looked at: the station isn't called with words that are a command.
+//! It ends with the status that `answer_alone` answers, or `station` for the commands that wait. All that these do is proved
+//! and said there (`station_top`); what standard input and files hold and where standard output goes is not. Where a call
+//! ends in a fault that standard output doesn't name, a line on standard error says which; that line is tested alone, and so
+//! are the line of a call that reads a terminal, the thread that writes the log of `serve`, and `--check-options`, by which
+//! words are only looked at: neither is called with words that are a command.
 #![tactic(auto)]
 
+mod command_line;
 mod fault_line;
 mod terminal_line;
 
+use command_line::{exit_of, words_of};
 use fault_line::say_fault;
 use station_doors::{HostYard, Lines};
-use station_top::{Command, Status, WordsFault, behind_check, read_words, station};
+use station_top::{Command, Status, WordsFault, answer_alone, behind_check, read_words, station};
 use std::alloc::Global;
 use std::fs::{File, Files};
-use std::io::ErrorKind;
 use std::net::{Net, TcpListener, TcpStream};
 use std::os::fd::AsRawFd;
 use std::process::ExitCode;
 use std::sync::Wait;
 use std::thread::Threads;
 use std::time::Clock;
-use std::{fs, mem, thread};
+use std::{env, fs, mem, thread};
 use terminal_line::say_terminal;
 use wire_io::{NoMemory, StdSink};
 
@@ -42,24 +43,6 @@ fn open_standard_streams(rt: &HostRuntime) {
     }
 }
 
-// The words after the program's name. Where one of them is no text there is none, which is no command.
-fn words(rt: &HostRuntime) -> Result<Vec<String>, NoMemory> {
-    let mut words = Vec::new(rt.alloc());
-    match std::env::args(rt) {
-        Ok(all) => {
-            for word in all.skip(1) {
-                words.push(word)?;
-            }
-        }
-        Err(error) => {
-            if error.kind() == ErrorKind::OutOfMemory {
-                return Err(NoMemory);
-            }
-        }
-    }
-    Ok(words)
-}
-
 // The command that the words are, if they are one.
 fn command_of(alloc: Global, words: &[String]) -> Result<Option<Command>, NoMemory> {
     match read_words(alloc, words) {
@@ -77,9 +60,9 @@ fn log_of(alloc: Global, command: &Command) -> Result<Option<Lines>, NoMemory> {
     }
 }
 
-// Hands the station its threads, the words, standard input with the network and the files, and standard output. Beside it
-// a thread writes the log, where there is one, and ends once all lines are written. Where no such thread can be had they
-// are written in the end.
+// Hands the station the words, standard input with the network and the files, and standard output, and where the command
+// waits for others also its threads. Beside it a thread writes the log, where there is one, and ends once all lines are
+// written. Where no such thread can be had they are written in the end.
 fn run_words<
     R: Threads
         + Wait
@@ -109,7 +92,11 @@ fn run_words<
                 status
             })
         }
-        None => station(system, alloc, words, &mut yard, &mut out),
+        None => match answer_alone(alloc, words, &mut yard, &mut out) {
+            Ok(status) => status,
+            // Nothing is written yet.
+            Err(_) => station(system, alloc, words, &mut yard, &mut out),
+        },
     };
     let _ = say_fault(rt, alloc, status, words, yard.fault());
     Ok(status)
@@ -126,7 +113,7 @@ fn run<
         + Sync,
 >(rt: &HostRuntime, system: &R) -> Result<Status, NoMemory> {
     let alloc = rt.alloc();
-    let words = words(rt)?;
+    let words = words_of(alloc, env::args(rt))?;
     let words = words.as_slice();
     let checked = behind_check(words);
     let words = checked.unwrap_or(words);
@@ -145,12 +132,9 @@ fn run<
 
 fn main(rt: HostRuntime) -> ExitCode {
     open_standard_streams(&rt);
-    let status = match run(&rt, &rt) {
-        Ok(status) => status,
-        Err(NoMemory) => {
-            let _ = say_fault(&rt, rt.alloc(), Status::NoMemory, &[], None);
-            Status::NoMemory
-        }
-    };
-    ExitCode::from(status.code())
+    let answer = run(&rt, &rt);
+    if answer.is_err() {
+        let _ = say_fault(&rt, rt.alloc(), Status::NoMemory, &[], None);
+    }
+    exit_of(answer)
 }
