@@ -30,8 +30,15 @@ impl<P: Port + Drop> LanePort<P> {
         LanePort { port }
     }
 
-    /// Hands the port back as it is.
-    pub fn into_port(self) -> P
+    /// The port, as it is seen from outside.
+    pub fn as_port(&self) -> &P
+        ensures { result.now ≡ self.now }
+    {
+        &self.port
+    }
+
+    // Hands the port back as it is.
+    pub(crate) fn into_port(self) -> P
         ensures { result ≡ self }
     {
         let LanePort { port } = self;

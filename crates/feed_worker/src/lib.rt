@@ -9,8 +9,8 @@
 //! answers the cause of the connection's end; `close_connection` publishes that cause; `serve_feed` publishes the
 //! lives of all connections that it opened. All three are written over any `FeedPort`, which gives bytes only where the
 //! messages of all earlier ones are published, and opens a connection only where the closing of the last one is;
-//! `LanePort` makes one of any port. Out of memory, the last connection's life was published up to its last read at
-//! least.
+//! `LanePort` makes one of any port, and `LaneYard` is a yard that hands out such ports alone. Out of memory, the last
+//! connection's life was published up to its last read at least.
 //! Begin with `specs/Connection.antt`, `specs/Feed.antt` and `specs/FeedPort.antt`, then `src/connection.rt`.
 #![tactic(auto)]
 
@@ -18,6 +18,7 @@ mod connection;
 mod feed;
 mod feed_port;
 mod lane_port;
+mod lane_yard;
 mod laws;
 mod publishing;
 
@@ -25,4 +26,5 @@ pub use connection::{close_connection, take_connection};
 pub use feed::{LaneEnd, serve_feed};
 pub use feed_port::FeedPort;
 pub use lane_port::LanePort;
+pub use lane_yard::LaneYard;
 pub use laws::{few_rounds_fit, lanes_publish_plans, ports_tell_connections};

@@ -7,8 +7,8 @@ ghost use Rattle.station_run.specs.Handed.{AllComeBack, FailsAt, Lends, LendsBut
 ghost use Rattle.station_run.specs.Serve.{TakesNone};
 
 use crate::room::place;
-use feed_worker::LanePort;
-use station_doors::{Link, Listening, Port, Yard};
+use feed_worker::{LanePort, LaneYard};
+use station_doors::{Link, Listening, Port};
 use wire_io::Failed;
 
 /// Ports and links that a yard handed out, in order of number. The ports are those of lanes.
@@ -19,7 +19,7 @@ pub struct Doors<P: Port + Drop, K: Link + Drop> {
 }
 
 // Asks for all: to listen, then for the ports, then for the links, until a call fails. The lists have what was handed out.
-fn ask_all<Y: Yard>(
+fn ask_all<Y: LaneYard>(
     at: &Listening,
     yard: &mut Y,
     ports: &mut Vec<LanePort<Y::Port>>,
@@ -47,7 +47,7 @@ fn ask_all<Y: Yard>(
         let Ok(port) = yard.port(lane) else {
             return Err(Failed);
         };
-        place(ports, LanePort::new(port));
+        place(ports, port);
     }
     for number in 0..at.askers {
         let Ok(link) = yard.link(number) else {
@@ -59,7 +59,7 @@ fn ask_all<Y: Yard>(
 }
 
 // Gives the ports back.
-fn give_ports<Y: Yard>(yard: &mut Y, mut ports: Vec<LanePort<Y::Port>>)
+fn give_ports<Y: LaneYard>(yard: &mut Y, mut ports: Vec<LanePort<Y::Port>>)
     requires few { length ports.items ≤ most_places }
     ensures told { PortsComeBack (Y.seen yard.old).told (Y.seen yard.new).told (numbered Y.Port.aside 0 ports.items) 0 }
     ensures rest { LeavesRest (Y.seen yard.old) (Y.seen yard.new) }
@@ -68,13 +68,13 @@ fn give_ports<Y: Yard>(yard: &mut Y, mut ports: Vec<LanePort<Y::Port>>)
     ports.reverse();
     let mut lane = 0;
     while let Some(port) = ports.pop() {
-        yard.take_port(lane, port.into_port());
+        yard.take_port(lane, port);
         lane += 1;
     }
 }
 
 // Gives the links back.
-fn give_links<Y: Yard>(yard: &mut Y, mut links: Vec<Y::Link>)
+fn give_links<Y: LaneYard>(yard: &mut Y, mut links: Vec<Y::Link>)
     requires few { length links.items ≤ most_places }
     ensures told { LinksComeBack (Y.seen yard.old).told (Y.seen yard.new).told (numbered_links (link_shows Y.Link.aside Y.Link.told Y.Link.faults) 0 links.items) 0 }
     ensures rest { LeavesRest (Y.seen yard.old) (Y.seen yard.new) }
@@ -89,7 +89,7 @@ fn give_links<Y: Yard>(yard: &mut Y, mut links: Vec<Y::Link>)
 }
 
 /// Gives all ports and links back, each under its number. It raises no count.
-pub fn give_back<Y: Yard>(yard: &mut Y, doors: Doors<Y::Port, Y::Link>)
+pub fn give_back<Y: LaneYard>(yard: &mut Y, doors: Doors<Y::Port, Y::Link>)
     requires few { (length doors.ports.items ≤ most_places) × (length doors.links.items ≤ most_places) }
     ensures told { AllComeBack (Y.seen yard.old).told (Y.seen yard.new).told
         (numbered Y.Port.aside 0 doors.ports.items) (numbered_links (link_shows Y.Link.aside Y.Link.told Y.Link.faults) 0 doors.links.items) }
@@ -103,7 +103,7 @@ pub fn give_back<Y: Yard>(yard: &mut Y, doors: Doors<Y::Port, Y::Link>)
 
 /// Asks the yard to listen, then for the port of each lane, then for the link of each asker, and stops at the first call
 /// that fails. Then what was handed out is given back as it is.
-pub fn open_doors<Y: Yard>(
+pub fn open_doors<Y: LaneYard>(
     at: &Listening,
     yard: &mut Y,
     doors: Doors<Y::Port, Y::Link>,

@@ -1,4 +1,4 @@
-//! A whole run: routers and clients at once, over any yard.
+//! A whole run: routers and clients at once, over any yard that hands out the ports of lanes.
 ghost use Rattle.std.specs.Prelude.{◌≡◌, ◌<◌, ◌≤◌, ◌+◌, ◌++◌, ℕ, [], List, length, IfOk, IfSome};
 ghost use Rattle.std.specs.Arc.{arc_value};
 ghost use Rattle.std.specs.Vec.{vec_capacity};
@@ -16,10 +16,10 @@ use crate::serving::serve_doors;
 use crate::tasks::Task;
 use bmp_message::BodyReading;
 use cut_publisher::{Naming, Station, Unfinished, finish, name, open_station};
-use feed_worker::LanePort;
+use feed_worker::{LanePort, LaneYard};
 use itoa::Buffer;
 use router_tables::RouterTables;
-use station_doors::{Link, Listening, Port, Yard};
+use station_doors::{Link, Listening, Port};
 use std::alloc::Global;
 use std::marker::Brand;
 use std::sync::{Arc, Wait};
@@ -86,7 +86,7 @@ fn put_ready<O: Sink>(out: &mut O) -> Result<(), Failed>
 // Runs a station that was just opened.
 fn run<
     B: BodyReading + Drop + Send,
-    Y: Yard,
+    Y: LaneYard,
     O: Sink,
     J: Naming + Send + Sync,
     R: Threads + Wait + Sync,
@@ -176,7 +176,7 @@ where
 /// | `WriteFault` | exactly where the sink's count of faults rose, by one: nothing is written after a write that failed, and after a failed `ready` nothing is served |
 /// | `NoMemory` | the call ran out of memory, before anything was asked for or, once all was served, as the history was to be finished; or it ended a lane, and `done` is still written |
 /// | `Done` | else |
-pub fn serve<B: BodyReading + Drop + Send, Y: Yard, O: Sink, R: Threads + Wait + Sync>(
+pub fn serve<B: BodyReading + Drop + Send, Y: LaneYard, O: Sink, R: Threads + Wait + Sync>(
     rt: &R,
     alloc: Global,
     at: &Listening,

@@ -115,11 +115,11 @@ fn take<'a, J: Naming, R: Wait + Clock>(
         drop(port);
         return None;
     }
-    let watch = port.into_port();
+    let watch = port.as_port();
     let (turns, revision, kept) = watch.seen();
     let longest = watch.longest();
     let published = watch.closed();
-    drop(watch);
+    drop(port);
     Some(Outcome {
         entries: pass.count(),
         // without the opening and the closing

@@ -65,17 +65,12 @@ impl Watch {
     }
 
     // What it saw of a lane that ended so. None where a look was lost.
-    fn seen(self, end: LaneEnd, pass: &FeedPass<RouterTables>) -> Option<Seen> {
-        let Watch {
-            looks,
-            has_lost,
-            ..
-        } = self;
-        if has_lost {
+    fn seen(&self, end: LaneEnd, pass: &FeedPass<RouterTables>) -> Option<Seen> {
+        if self.has_lost {
             return None;
         }
         Some(Seen {
-            looks,
+            looks: self.looks.clone().ok()?,
             end,
             entries: pass.count(),
             tables: pass.value().share().ok()?,
@@ -179,5 +174,5 @@ fn served<J: Naming, R: Wait>(
     let end = serve_feed::<Reading, J, LanePort<Watch>, R>(
         rt, alloc, publisher, &mut pass, &mut port, rounds,
     );
-    port.into_port().seen(end, &pass)
+    port.as_port().seen(end, &pass)
 }

@@ -1,6 +1,5 @@
-use Rattle.std.proofs.Common.{◌∙◌, ◌∷◌, [], List, length, refl, ap, subst, arith, length-append}
+use Rattle.std.proofs.Common.{◌∙◌, ◌∷◌, [], List, length, refl, ap, arith, length-append}
 use Rattle.std.proofs.lemmas.List.{length-reverse}
-use Rattle.station_doors.specs.Doors.{TakesBack}
 use Rattle.station_run.proofs.Returning.{return_more, return_none}
 use Rattle.station_run.proofs.doors.give_ports.Goals as goal
 
@@ -17,7 +16,7 @@ loop-port-init g c = record {
 
 pub loop-port-preserved : goal.loop-port-preserved
 loop-port-preserved g c = record {
-  back = return_more g.Y.Port.Port.aside _ _ _ _ _ _ _ c.in-Some.port c.loop-port.invariant.back c.in-Some.ensures.items (subst (λ (p : g.row.Y-Port.Denot). TakesBack c.loop-port.lane (g.Y.Port.Port.aside p) (g.Y.Yard.seen c.loop-port.yard).told (g.Y.Yard.seen c.take_port.new.self).told) c.into_port.ensures c.take_port.ensures.told);
+  back = return_more g.Y.Port.Port.aside _ _ _ _ _ _ _ c.in-Some.port c.loop-port.invariant.back c.in-Some.ensures.items c.take_port.ensures.told;
   few = omega (arith, c.loop-port.invariant.few, ap (λ (l : List g.row.Y-Port.Denot). length l) c.in-Some.ensures.items, length-append c.pop.new.self.items (c.in-Some.port ∷ []));
   calls = c.take_port.ensures.rest.calls ∙ c.loop-port.invariant.calls;
   faults = c.take_port.ensures.calm ∙ c.loop-port.invariant.faults;

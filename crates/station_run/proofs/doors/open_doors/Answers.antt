@@ -16,7 +16,7 @@ returns-in-Err-clause-refused g c =
         ports = numbered g.Y.Port.Port.aside 0 ps;
         links = numbered_links shows 0 ks;
         fails = subst (λ (n : ℕ). FailsAt c.args.at.now before (length (numbered g.Y.Port.Port.aside 0 ps)) n) (sym (length-numbered_links shows 0 ks)) at_links;
-        told = refused_back c.args.at.now (g.Y.Yard.seen c.args.yard.now).told (g.Y.Yard.seen c.ask_all.new.yard).told (g.Y.Yard.seen c.give_back.new.yard).told (g.Y.Yard.seen c.args.yard.now).calls before (numbered g.Y.Port.Port.aside 0 ps) (numbered_links shows 0 ks) told c.give_back.ensures.told;
+        told = refused_back c.args.at.now (g.Y.LaneYard.seen c.args.yard.now).told (g.Y.LaneYard.seen c.ask_all.new.yard).told (g.Y.LaneYard.seen c.give_back.new.yard).told (g.Y.LaneYard.seen c.args.yard.now).calls before (numbered g.Y.Port.Port.aside 0 ps) (numbered_links shows 0 ks) told c.give_back.ensures.told;
       },
       c.give_back.ensures.rest.calls ∙ calls,
     )

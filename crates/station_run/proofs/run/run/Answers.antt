@@ -32,7 +32,7 @@ returns-in_default-put_ready-clause-comes g c =
     let ks = numbered_links shows 0 c.in-Ok.doors.links.items in
     let o = c.in-Ok.ensures in
     let b = c.give_back.ensures in
-    unready ps ks refl (gives_back c.args.at.now _ (g.Y.Yard.seen c.open_doors.new.yard) _ ps ps ks ks
+    unready ps ks refl (gives_back c.args.at.now _ (g.Y.LaneYard.seen c.open_doors.new.yard) _ ps ps ks ks
     o.listened o.calls (length-numbered g.Y.Port.Port.aside 0 c.in-Ok.doors.ports.items ∙ o.asked.0) (length-numbered_links shows 0 c.in-Ok.doors.links.items ∙ o.asked.1) o.lends b.rest.listened b.rest.calls refl refl b.told)
     (record { endings = b.rest.endings ∙ o.none.endings; last = b.rest.ending ∙ o.none.last }) c.in_default-put_ready.ensures.front
 
@@ -58,7 +58,7 @@ returns-then-not-kept-clause-comes g c =
     let s = c.serve_doors-outcome.ensures in
     let o = c.in-Ok.ensures in
     let b = c.give_back-2.ensures in
-    unfinished refl (serves_all _ _ _ _ _ _ _ _ _ _ _ s c.args.at.now _ _ (sym (ap (λ (x : Site). x.lanes) c.requires.named) ∙ c.requires.opened.wide) (gives_back c.args.at.now _ (g.Y.Yard.seen c.open_doors.new.yard) _ _ _ _ _
+    unfinished refl (serves_all _ _ _ _ _ _ _ _ _ _ _ s c.args.at.now _ _ (sym (ap (λ (x : Site). x.lanes) c.requires.named) ∙ c.requires.opened.wide) (gives_back c.args.at.now _ (g.Y.LaneYard.seen c.open_doors.new.yard) _ _ _ _ _
     o.listened o.calls (length-numbered g.Y.Port.Port.aside 0 c.in-Ok.doors.ports.items ∙ o.asked.0) (length-numbered_links shows 0 c.in-Ok.doors.links.items ∙ o.asked.1) o.lends b.rest.listened b.rest.calls
     (as_many_back _ _ _ _ _ _ _ _ _ _ _ s) (as_many_links_back _ _ _ _ _ _ _ _ _ _ _ s) b.told))
     (record { endings = b.rest.endings ∙ o.none.endings; last = b.rest.ending ∙ o.none.last }) c.in-Ok-put_ready.ensures.whole
@@ -84,7 +84,7 @@ returns-in-Ok-put_done-clause-comes g c =
     let t = c.take_ending.ensures in
     let ports_count = length-numbered g.Y.Port.Port.aside 0 c.in-Ok.doors.ports.items ∙ o.asked.0 in
     let links_count = length-numbered_links shows 0 c.in-Ok.doors.links.items ∙ o.asked.1 in
-    let told = subst (λ (y : Option YardValue). AllComeBack (g.Y.Yard.seen c.open_doors.new.yard).told y (numbered g.Y.Port.Port.aside 0 c.serve_doors-outcome.new.ports.items) (numbered_links shows 0 c.serve_doors-outcome.new.links.items)) (sym t.told) b.told in
+    let told = subst (λ (y : Option YardValue). AllComeBack (g.Y.LaneYard.seen c.open_doors.new.yard).told y (numbered g.Y.Port.Port.aside 0 c.serve_doors-outcome.new.ports.items) (numbered_links shows 0 c.serve_doors-outcome.new.links.items)) (sym t.told) b.told in
     let writes = join {faults = g.O.Sink.faults} {told = g.O.Sink.told} {aside = g.O.Sink.aside} c.args.out.now c.put_ready.new.out c.put_done.new.out ready_line (done_line c.rev-rev.result) _ c.in-Ok-put_ready.field-0 (Ok c.in-Ok-put_done.field-0) c.in-Ok-put_ready.ensures c.in-Ok-put_done.ensures refl in
     finished c.rev-rev.result (record {
       runs = s.runs;
@@ -92,14 +92,14 @@ returns-in-Ok-put_done-clause-comes g c =
       cut = arc_value c.in-Ok-finish.ending.cut;
       feeds = c.in-Ok-finish.ending.feeds;
       asks = c.in-Ok-finish.ending.asks;
-      back = by_runs _ _ _ _ _ _ _ _ _ _ _ s c.args.at.now _ _ (gives_back c.args.at.now _ (g.Y.Yard.seen c.open_doors.new.yard) _ _ _ _ _
+      back = by_runs _ _ _ _ _ _ _ _ _ _ _ s c.args.at.now _ _ (gives_back c.args.at.now _ (g.Y.LaneYard.seen c.open_doors.new.yard) _ _ _ _ _
           o.listened o.calls ports_count links_count o.lends (t.listened ∙ b.rest.listened) (t.calls ∙ b.rest.calls) (as_many_back _ _ _ _ _ _ _ _ _ _ _ s) (as_many_links_back _ _ _ _ _ _ _ _ _ _ _ s) told);
       served = is_served g.B.BodyReading.meaning c.args.rounds c.args.at.now.feeds c.args.at.now.askers g.J.Naming.site s.runs s.ask_runs (arc_value c.in-Ok-finish.ending.cut) _ c.in-Ok-finish.ending.feeds _ c.in-Ok-finish.ending.asks c.rev-rev.result
           (sym (ap (λ (x : Site). x.lanes) c.requires.named) ∙ c.requires.opened.wide) (runs_are _ _ _ _ _ _ _ _ _ _ _ s ∙ ports_count) (ask_runs_are _ _ _ _ _ _ _ _ _ _ _ s ∙ links_count)
           s.lanes s.askers (s.feeds_are c.if-not-kept.false) (s.asks_are c.if-not-kept.false) c.in-Ok-finish.ensures (c.rev-rev.ensures ∙ ap (λ (x : List (TablesValue × ℕ)). total x) c.deref.ensures);
       ending = c.of.result;
       shows = c.of.ensures;
-      takes = record { endings = t.endings ∙ ap (λ (n : ℕ). one_more n) (b.rest.endings ∙ o.none.endings); last = subst (λ (y : Option YardValue). KeepsEnding y c.of.result (g.Y.Yard.seen c.take_ending.new.self).last_ending) (sym t.told) t.ending };
+      takes = record { endings = t.endings ∙ ap (λ (n : ℕ). one_more n) (b.rest.endings ∙ o.none.endings); last = subst (λ (y : Option YardValue). KeepsEnding y c.of.result (g.Y.LaneYard.seen c.take_ending.new.self).last_ending) (sym t.told) t.ending };
       outcome_is = s.outcome_is;
     }) writes.whole
 
@@ -122,21 +122,21 @@ returns-in-Err-clause-comes g c =
     let t = c.take_ending.ensures in
     let ports_count = length-numbered g.Y.Port.Port.aside 0 c.in-Ok.doors.ports.items ∙ o.asked.0 in
     let links_count = length-numbered_links shows 0 c.in-Ok.doors.links.items ∙ o.asked.1 in
-    let told = subst (λ (y : Option YardValue). AllComeBack (g.Y.Yard.seen c.open_doors.new.yard).told y (numbered g.Y.Port.Port.aside 0 c.serve_doors-outcome.new.ports.items) (numbered_links shows 0 c.serve_doors-outcome.new.links.items)) (sym t.told) b.told in
+    let told = subst (λ (y : Option YardValue). AllComeBack (g.Y.LaneYard.seen c.open_doors.new.yard).told y (numbered g.Y.Port.Port.aside 0 c.serve_doors-outcome.new.ports.items) (numbered_links shows 0 c.serve_doors-outcome.new.links.items)) (sym t.told) b.told in
     undone c.rev-rev.result c.serve_doors-outcome.result.0 refl (record {
       runs = s.runs;
       ask_runs = s.ask_runs;
       cut = arc_value c.in-Ok-finish.ending.cut;
       feeds = c.in-Ok-finish.ending.feeds;
       asks = c.in-Ok-finish.ending.asks;
-      back = by_runs _ _ _ _ _ _ _ _ _ _ _ s c.args.at.now _ _ (gives_back c.args.at.now _ (g.Y.Yard.seen c.open_doors.new.yard) _ _ _ _ _
+      back = by_runs _ _ _ _ _ _ _ _ _ _ _ s c.args.at.now _ _ (gives_back c.args.at.now _ (g.Y.LaneYard.seen c.open_doors.new.yard) _ _ _ _ _
           o.listened o.calls ports_count links_count o.lends (t.listened ∙ b.rest.listened) (t.calls ∙ b.rest.calls) (as_many_back _ _ _ _ _ _ _ _ _ _ _ s) (as_many_links_back _ _ _ _ _ _ _ _ _ _ _ s) told);
       served = is_served g.B.BodyReading.meaning c.args.rounds c.args.at.now.feeds c.args.at.now.askers g.J.Naming.site s.runs s.ask_runs (arc_value c.in-Ok-finish.ending.cut) _ c.in-Ok-finish.ending.feeds _ c.in-Ok-finish.ending.asks c.rev-rev.result
           (sym (ap (λ (x : Site). x.lanes) c.requires.named) ∙ c.requires.opened.wide) (runs_are _ _ _ _ _ _ _ _ _ _ _ s ∙ ports_count) (ask_runs_are _ _ _ _ _ _ _ _ _ _ _ s ∙ links_count)
           s.lanes s.askers (s.feeds_are c.if-not-kept.false) (s.asks_are c.if-not-kept.false) c.in-Ok-finish.ensures (c.rev-rev.ensures ∙ ap (λ (x : List (TablesValue × ℕ)). total x) c.deref.ensures);
       ending = c.of.result;
       shows = c.of.ensures;
-      takes = record { endings = t.endings ∙ ap (λ (n : ℕ). one_more n) (b.rest.endings ∙ o.none.endings); last = subst (λ (y : Option YardValue). KeepsEnding y c.of.result (g.Y.Yard.seen c.take_ending.new.self).last_ending) (sym t.told) t.ending };
+      takes = record { endings = t.endings ∙ ap (λ (n : ℕ). one_more n) (b.rest.endings ∙ o.none.endings); last = subst (λ (y : Option YardValue). KeepsEnding y c.of.result (g.Y.LaneYard.seen c.take_ending.new.self).last_ending) (sym t.told) t.ending };
       outcome_is = s.outcome_is;
     }) (record {
       front = c.in-Err.ensures.front.front;
@@ -159,7 +159,7 @@ returns-in-Err-NoMemory-clause-comes g c =
     let s = c.serve_doors-outcome.ensures in
     let o = c.in-Ok.ensures in
     let b = c.give_back-2.ensures in
-    unfinished refl (serves_all _ _ _ _ _ _ _ _ _ _ _ s c.args.at.now _ _ (sym (ap (λ (x : Site). x.lanes) c.requires.named) ∙ c.requires.opened.wide) (gives_back c.args.at.now _ (g.Y.Yard.seen c.open_doors.new.yard) _ _ _ _ _
+    unfinished refl (serves_all _ _ _ _ _ _ _ _ _ _ _ s c.args.at.now _ _ (sym (ap (λ (x : Site). x.lanes) c.requires.named) ∙ c.requires.opened.wide) (gives_back c.args.at.now _ (g.Y.LaneYard.seen c.open_doors.new.yard) _ _ _ _ _
     o.listened o.calls (length-numbered g.Y.Port.Port.aside 0 c.in-Ok.doors.ports.items ∙ o.asked.0) (length-numbered_links shows 0 c.in-Ok.doors.links.items ∙ o.asked.1) o.lends b.rest.listened b.rest.calls
     (as_many_back _ _ _ _ _ _ _ _ _ _ _ s) (as_many_links_back _ _ _ _ _ _ _ _ _ _ _ s) b.told))
     (record { endings = b.rest.endings ∙ o.none.endings; last = b.rest.ending ∙ o.none.last }) c.in-Ok-put_ready.ensures.whole
