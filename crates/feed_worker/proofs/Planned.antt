@@ -1,23 +1,23 @@
 -- The connections of a port whose plan fails no call.
-use Rattle.std.proofs.Common.{◌≡◌, ℕ, ◌≤◌, Bool, true, false, List, [], ◌∷◌, ◌++◌, length, take, Option, Some, None, Result, Ok, Err, refl, sym, ap, ◌∙◌, subst, append-nil, arith}
+use Rattle.std.proofs.Common.{◌≡◌, ℕ, ◌+◌, ◌*◌, ◌^◌, ◌≤◌, Bool, true, false, List, [], ◌∷◌, ◌++◌, length, take, zero, suc, Option, Some, None, Result, Ok, Err, refl, sym, ap, ◌∙◌, subst, append-nil, arith, length-append}
 use Rattle.std.specs.Prelude.{IfSome, MatchBool, OnErr, nat_lt}
 use Rattle.std.specs.Io.KnownBytes.{Consumes, IsAtEnd}
 use Rattle.std.proofs.Math.Seq.{take-append_seam}
-use Rattle.std.proofs.lemmas.List.{take_all}
+use Rattle.std.proofs.lemmas.List.{length-map, take_all}
 use Rattle.std.proofs.lemmas.Bool.Decides.{nat_tests}
-use Rattle.bmp_specs.specs.Life.{IsLife}
+use Rattle.bmp_specs.specs.Life.{IsLife, gave_none, most_taken}
 use Rattle.bmp_specs.specs.Meaning.{Meaning}
 use Rattle.bmp_specs.specs.Values.{EntryValue}
 use Rattle.rib_model.specs.declared.entry.Entry.{Entry}
-use Rattle.rib_model.specs.Entries.{entry_values}
+use Rattle.rib_model.specs.Entries.{entry_value, entry_values}
 use Rattle.station_doors.specs.Doors.{OpensNext, untouched, IsRefusal, opened_one}
 use Rattle.station_doors.proofs.ReadLaws.{front_of}
 use Rattle.wire_io.specs.Aside.{Aside, Plan}
 use Rattle.wire_io.specs.declared.sink.Failed.{Failed}
-use Rattle.feed_worker.specs.Feed.{Connection, Refuses, Serves, Visits, lives_of}
-use Rattle.feed_worker.specs.Planned.{AreWholeLives, IsWholeLife, PublishesPlan}
+use Rattle.feed_worker.specs.Feed.{Connection, Refuses, Serves, Visits, lives_of, most_entries}
+use Rattle.feed_worker.specs.Planned.{AreWholeLives, FewLivesFit, IsWholeLife, PublishesPlan}
 use Rattle.feed_worker.proofs.Growing.{grows_values}
-use Rattle.feed_worker.proofs.Serving.{few_rounds_fit}
+use Rattle.feed_worker.proofs.Serving.{few_entries, few_served, refused_early}
 use Rattle.feed_worker.proofs.WholeLives.{whole_life}
 
 next_one : (connections : List (List ℕ)) (after : Option (List (List ℕ))) (rest : Option (List ℕ)) → OpensNext (Some connections) after rest opened_one
@@ -99,10 +99,35 @@ all_given true n rounds after new given left connections plan test split count p
 all_given false n rounds after new given left connections plan test split count planned coming none stop =
     sym (ap (λ (l : List (List ℕ)). take rounds l) split ∙ ap (λ (k : ℕ). take k (given ++ left)) (sym (count ∙ stop.0)) ∙ take-append_seam given left)
 
+-- the connections that were given are the first
+given_first : (n : ℕ) (given left connections : List (List ℕ)) → connections ≡ given ++ left → length given ≡ n → given ≡ take n connections
+given_first n given left connections split count =
+    sym (ap (λ (l : List (List ℕ)). take n l) split ∙ ap (λ (k : ℕ). take k (given ++ left)) (sym count) ∙ take-append_seam given left)
+
 pub publishes_plan : (meaning : Meaning) → PublishesPlan meaning
-publishes_plan meaning rounds plan new pass pass' few none empty s =
+publishes_plan meaning rounds plan new pass pass' fits none empty s =
     let v = all_visited meaning s.connections (untouched plan) s.after plan plan.connections s.serves refl none refl in
-    let stop = few_rounds_fit meaning rounds (untouched plan) new pass pass' few empty s in
     let entries : entry_values pass'.entries ≡ lives_of s.connections = grows_values pass pass' (lives_of s.connections) s.grows ∙ ap (λ (l : List Entry). entry_values l ++ lives_of s.connections) empty in
+    let served : length s.connections ≤ rounds = few_served rounds (length s.connections) _ _ s.stop in
+    let first : v.given ≡ take (length s.connections) plan.connections = given_first (length s.connections) v.given v.left plan.connections v.split v.count_is in
+    let room : length (lives_of s.connections) ≤ most_entries = fits (length s.connections) (lives_of s.connections) served (subst (λ (l : List (List ℕ)). AreWholeLives meaning l (lives_of s.connections)) first v.lives) in
+    let count : length pass'.entries ≡ length (lives_of s.connections) = sym (length-map pass'.entries entry_value) ∙ ap (λ (l : List EntryValue). length l) entries in
+    let stop = refused_early (nat_lt (length s.connections) rounds) s.after new pass' _ (omega (arith, room, count)) s.stop in
     let all : v.given ≡ take rounds plan.connections = all_given (nat_lt (length s.connections) rounds) (length s.connections) rounds s.after new v.given v.left plan.connections plan refl v.split v.count_is v.planned v.coming none stop in
     subst (λ (l : List EntryValue). AreWholeLives meaning (take rounds plan.connections) l) (sym entries) (subst (λ (l : List (List ℕ)). AreWholeLives meaning l (lives_of s.connections)) all v.lives)
+
+-- the lives of so many connections have few entries
+few_whole : (meaning : Meaning) (connections : List (List ℕ)) (entries : List EntryValue) → AreWholeLives meaning connections entries → 6 * length entries ≤ length connections * (2 ^ 46 + 12)
+few_whole meaning [] entries none = omega (arith, ap (λ (l : List EntryValue). length l) none)
+few_whole meaning (bytes ∷ connections) entries (life, rest, whole, others, is) =
+    omega (arith, few_entries meaning (take most_taken bytes) gave_none life whole, few_whole meaning connections rest others, ap (λ (l : List EntryValue). length l) is, length-append life rest)
+
+fewer_taken : (n rounds : ℕ) (connections : List (List ℕ)) → n ≤ rounds → length (take n connections) ≤ length (take rounds connections)
+fewer_taken zero rounds connections within = omega arith
+fewer_taken (suc n) zero connections within = absurd (omega (arith, within))
+fewer_taken (suc n) (suc rounds) [] within = omega arith
+fewer_taken (suc n) (suc rounds) (c ∷ connections) within = omega (arith, fewer_taken n rounds connections (omega (arith, within)))
+
+pub few_lives_fit : (meaning : Meaning) → FewLivesFit meaning
+few_lives_fit meaning rounds plan few n entries within whole =
+    omega (arith, few_whole meaning (take n plan.connections) entries whole, fewer_taken n rounds plan.connections within, few)

@@ -12,7 +12,7 @@ use Rattle.feed_worker.specs.Feed.{Connection, Concludes, IsBegunOf, IsLifeOf, F
 use Rattle.feed_worker.specs.Publishing.{Grows}
 use Rattle.feed_worker.proofs.Growing.{grows_then, grows_count}
 use Rattle.feed_worker.proofs.Lengths.{few_messages}
-use Rattle.bmp_specs.specs.Life.{IsLife}
+use Rattle.bmp_specs.specs.Life.{IsLife, LastRead}
 
 -- so many connections were served
 pub record ServesSoMany (meaning : Meaning) (old new : Aside) (pass pass' : Fed Entry) (count : ℕ) : Type 0 where
@@ -35,12 +35,12 @@ room_push count [] c room fits = (omega (arith, fits), tt)
 room_push count (x ∷ cs) c room fits = (room.0, room_push (count + length x.life) cs c room.1 (omega (arith, fits, length-append x.life (lives_of cs))))
 
 -- the life of one connection has few entries, and so have those of many
-few_entries : (meaning : Meaning) (c : Connection) → IsLife meaning c.input.bytes c.input.last c.life → 6 * length c.life ≤ 2 ^ 46 + 12
-few_entries meaning c l = omega (arith, few_messages meaning c.input.bytes l.messages l.offset l.verdict l.walk, l.within, ap length l.is, length-append l.messages (closed l.cause ∷ []))
+pub few_entries : (meaning : Meaning) (bytes : List ℕ) (last : LastRead) (life : List EntryValue) → IsLife meaning bytes last life → 6 * length life ≤ 2 ^ 46 + 12
+few_entries meaning bytes last life l = omega (arith, few_messages meaning bytes l.messages l.offset l.verdict l.walk, l.within, ap length l.is, length-append l.messages (closed l.cause ∷ []))
 
 few_lives : (meaning : Meaning) (cs : List Connection) (a b : Aside) → Serves meaning a b cs → 6 * length (lives_of cs) ≤ length cs * (2 ^ 46 + 12)
 few_lives meaning [] a b s = omega arith
-few_lives meaning (c ∷ cs) a b (visit, life, rest) = omega (arith, few_entries meaning c life, few_lives meaning cs c.closed b rest, length-append c.life (lives_of cs))
+few_lives meaning (c ∷ cs) a b (visit, life, rest) = omega (arith, few_entries meaning c.input.bytes c.input.last c.life life, few_lives meaning cs c.closed b rest, length-append c.life (lives_of cs))
 
 module _ (meaning : Meaning) (a b : Aside) (pass0 pass : Fed Entry) (n : ℕ) (s : ServesSoMany meaning a b pass0 pass n) where
   -- the pass has no more than may begin a round
@@ -79,7 +79,7 @@ module _ (meaning : Meaning) (a b : Aside) (pass0 pass : Fed Entry) (n : ℕ) (s
 few_fit : (meaning : Meaning) (cs : List Connection) (a b : Aside) (pass pass' : Fed Entry) → Serves meaning a b cs → Grows pass pass' (lives_of cs) → length cs ≤ 4096 → pass.entries ≡ [] → length pass'.entries ≤ most_entries
 few_fit meaning cs a b pass pass' s g few none = omega (arith, few, few_lives meaning cs a b s, grows_count pass pass' (lives_of cs) g, ap length none)
 
-few_served : (rounds count : ℕ) (P Q : Type 0) → MatchBool (nat_lt count rounds) P ((count ≡ rounds) × Q) → count ≤ rounds
+pub few_served : (rounds count : ℕ) (P Q : Type 0) → MatchBool (nat_lt count rounds) P ((count ≡ rounds) × Q) → count ≤ rounds
 few_served rounds count P Q stop = go (nat_lt count rounds) refl stop
   where
     go : (b : Bool) → nat_lt count rounds ≡ b → MatchBool b P ((count ≡ rounds) × Q) → count ≤ rounds
@@ -87,7 +87,7 @@ few_served rounds count P Q stop = go (nat_lt count rounds) refl stop
     go false is p = omega (arith, p.0)
 
 -- so the port refused, where fewer than the rounds were served
-refused_early : (b : Bool) (after new : Aside) (pass : Fed Entry) (Q : Type 0) → length pass.entries ≤ most_entries → MatchBool b (Stops after new pass) Q → MatchBool b (Refuses after new) Q
+pub refused_early : (b : Bool) (after new : Aside) (pass : Fed Entry) (Q : Type 0) → length pass.entries ≤ most_entries → MatchBool b (Stops after new pass) Q → MatchBool b (Refuses after new) Q
 refused_early true after new pass Q fits (inl refuses) = refuses
 refused_early true after new pass Q fits (inr (many, same)) = absurd (omega (arith, fits, many))
 refused_early false after new pass Q fits all = all

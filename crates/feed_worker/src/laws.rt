@@ -1,6 +1,6 @@
 //! What follows of the connections that were served, for those who gather them.
 ghost use Rattle.feed_worker.specs.Feed.{FewRoundsFit, PortsTellConnections};
-ghost use Rattle.feed_worker.specs.Planned.{PublishesPlan};
+ghost use Rattle.feed_worker.specs.Planned.{FewLivesFit, PublishesPlan};
 
 use bmp_message::BodyReading;
 
@@ -14,8 +14,13 @@ pub fn few_rounds_fit<B: BodyReading>()
     ensures { FewRoundsFit B.meaning }
 {}
 
-/// A lane that had published nothing and serves up to 4,096 connections of a port whose plan fails no call publishes the
-/// lives of the plan's first connections.
+/// A lane that had published nothing and serves the connections of a port whose plan fails no call publishes the lives of
+/// the plan's first connections, where these have at most 2^56 entries.
 pub fn lanes_publish_plans<B: BodyReading>()
     ensures { PublishesPlan B.meaning }
+{}
+
+/// The lives of up to 4,096 connections have no more than that.
+pub fn few_lives_fit<B: BodyReading>()
+    ensures { FewLivesFit B.meaning }
 {}

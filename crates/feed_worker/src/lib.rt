@@ -27,4 +27,4 @@ pub use feed::{LaneEnd, serve_feed};
 pub use feed_port::FeedPort;
 pub use lane_port::LanePort;
 pub use lane_yard::LaneYard;
-pub use laws::{few_rounds_fit, lanes_publish_plans, ports_tell_connections};
+pub use laws::{few_lives_fit, few_rounds_fit, lanes_publish_plans, ports_tell_connections};
