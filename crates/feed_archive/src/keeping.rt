@@ -5,6 +5,7 @@ ghost use Rattle.disk_doors.specs.Disk.{Passes};
 ghost use Rattle.feed_archive.specs.Recovering.{HasOnly};
 ghost use Rattle.feed_archive.specs.Keeping.{HasKept, TellsBytes, InnerGave, KeepsPlan, KeepsPlace, KeepCause, KeepsExactly, KeepsDisk, KeepsGoing, HasBetween, stays_of, is_refused, gave, lost, went_of, keep_aside};
 
+use crate::sealed_port::SealedPort;
 use crate::{AppendFault, Archive};
 use disk_doors::{Disk, Notes};
 use station_doors::{Ended, Port};
@@ -76,9 +77,10 @@ impl<P: Port, D: Disk> Model for KeepPort<P, D> {
 
 impl<P: Port, D: Disk> KeepPort<P, D> {
     /// Keeps in this archive what the port gives from now on.
-    pub fn new(inner: P, archive: Archive<D>) -> KeepPort<P, D>
-        ensures { result ≡ record { inner = inner; archive = archive; first = inner; made = archive; before = inner; events = []; refused = None } }
+    pub fn new(port: SealedPort<P>, archive: Archive<D>) -> KeepPort<P, D>
+        ensures { result ≡ record { inner = port; archive = archive; first = port; made = archive; before = port; events = []; refused = None } }
     {
+        let inner = port.into_port();
         let first = Snapshot::of(&inner);
         let before = Snapshot::of(&inner);
         let made = Snapshot::of(&archive);
@@ -113,7 +115,7 @@ impl<P: Port, D: Disk> KeepPort<P, D> {
     /// Where each image of the disk had one content when this port was made, a crash at any moment since left that content,
     /// then every byte that was given by then, and no more than what the port below gave. Where the disk failed no append,
     /// it now leaves exactly what was given.
-    pub fn into_parts(self) -> (P, Archive<D>)
+    pub fn into_parts(self) -> (SealedPort<P>, Archive<D>)
         ensures parts { (result.0 ≡ self.inner) × (result.1 ≡ self.archive) }
         ensures noted { is_refused self.events ≡ is_some self.refused }
         ensures kept { HasKept D.tells (D.shows self.made.disk) (D.shows self.archive.disk) self.events }
@@ -136,7 +138,7 @@ impl<P: Port, D: Disk> KeepPort<P, D> {
             refused: _,
             given: _,
         } = self;
-        (inner, archive)
+        (SealedPort::new(inner), archive)
     }
 }
 

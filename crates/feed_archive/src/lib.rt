@@ -8,7 +8,7 @@
 //! where every crash from then on leaves it with the record. No checksum is trusted.
 //!
 //! `create` makes an archive, `recover` reads one, `Archive` appends to one. `KeepPort` is a port over another, which
-//! appends what it gives before it gives it.
+//! appends what it gives before it gives it. `KeepYard` is a yard whose ports are read in this way alone.
 //!
 //! Begin with `specs/Archive.antt`, which says what an archive is, `specs/Recovering.antt` and `specs/Appending.antt`;
 //! then `src/archive.rt`. What a crash may leave is said in `disk_doors`.
@@ -18,15 +18,19 @@ mod archive;
 mod creating;
 mod fault;
 mod filling;
+mod keep_yard;
 mod keeping;
 mod laws;
 mod recovering;
 mod scanning;
+mod sealed_port;
 mod window;
 
 pub use archive::{Archive, BeginRefused};
 pub use creating::create;
 pub use fault::{AppendFault, CreateFault, RecoverFault};
+pub use keep_yard::KeepYard;
 pub use keeping::KeepPort;
 pub use laws::{one_content, recovery_gives_the_content};
 pub use recovering::recover;
+pub use sealed_port::SealedPort;

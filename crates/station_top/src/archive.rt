@@ -18,10 +18,11 @@ use bmp_message::{BodyReading, LenientReading, Reading};
 use bmp_specs::Cause;
 use disk_doors::Disk;
 use feed_archive::{
-    AppendFault, Archive, BeginRefused, CreateFault, KeepPort, RecoverFault, create,
+    AppendFault, Archive, BeginRefused, CreateFault, KeepPort, KeepYard, RecoverFault, SealedPort,
+    create,
 };
 use reply_text::put_stop;
-use station_doors::{Port, Yard};
+use station_doors::Port;
 use std::alloc::Global;
 use wire_io::{Failed, Sink, write_all};
 
@@ -48,9 +49,9 @@ pub enum Kept {
 // port and the archive's disk.
 fn keep<P: Port, D: Disk, R: BodyReading + Drop>(
     alloc: Global,
-    port: P,
+    port: SealedPort<P>,
     archive: Archive<D>,
-) -> (P, D, Kept)
+) -> (SealedPort<P>, D, Kept)
     requires { archive.stopped ≡ false }
     ensures { IsTakenIn R.meaning (HandsEmpty D.tells (P.aside port) (P.calls port)
         (record { value = D.shows archive.disk; faults = D.faults archive.disk }) archive.place
@@ -87,9 +88,9 @@ fn keep<P: Port, D: Disk, R: BodyReading + Drop>(
 // Creates an archive on the disk and begins it, and then keeps the one input connection of the port in it. Hands back both.
 fn archive_input<P: Port, D: Disk, R: BodyReading + Drop>(
     alloc: Global,
-    port: P,
+    port: SealedPort<P>,
     disk: D,
-) -> (P, D, Kept)
+) -> (SealedPort<P>, D, Kept)
     ensures { IsKept R.meaning (HandsBoth D.tells (P.aside port) (P.calls port)
         (record { value = D.shows disk; faults = D.faults disk })
         (P.aside result.0) (record { value = D.shows result.1; faults = D.faults result.1 })) result.2 }
@@ -110,7 +111,7 @@ fn archive_input<P: Port, D: Disk, R: BodyReading + Drop>(
 
 // Asks the yard for the disk of the path and for the port of the one input connection, keeps the input, and gives both
 // back. It fails where the yard refused the disk or the port.
-fn archive_from<R: BodyReading + Drop, Y: Yard>(
+fn archive_from<R: BodyReading + Drop, Y: KeepYard>(
     alloc: Global,
     path: &str,
     yard: &mut Y,
@@ -199,7 +200,7 @@ fn tell<O: Sink>(out: &mut O, kept: Kept) -> Status
 
 // Asks the yard for the disk of the path and then for the one input connection, keeps the input in an archive that it
 // creates there, gives both back, and says what was kept.
-fn run_archive<R: BodyReading + Drop, Y: Yard, O: Sink>(
+fn run_archive<R: BodyReading + Drop, Y: KeepYard, O: Sink>(
     alloc: Global,
     path: &str,
     yard: &mut Y,
@@ -218,7 +219,7 @@ fn run_archive<R: BodyReading + Drop, Y: Yard, O: Sink>(
 }
 
 /// The same, where bodies are read leniently or by the RFCs alone.
-pub(crate) fn run_archive_by<Y: Yard, O: Sink>(
+pub(crate) fn run_archive_by<Y: KeepYard, O: Sink>(
     alloc: Global,
     lenient: bool,
     path: &str,
