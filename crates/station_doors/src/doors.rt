@@ -10,7 +10,7 @@ ghost use Rattle.station_doors.specs.Disks.{HandsOutDisk, TakesDiskBack};
 ghost use Rattle.station_doors.specs.Files.{GivesFile, HasFileCause};
 ghost use Rattle.station_doors.specs.declared.listening.Listening.{Listening};
 
-use crate::{Ended, FileFault, Listening};
+use crate::{Ended, FileFault, Listening, PeerChange};
 use disk_doors::Disk;
 use std::alloc::Global;
 use wire_io::{ByteList, Failed, Sink};
@@ -63,6 +63,26 @@ pub trait Port {
         ensures stays { stays self.new ≡ stays self.old }
         ensures went { went self.new ≡ went self.old }
         ensures causes { causes self.new ≡ causes self.old };
+
+    /// Is told that a peer of the present connection's router went up or down, which was published. A real port may say so
+    /// to whoever runs the station. Nothing that contracts see changes.
+    fn peer(&mut self, _change: &PeerChange<'_>)
+        ensures aside { aside self.new ≡ aside self.old }
+        ensures calls { calls self.new ≡ calls self.old }
+        ensures stays { stays self.new ≡ stays self.old }
+        ensures went { went self.new ≡ went self.old }
+        ensures causes { causes self.new ≡ causes self.old }
+    {}
+
+    /// Is told the first octets of what stands in the present connection where a message should, and is none. A real port
+    /// may say so with the connection's end. Nothing that contracts see changes.
+    fn broke(&mut self, _octets: &[u8])
+        ensures aside { aside self.new ≡ aside self.old }
+        ensures calls { calls self.new ≡ calls self.old }
+        ensures stays { stays self.new ≡ stays self.old }
+        ensures went { went self.new ≡ went self.old }
+        ensures causes { causes self.new ≡ causes self.old }
+    {}
 
     /// Is told how the last connection ended, which was closed. A real port may say so to whoever runs the station.
     /// Nothing that contracts see changes but the causes that were told.

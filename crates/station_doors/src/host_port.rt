@@ -1,12 +1,14 @@
-ghost use Rattle.std.specs.Prelude.{◌≡◌, ◌≤◌, [], length, IfOk, IfSome, OnErr, IsTrue};
+ghost use Rattle.std.specs.Prelude.{◌≡◌, ◌≤◌, [], length, take, IfOk, IfSome, OnErr, IsTrue};
 ghost use Rattle.std.specs.Io.KnownBytes.{ReadConsumes};
 ghost use Rattle.station_doors.specs.Counts.{rest_of};
 ghost use Rattle.station_doors.specs.Doors.{Opens, Closes};
 
 use crate::counts::Counts;
 use crate::log::PlaceLog;
+use crate::peer_lines::PeerLines;
 use crate::sockets::{accept_next, read_stream};
-use crate::{Allowed, Ended, Port};
+use crate::{Allowed, Ended, PeerChange, Port};
+use ip_prefix::ShortText;
 use std::io::{self, Read};
 use std::net::{SocketAddr, TcpListener, TcpStream};
 use std::sync::{Arc, Wait};
@@ -31,6 +33,9 @@ pub struct HostPort<'a, R, N> {
     reason: Option<io::Error>,
     // Where the present connection comes from, or the last one came from.
     from: Option<SocketAddr>,
+    // The first octets of what is no message in the present connection, where it broke.
+    octets: ShortText,
+    peers: PeerLines,
     log: PlaceLog<'a>,
 }
 
@@ -58,6 +63,8 @@ impl<'a, R: Drop, N: Clock> HostPort<'a, R, N> {
             counts: Counts::new(),
             reason: None,
             from: None,
+            octets: ShortText::new(),
+            peers: PeerLines::new(),
             log,
         }
     }
@@ -65,6 +72,21 @@ impl<'a, R: Drop, N: Clock> HostPort<'a, R, N> {
     // Why the last read that failed did so.
     pub(crate) fn into_reason(self) -> Option<io::Error> {
         self.reason
+    }
+}
+
+// The most octets of a stream that broke which its log has.
+const MOST_OCTETS: usize = 64;
+
+// The first octets of these, 64 at most.
+fn first_of(octets: &[u8]) -> &[u8]
+    ensures short { length result.now ≤ 64 }
+    ensures first { result.now ≡ take 64 octets.now }
+{
+    if octets.len() <= MOST_OCTETS {
+        octets
+    } else {
+        &octets[..MOST_OCTETS]
     }
 }
 
@@ -170,6 +192,7 @@ impl<'a, R: Read + Drop, N: Clock + Wait + Sync> Port for HostPort<'a, R, N> {
             is_first,
         );
         self.reason = None;
+        self.octets = ShortText::new();
         self.from = match &self.stream {
             Some(stream) => stream.peer_addr().ok(),
             None => None,
@@ -188,6 +211,7 @@ impl<'a, R: Read + Drop, N: Clock + Wait + Sync> Port for HostPort<'a, R, N> {
             buf,
             &mut self.reason,
         );
+        self.peers.catch_up(self.clock, &self.log, self.from);
         self.counts.read(came)
     }
 
@@ -196,14 +220,33 @@ impl<'a, R: Read + Drop, N: Clock + Wait + Sync> Port for HostPort<'a, R, N> {
         ensures closes { Closes (record self.old.counts { rest = rest_of R.remaining self.old.input }) (record self.new.counts { rest = rest_of R.remaining self.new.input }) }
         ensures input { self.new.input ≡ self.old.input }
     {
+        self.peers.end(self.clock, &self.log, self.from);
         self.stream = None;
         self.counts.close();
+    }
+
+    fn peer(&mut self, change: &PeerChange<'_>)
+        ensures counts { self.new.counts ≡ self.old.counts }
+        ensures input { self.new.input ≡ self.old.input }
+    {
+        self.peers.say(self.clock, &self.log, self.from, change);
+    }
+
+    fn broke(&mut self, octets: &[u8])
+        ensures counts { self.new.counts ≡ self.old.counts }
+        ensures input { self.new.input ≡ self.old.input }
+    {
+        let mut first = ShortText::new();
+        first.extend(first_of(octets));
+        self.octets = first;
     }
 
     fn ended(&mut self, end: &Ended<'_>)
         ensures same { self.new ≡ self.old }
     {
         let error = self.reason.as_ref();
-        self.log.ended(self.clock, self.from, end, error, self.idle);
+        let octets = self.octets.as_slice();
+        self.log
+            .ended(self.clock, self.from, end, octets, error, self.idle);
     }
 }

@@ -3,17 +3,17 @@ ghost use Rattle.std.specs.Prelude.{◌≡◌, ◌≤◌, ◌<◌, length};
 use std::fmt;
 
 /// The most bytes of a line, its end among them.
-const MOST_BYTES: usize = 512;
+const MOST_BYTES: usize = 640;
 
 // The byte that ends a line.
 const END: u8 = b'\n';
 
-/// One line of the log: at most 512 bytes, of which the last ends it. What doesn't fit is cut off.
+/// One line of the log: at most 640 bytes, of which the last ends it. What doesn't fit is cut off.
 #[derive(Drop)]
 pub(crate) struct Line {
     bytes: [u8; MOST_BYTES],
     length: usize,
-    ghost fits: { length < 512 },
+    ghost fits: { length < 640 },
 }
 
 impl Line {
@@ -27,7 +27,7 @@ impl Line {
 
     // Its bytes, of which there is one at least.
     pub(crate) fn as_bytes(&self) -> &[u8]
-        ensures { (0 < length result.now) × (length result.now ≤ 512) }
+        ensures { (0 < length result.now) × (length result.now ≤ 640) }
     {
         &self.bytes[..=self.length]
     }

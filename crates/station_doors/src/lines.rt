@@ -15,7 +15,7 @@ const MOST_LINES: usize = 1024;
 /// How many seconds the places of a station have to begin, before those that didn't are said.
 const SETTLED: u64 = 5;
 
-/// The lines of a log that wait to be written: at most 1,024, of at most 512 bytes each, whose memory is taken at once.
+/// The lines of a log that wait to be written: at most 1,024, of at most 640 bytes each, whose memory is taken at once.
 ///
 /// Who says something doesn't wait for whoever reads the log. Where there is no room a line is dropped, and how many were
 /// is said as soon as there is some. One thread writes the lines, and sleeps while there are none.

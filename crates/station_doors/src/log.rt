@@ -1,8 +1,9 @@
 //! What a real yard says of its connections, a line each. What is said changes nothing that contracts see.
 
-use crate::Ended;
 use crate::line::Line;
 use crate::lines::Lines;
+use crate::{Ended, PeerChange};
+use bmp_frames::PeerKey;
 use bmp_specs::{Cause, Why};
 use std::fmt;
 use std::fmt::{Display, Formatter, Write as _};
@@ -40,9 +41,26 @@ impl Display for Address {
     }
 }
 
-// Why a connection ended, in the words of the replies.
+// The first octets of what is no message, in hexadecimal.
 #[derive(Drop)]
-struct Because(Option<Cause>);
+struct Octets<'a>(&'a [u8]);
+
+impl Display for Octets<'_> {
+    fn fmt<W: fmt::Write>(&self, f: &mut Formatter<W>) -> fmt::Result {
+        for octet in self.0 {
+            let octet = *octet;
+            write!(f, "{octet:02x}")?;
+        }
+        Ok(())
+    }
+}
+
+// Why a connection ended, in the words of the replies. Where it broke these are the first octets of what is no message.
+#[derive(Drop)]
+struct Because<'a> {
+    cause: Option<Cause>,
+    octets: &'a [u8],
+}
 
 fn why_word(why: Why) -> &'static str {
     match why {
@@ -52,9 +70,9 @@ fn why_word(why: Why) -> &'static str {
     }
 }
 
-impl Display for Because {
+impl Display for Because<'_> {
     fn fmt<W: fmt::Write>(&self, f: &mut Formatter<W>) -> fmt::Result {
-        match self.0 {
+        match self.cause {
             None => f.write_str("cause=memory"),
             Some(Cause::Ended) => f.write_str("cause=ended"),
             Some(Cause::Terminated) => f.write_str("cause=terminated"),
@@ -62,7 +80,12 @@ impl Display for Because {
             Some(Cause::CutShort { offset }) => write!(f, "cause=cutshort offset={offset}"),
             Some(Cause::ReadFault { offset }) => write!(f, "cause=readfault offset={offset}"),
             Some(Cause::Broken { offset, why }) => {
-                write!(f, "cause=broken offset={offset} why={}", why_word(why))
+                write!(
+                    f,
+                    "cause=broken offset={offset} why={} octets={}",
+                    why_word(why),
+                    Octets(self.octets)
+                )
             }
         }
     }
@@ -87,6 +110,21 @@ impl Display for Name<'_> {
             }
         }
         f.write_str("\"")
+    }
+}
+
+// A peer, as the replies name it.
+#[derive(Drop)]
+struct Peer(PeerKey);
+
+impl Display for Peer {
+    fn fmt<W: fmt::Write>(&self, f: &mut Formatter<W>) -> fmt::Result {
+        f.write_str("peer=")?;
+        let text = self.0.text();
+        for byte in text.as_slice() {
+            f.write_char(*byte as char)?;
+        }
+        Ok(())
     }
 }
 
@@ -198,12 +236,56 @@ impl<'a> PlaceLog<'a> {
         }
     }
 
-    // The connection of a router was closed. Why its last read failed is said where it did.
+    // A peer of the router went up or down.
+    pub(crate) fn peer<R: Wait>(&self, rt: &R, from: Option<SocketAddr>, change: &PeerChange<'_>) {
+        if let Some(lines) = self.lines
+            && self.says_all
+        {
+            let mut line = Line::new();
+            let _ = match *change {
+                PeerChange::Up { key, asn } => write!(
+                    line,
+                    "level=info {} {} event=peer-up {} asn={asn}",
+                    self.place,
+                    Address(from),
+                    Peer(key)
+                ),
+                PeerChange::Down { key, code, reason } => write!(
+                    line,
+                    "level=warning {} {} event=peer-down {} code={code} reason={reason}",
+                    self.place,
+                    Address(from),
+                    Peer(key)
+                ),
+            };
+            lines.say(rt, line);
+        }
+    }
+
+    // So many changes of the router's peers have no line.
+    pub(crate) fn unsaid<R: Wait>(&self, rt: &R, from: Option<SocketAddr>, count: u64) {
+        if let Some(lines) = self.lines
+            && self.says_all
+        {
+            let mut line = Line::new();
+            let _ = write!(
+                line,
+                "level=warning {} {} event=peers-unsaid count={count}",
+                self.place,
+                Address(from)
+            );
+            lines.say(rt, line);
+        }
+    }
+
+    // The connection of a router was closed. Of a stream that broke these are the first octets of what is no message. Why its
+    // last read failed is said where it did.
     pub(crate) fn ended<R: Wait>(
         &self,
         rt: &R,
         from: Option<SocketAddr>,
         end: &Ended<'_>,
+        octets: &[u8],
         error: Option<&io::Error>,
         idle: Option<u32>,
     ) {
@@ -220,7 +302,10 @@ impl<'a> PlaceLog<'a> {
                 "level={level} {} {} event=closed {}{} messages={} bytes={} name={}",
                 self.place,
                 Address(from),
-                Because(end.cause),
+                Because {
+                    cause: end.cause,
+                    octets
+                },
                 Reason { error, idle },
                 end.messages,
                 end.bytes,
