@@ -1,5 +1,7 @@
 pub mod Growing
 pub mod Lengths
+pub mod Moving
+pub mod FrontLaws
 pub mod Gathering
 pub mod Ports
 pub mod Taking

@@ -13,7 +13,7 @@ use Rattle.station_doors.specs.Doors.{Reads, AsPlanned, GivesBytes, given_more, 
 use Rattle.station_doors.proofs.Sessions.{given_more_last}
 use Rattle.station_doors.proofs.ReadLaws.{consumes_then, consumes_none, keeps_consumes, given_on, given_failed, fails_some}
 use Rattle.feed_worker.specs.Connection.{EndsFresh, IsNew, TakesBytes}
-use Rattle.feed_worker.specs.FeedPort.{IsPublished, IsPublishedWhereTold, present_of}
+use Rattle.feed_worker.specs.FeedPort.{IsPresent, IsPublished, IsPublishedWhereTold, present_of}
 
 -- a connection that was opened gave nothing yet
 given_nothing : (a : Option (List Given)) → EndsFresh a → GivesMore a a [] gave
@@ -25,11 +25,19 @@ present_last [] g = refl
 present_last (x ∷ []) g = refl
 present_last (x ∷ y ∷ gs) g = present_last (y ∷ gs) g
 
+-- what the present connection gave, where it had given nothing
+present_more : (gs earlier : List Given) (bytes : List ℕ) → gs ≡ earlier ++ fresh ∷ [] → present_of (given_more gs bytes gave) ≡ bytes
+present_more gs earlier bytes is = ap (λ (l : List Given). present_of (given_more l bytes gave)) is ∙ ap present_of (given_more_last earlier fresh bytes gave) ∙ present_last earlier (record { bytes = bytes; last = gave })
+
+pub present_told : (a b : Option (List Given)) (bytes : List ℕ) → EndsFresh a → GivesMore a b bytes gave → IsPresent b bytes
+present_told None b bytes e g = subst (λ (o : Option (List Given)). IsPresent o bytes) (sym g) tt
+present_told (Some gs) b bytes (earlier, is) g = subst (λ (o : Option (List Given)). IsPresent o bytes) (sym g) (present_more gs earlier bytes is)
+
 -- what is published of the bytes given is published of what the port tells of them
 pub published_told : (meaning : Meaning) (entries : List EntryValue) (a b : Option (List Given)) (bytes : List ℕ) → EndsFresh a → GivesMore a b bytes gave → IsPublished meaning entries bytes → IsPublishedWhereTold meaning entries b
 published_told meaning entries None b bytes e g p = subst (λ (o : Option (List Given)). IsPublishedWhereTold meaning entries o) (sym g) tt
 published_told meaning entries (Some gs) b bytes (earlier, is) g p =
-    let present : present_of (given_more gs bytes gave) ≡ bytes = ap (λ (l : List Given). present_of (given_more l bytes gave)) is ∙ ap present_of (given_more_last earlier fresh bytes gave) ∙ present_last earlier (record { bytes = bytes; last = gave }) in
+    let present : present_of (given_more gs bytes gave) ≡ bytes = present_more gs earlier bytes is in
     subst (λ (o : Option (List Given)). IsPublishedWhereTold meaning entries o) (sym g) (subst (λ (l : List ℕ). IsPublished meaning entries l) (sym present) p)
 
 read_some : (n : ℕ) → n ≢ 0 → read_of n ≡ gave

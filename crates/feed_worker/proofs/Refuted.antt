@@ -1,5 +1,5 @@
 -- What the clauses refuse: for each mistake that someone could make here, its result at one value.
-use Rattle.std.proofs.Common.{◌≡◌, ◌⊎◌, inl, inr, ⊎_elim, ℕ, ◌+◌, ◌≤◌, Bool, true, false, List, [], ◌∷◌, ◌++◌, length, take, refl, sym, ◌∙◌, ap, subst, append-nil, length-append, arith, nat_lt, Some, Result, Ok, Err}
+use Rattle.std.proofs.Common.{◌≡◌, ◌⊎◌, inl, inr, ⊎_elim, ℕ, ◌+◌, ◌≤◌, Bool, true, false, List, [], ◌∷◌, ◌++◌, length, take, get_or, refl, sym, ◌∙◌, ap, subst, append-nil, length-append, arith, nat_lt, Some, Result, Ok, Err}
 use Rattle.std.specs.Prelude.{MatchBool}
 use Rattle.std.proofs.lemmas.List.{length-map, take_at}
 use Rattle.bmp_specs.specs.declared.causes.Cause.{Cause}
@@ -7,7 +7,8 @@ use Rattle.bmp_specs.specs.declared.causes.Cause.TheVariants.{Ended, Full, ReadF
 use Rattle.bmp_specs.specs.Life.{LastRead, gave, failed, IsLife, IsOpenLife}
 use Rattle.bmp_specs.specs.Meaning.{Meaning, IsExact, WalksBy}
 use Rattle.bmp_specs.specs.Values.{EntryValue, opened, message, closed}
-use Rattle.bmp_specs.specs.Walk.{whole}
+use Rattle.bmp_specs.specs.declared.causes.Why.TheVariants.{Version}
+use Rattle.bmp_specs.specs.Walk.{whole, broken}
 use Rattle.bmp_specs.proofs.WalkOne.{walk_one}
 use Rattle.cut_publisher.specs.History.{Fed}
 use Rattle.rib_model.specs.declared.entry.Entry.{Entry}
@@ -19,7 +20,8 @@ use Rattle.feed_worker.specs.Closings.{AreTold}
 use Rattle.feed_worker.specs.Connection.{TakesConnection, IsBegun}
 use Rattle.feed_worker.specs.Feed.{Refuses, ServesAll, Stops, most_entries}
 use Rattle.feed_worker.specs.FeedPort.{IsAtRest, IsPublishedWhereTold}
-use Rattle.feed_worker.specs.Publishing.{Grows}
+use Rattle.feed_worker.specs.Front.{BreaksWhereTold}
+use Rattle.feed_worker.specs.Publishing.{EndsWith, Grows}
 
 -- A meaning of bodies under which each has an entry without effects, and the walk of one Initiation without a TLV.
 abbrev plain : Meaning
@@ -109,3 +111,32 @@ a_lane_asks_for_each_connection : (meaning : Meaning) (old new : Aside) (pass pa
 a_lane_asks_for_each_connection meaning old new pass pass' s count few same going calm =
     let stop = subst (λ (n : ℕ). MatchBool (nat_lt n 4097) (Stops s.after new pass') ((n ≡ 4097) × (new ≡ s.after))) count s.stop in
     ⊎_elim (λ (r : Refuses s.after new). not_refused s.after new r.result r.refused r.opens going (ap (λ (a : Aside). a.open_faults) same ∙ calm) calm) (λ many. absurd (omega (arith, few, many.0))) stop
+
+-- Of a connection that broke behind its first message, in the version, neither that message nor what comes later is told as the
+-- octets, and no other offset.
+abbrev breaks : List ℕ
+breaks = one ++ (4 ∷ 0 ∷ 0 ∷ 0 ∷ 6 ∷ 4 ∷ [])
+
+abbrev broke_of : ℕ → List ℕ → Type 0
+broke_of offset octets = BreaksWhereTold plain (Some (record { bytes = breaks; last = gave } ∷ [])) offset octets
+
+the_first_message_is_not_told : (octets : List ℕ) → broke_of 6 (3 ∷ octets) → ⊥
+the_first_message_is_not_told octets b = absurd (omega (arith, ap (λ (l : List ℕ). get_or l 0 0) b.front))
+
+no_octet_is_left_out : broke_of 6 (4 ∷ []) → ⊥
+no_octet_is_left_out b = absurd (omega (arith, ap length b.front))
+
+the_break_is_at_its_offset : (octets : List ℕ) → broke_of 0 octets → ⊥
+the_break_is_at_its_offset octets b =
+    let there : WalksBy plain breaks (entry ∷ []) 6 (broken Version) =
+    (record { frame = one; rest = 4 ∷ 0 ∷ 0 ∷ 0 ∷ 6 ∷ 4 ∷ []; kind = 4; body = []; next = tt; split = refl; is_frame = record { header = omega arith; version = refl; length_is = refl; in_range = (omega arith, omega arith); kind_is = refl; body_is = refl }; means = refl }, (0, refl, (refl, record { header = omega arith; version = λ e. absurd (omega (arith, e)) }))) in
+    absurd (omega (arith, (walk_one plain.Means exact tt breaks b.messages (entry ∷ []) 0 6 (broken b.why) (broken Version) (b.ends []) there).1))
+
+-- A port isn't told other messages than those that were published last.
+other_messages_are_not_told : EndsWith (opened ∷ entry ∷ []) (opened ∷ []) → ⊥
+other_messages_are_not_told (before, is) = not_last before is
+  where
+    not_last : (before : List EntryValue) → opened ∷ entry ∷ [] ≡ before ++ opened ∷ [] → ⊥
+    not_last [] e = absurd (cc e)
+    not_last (x ∷ []) e = absurd (cc e)
+    not_last (x ∷ y ∷ before) e = absurd (omega (arith, ap length e, length-append before (opened ∷ [])))

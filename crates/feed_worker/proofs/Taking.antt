@@ -18,24 +18,27 @@ use Rattle.station_doors.specs.Doors.{Reads, AsPlanned}
 use Rattle.wire_io.specs.declared.sink.Failed.{Failed}
 use Rattle.wire_io.specs.Aside.{Aside}
 use Rattle.feed_worker.specs.Connection.{IsNew, TakesConnection, BreaksConnection}
-use Rattle.feed_worker.specs.FeedPort.{BeginsAfter, IsPublishedWhereTold}
+use Rattle.feed_worker.specs.FeedPort.{BeginsAfter, IsPresent, IsPublishedWhereTold}
+use Rattle.feed_worker.specs.Front.{IsFront}
 use Rattle.feed_worker.specs.Publishing.{Grows}
 use Rattle.feed_worker.specs.Walking.{HasPublished, Publishes}
-use Rattle.feed_worker.proofs.Ports.{Goes, goes_none, goes_more, takes_going, takes_end, takes_fault, published_told}
+use Rattle.feed_worker.proofs.Ports.{Goes, goes_none, goes_more, takes_going, takes_end, takes_fault, present_told, published_told}
 use Rattle.feed_worker.proofs.Growing.{grows_none, grows_values}
 
--- the bytes taken so far, of a connection that goes on: its opening and their messages are published
-pub record Taking {B : Type 0} (meaning : Meaning) (state : B → meaning.State) (first now : Aside) (pass0 pass : Fed Entry) (taken : ℕ) (walk : WalkValue B) : Type 0 where
+-- the bytes taken so far, of a connection that goes on: its opening and their messages are published, and these are the first
+-- octets beyond them
+pub record Taking {B : Type 0} (meaning : Meaning) (state : B → meaning.State) (first now : Aside) (pass0 pass : Fed Entry) (taken : ℕ) (walk : WalkValue B) (octets : List ℕ) : Type 0 where
   pub bytes : List ℕ
   pub goes : Goes first now bytes taken
   pub published : HasPublished meaning state pass0 pass bytes walk
+  pub front : IsFront bytes walk.offset octets
 
 -- nothing was taken
 nothing_further : (meaning : Meaning) → IsReadNoFurther meaning []
 nothing_further meaning = read_no_further meaning [] [] 0 whole (refl, refl) tt [] (omega arith)
 
-pub taking_none : {B : Type 0} (meaning : Meaning) (state : B → meaning.State) (a : Aside) (pass0 pass : Fed Entry) (walk : WalkValue B) → IsNew a → Grows pass0 pass (entry_values (Opened ∷ [])) → HasReached meaning state [] [] walk → (walk.offset ≡ 0) × (walk.cutter.offset + length walk.cutter.pending ≡ 0) → Taking meaning state a a pass0 pass 0 walk
-taking_none meaning state a pass0 pass walk new grows reached (place, none) = record {
+pub taking_none : {B : Type 0} (meaning : Meaning) (state : B → meaning.State) (a : Aside) (pass0 pass : Fed Entry) (walk : WalkValue B) (octets : List ℕ) → IsNew a → Grows pass0 pass (entry_values (Opened ∷ [])) → HasReached meaning state [] [] walk → (walk.offset ≡ 0) × (walk.cutter.offset + length walk.cutter.pending ≡ 0) → IsFront [] 0 octets → Taking meaning state a a pass0 pass 0 walk octets
+taking_none meaning state a pass0 pass walk octets new grows reached (place, none) front = record {
   bytes = [];
   goes = goes_none a new;
   published = record {
@@ -43,6 +46,7 @@ taking_none meaning state a pass0 pass walk new grows reached (place, none) = re
     given = record { reached = reached; walks = rw (place, none) (refl, refl) };
     grows = grows;
   };
+  front = subst (λ (n : ℕ). IsFront [] n octets) (sym place) front;
 }
 
 -- the front that is published ends where the last read began
@@ -61,7 +65,7 @@ breaks_none meaning began a pass0 pass new same = record {
   grows = subst (λ (p : Fed Entry). Grows pass0 p []) (sym same) (grows_none pass0);
 }
 
-module _ {B : Type 0} (meaning : Meaning) (state : B → meaning.State) (a0 a : Aside) (pass0 pass : Fed Entry) (n : ℕ) (walk : WalkValue B) (t : Taking meaning state a0 a pass0 pass n walk) where
+module _ {B : Type 0} (meaning : Meaning) (state : B → meaning.State) (a0 a : Aside) (pass0 pass : Fed Entry) (n : ℕ) (walk : WalkValue B) (octets : List ℕ) (t : Taking meaning state a0 a pass0 pass n walk octets) where
   -- a walk that waits was read no further
   waits : IsReadNoFurther meaning t.bytes
   waits = subst (λ (l : List ℕ). IsReadNoFurther meaning l) (append-nil t.bytes) (read_no_further meaning t.bytes t.published.messages walk.offset (verdict_with (rest_of walk)) t.published.given.walks (undecided (rest_of walk)) [] (omega arith))
@@ -115,9 +119,14 @@ module _ {B : Type 0} (meaning : Meaning) (state : B → meaning.State) (a0 a : 
     no_further : IsReadNoFurther meaning (t.bytes ++ take m buf)
     no_further = read_no_further meaning t.bytes t.published.messages walk.offset (verdict_with (rest_of walk)) t.published.given.walks (undecided (rest_of walk)) (take m buf) (omega (arith, size, length-take m buf))
 
+    -- they are what the port tells
+    pub is_present : IsNew a0 → IsPresent b.given (t.bytes ++ take m buf)
+    is_present new = present_told a0.given b.given (t.bytes ++ take m buf) new.fresh goes.given
+
     -- all their messages were published, and the walk goes on
-    pub taking_more : (new : Fed Entry) (after : WalkValue B) → Publishes meaning state pass0 new (t.bytes ++ take m buf) after None → Taking meaning state a0 b pass0 new (n + m) after
-    taking_more new after p = record { bytes = t.bytes ++ take m buf; goes = goes; published = record { messages = p.messages; given = p.gives; grows = p.grows } }
+    pub taking_more : (new : Fed Entry) (after : WalkValue B) (beyond : List ℕ) → Publishes meaning state pass0 new (t.bytes ++ take m buf) after None → IsFront (t.bytes ++ take m buf) after.offset beyond
+        → Taking meaning state a0 b pass0 new (n + m) after beyond
+    taking_more new after beyond p front = record { bytes = t.bytes ++ take m buf; goes = goes; published = record { messages = p.messages; given = p.gives; grows = p.grows }; front = front }
 
     -- all their messages were published, and the walk ended
     pub ends_early : (new : Fed Entry) (after : WalkValue B) (cause : Cause) → Publishes meaning state pass0 new (t.bytes ++ take m buf) after (Some cause) → TakesConnection meaning a0 b pass0 new cause

@@ -21,7 +21,12 @@ present_of [] = []
 present_of (g ∷ []) = g.bytes
 present_of (g ∷ h ∷ gs) = present_of (h ∷ gs)
 
--- the same where the connections given are told
+-- the present connection gave these bytes, where the connections given are told
+abbrev pub IsPresent : Option (List Given) → List ℕ → Type 0
+IsPresent None bytes = Unit {0}
+IsPresent (Some given) bytes = present_of given ≡ bytes
+
+-- the entries are published of what the present connection gave, where the connections given are told
 abbrev pub IsPublishedWhereTold : Meaning → List EntryValue → Option (List Given) → Type 0
 IsPublishedWhereTold meaning entries None = Unit {0}
 IsPublishedWhereTold meaning entries (Some given) = IsPublished meaning entries (present_of given)

@@ -5,3 +5,4 @@ pub mod Connection
 pub mod Walking
 pub mod Feed
 pub mod Planned
+pub mod Front

@@ -15,3 +15,7 @@ pub record Grows (old new : Fed Entry) (values : List EntryValue) : Type 0 where
   pub entries : new.entries ≡ old.entries ++ made
   pub seen : Begins old.seen new.seen
   pub unmarked : IsUnmarked old.seen → IsUnmarked new.seen
+
+-- the last of these entries are those
+abbrev pub EndsWith : List EntryValue → List EntryValue → Type 0
+EndsWith entries last = (before : List EntryValue) × (entries ≡ before ++ last)

@@ -8,6 +8,7 @@ ghost use Rattle.feed_worker.specs.Connection.{IsNew, TakesConnection, BreaksCon
 ghost use Rattle.feed_worker.specs.Publishing.{Grows};
 
 use crate::feed_port::FeedPort;
+use crate::front::Front;
 use crate::publishing::{publish_entries, publish_piece};
 use bmp_message::{BodyReading, StreamWalk};
 use bmp_specs::{Cause, MOST_READ, MOST_TAKEN};
@@ -72,6 +73,7 @@ fn take_by<B: BodyReading + Drop, J: Naming, P: FeedPort<B, J>, R: Wait>(
 {
     publish_entries(rt, alloc, publisher, pass, &[Entry::Opened])?;
     let mut buf = [0u8; MOST_READ as usize];
+    let mut front = Front::new();
     let mut taken = 0;
     while taken < MOST_TAKEN {
         let size = MOST_READ.min(MOST_TAKEN - taken) as usize;
@@ -80,7 +82,10 @@ fn take_by<B: BodyReading + Drop, J: Naming, P: FeedPort<B, J>, R: Wait>(
             Ok(count) => {
                 taken += count as u64;
                 let piece = &buf[..count];
-                if let Some(cause) = publish_piece(rt, alloc, publisher, pass, walk, piece)? {
+                let end = publish_piece::<B, J, P, R>(
+                    rt, alloc, publisher, pass, port, walk, &mut front, piece,
+                )?;
+                if let Some(cause) = end {
                     return Ok(cause);
                 }
             }

@@ -6,10 +6,13 @@ ghost use Rattle.wire_io.specs.Aside.{Aside};
 ghost use Rattle.bmp_specs.specs.declared.causes.Cause.{Cause};
 ghost use Rattle.station_doors.specs.Doors.{Opens, Reads, Closes, AsPlanned, read_size, told_after};
 ghost use Rattle.feed_worker.specs.FeedPort.{BeginsAfter, IsAtRest, IsPublishedWhereTold};
+ghost use Rattle.feed_worker.specs.Front.{BreaksWhereTold};
+ghost use Rattle.feed_worker.specs.Publishing.{EndsWith};
 
 use bmp_message::BodyReading;
 use bmp_specs::Cause;
 use cut_publisher::{FeedPass, Naming};
+use rib_model::Entry;
 use router_tables::RouterTables;
 use wire_io::Failed;
 
@@ -57,6 +60,23 @@ pub trait FeedPort<B: BodyReading, J: Naming> {
         ensures reads { Reads (aside self.old) (aside self.new) result buf.new }
         ensures planned { AsPlanned (aside self.old).plan (calls self.old) (calls self.new) result }
         ensures began { BeginsAfter (last_began self.old) (last_began self.new) (aside self.old).taken }
+        ensures causes { causes self.new ≡ causes self.old };
+
+    /// Is told the messages that the last read completed, once the pass has published them: they are its last entries.
+    fn published(&mut self, pass: &FeedPass<RouterTables>, entries: &[Entry])
+        requires { EndsWith (entry_values pass.now.entries) (entry_values entries.now) }
+        ensures aside { aside self.new ≡ aside self.old }
+        ensures calls { calls self.new ≡ calls self.old }
+        ensures began { last_began self.new ≡ last_began self.old }
+        ensures causes { causes self.new ≡ causes self.old };
+
+    /// Is told of the present connection that what stands at this offset is no message, and the first octets from there on,
+    /// at most 64. Where its bytes are told, that is so of the bytes given so far.
+    fn broke(&mut self, offset: u64, octets: &[u8])
+        requires { BreaksWhereTold B.meaning (aside self.old).given offset octets.now }
+        ensures aside { aside self.new ≡ aside self.old }
+        ensures calls { calls self.new ≡ calls self.old }
+        ensures began { last_began self.new ≡ last_began self.old }
         ensures causes { causes self.new ≡ causes self.old };
 
     /// Closes the present connection, as a `Port` does.

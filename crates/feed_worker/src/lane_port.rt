@@ -2,9 +2,11 @@
 ghost use Rattle.std.specs.Prelude.{◌≡◌, None};
 
 use crate::feed_port::FeedPort;
+use crate::peers::tell_entries;
 use bmp_message::BodyReading;
 use bmp_specs::Cause;
 use cut_publisher::{FeedPass, Naming};
+use rib_model::Entry;
 use router_tables::RouterTables;
 use station_doors::{Ended, Port};
 use std::marker::Model;
@@ -84,6 +86,14 @@ impl<P: Port, B: BodyReading, J: Naming> FeedPort<B, J> for LanePort<P> {
 
     fn read(&mut self, _pass: &FeedPass<RouterTables>, buf: &mut [u8]) -> Result<usize, Failed> {
         self.port.read(buf)
+    }
+
+    fn published(&mut self, _pass: &FeedPass<RouterTables>, entries: &[Entry]) {
+        tell_entries(&mut self.port, entries);
+    }
+
+    fn broke(&mut self, _offset: u64, octets: &[u8]) {
+        self.port.broke(octets);
     }
 
     fn close(&mut self) {

@@ -17,9 +17,11 @@
 mod connection;
 mod feed;
 mod feed_port;
+mod front;
 mod lane_port;
 mod lane_yard;
 mod laws;
+mod peers;
 mod publishing;
 
 pub use connection::{close_connection, take_connection};

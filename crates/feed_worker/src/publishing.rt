@@ -4,9 +4,12 @@ ghost use Rattle.bmp_specs.specs.Values.{EntryValue};
 ghost use Rattle.bmp_message.specs.StreamWalk.{HasReached, fed_of, Gives};
 ghost use Rattle.cut_publisher.specs.History.{Fed};
 ghost use Rattle.rib_model.specs.Entries.{entry_values};
+ghost use Rattle.feed_worker.specs.Front.{BreaksIfBroken, IsFront, IsFrontAt, place_of};
 ghost use Rattle.feed_worker.specs.Publishing.{Grows};
 ghost use Rattle.feed_worker.specs.Walking.{HasPublished, HasRoom, Publishes};
 
+use crate::feed_port::FeedPort;
+use crate::front::Front;
 use bmp_message::{BodyReading, Entries, Progress, StreamWalk};
 use bmp_specs::Cause;
 use cut_publisher::{FeedPass, Naming, Publisher, publish_unnoted};
@@ -90,25 +93,65 @@ fn gather<B: BodyReading + Drop>(
     }
 }
 
-/// Feeds a piece of a connection to its walk, and publishes all messages that are whole with it in one step. Tells why
-/// the walk ended, if it did.
-pub(crate) fn publish_piece<B: BodyReading + Drop, J: Naming, R: Wait>(
+// Where the walk stands, or broke.
+fn stands_at<B: BodyReading>(walk: &StreamWalk<B>, end: Option<Cause>) -> u64
+    ensures { result ≡ place_of walk.now.offset end }
+{
+    match end {
+        Some(Cause::Broken { offset, .. }) => offset,
+        _ => walk.offset(),
+    }
+}
+
+// Tells the port of a connection that broke, and with which octets.
+fn tell_break<B: BodyReading, J: Naming, P: FeedPort<B, J>>(
+    port: &mut P,
+    end: Option<Cause>,
+    front: &Front,
+)
+    requires { BreaksIfBroken B.meaning (P.aside port.old).given end front.now.octets }
+    ensures aside { P.aside port.new ≡ P.aside port.old }
+    ensures began { P.last_began port.new ≡ P.last_began port.old }
+    ensures causes { P.causes port.new ≡ P.causes port.old }
+{
+    if let Some(Cause::Broken { offset, .. }) = end {
+        port.broke(offset, front.as_slice());
+    }
+}
+
+/// Feeds a piece of a connection to its walk, publishes all messages that are whole with it in one step, and tells them to the
+/// port. Tells why the walk ended, if it did; where the connection broke the port is told the octets. The front then has the
+/// first octets beyond the messages. Out of memory, nothing is published, and the port is told nothing.
+pub(crate) fn publish_piece<B: BodyReading + Drop, J: Naming, P: FeedPort<B, J>, R: Wait>(
     rt: &R,
     alloc: Global,
     publisher: &Publisher<RouterTables, J>,
     pass: &mut FeedPass<RouterTables>,
+    port: &mut P,
     walk: &mut StreamWalk<B>,
+    front: &mut Front,
     piece: &[u8],
 ) -> Result<Option<Cause>, NoMemory>
     requires station { pass.old.station ≡ J.site }
-    requires room { HasRoom B.meaning B.state pass.old walk.old (length piece.now) }
-    ensures { MatchResult result
+    requires room { HasRoom B.meaning B.state pass.old walk.old (P.aside port.old).given front.old.octets piece.now }
+    ensures published { MatchResult result
         (λ end. (first : Fed Entry) (fed : List ℕ) → HasPublished B.meaning B.state first pass.old fed walk.old
         → Publishes B.meaning B.state first pass.new (fed ++ piece.now) walk.new end)
         (λ _. pass.new ≡ pass.old) }
+    ensures fronts { IfOk result (λ end. (first : Fed Entry) (fed : List ℕ) → HasPublished B.meaning B.state first pass.old fed walk.old → IsFront fed walk.old.offset front.old.octets
+        → IsFrontAt (fed ++ piece.now) walk.new.offset end front.new.octets) }
+    ensures aside { P.aside port.new ≡ P.aside port.old }
+    ensures began { P.last_began port.new ≡ P.last_began port.old }
+    ensures causes { P.causes port.new ≡ P.causes port.old }
 {
+    let from = walk.offset();
+    let given = from + walk.rest();
     walk.feed(piece)?;
     let gathered = gather(alloc, walk)?;
     publish_entries(rt, alloc, publisher, pass, gathered.entries.as_slice())?;
+    port.published(pass, gathered.entries.as_slice());
+    let to = stands_at(walk, gathered.end);
+    front.follow(given, from, to, piece);
+    tell_break::<B, J, P>(port, gathered.end, front);
     Ok(gathered.end)
 }
