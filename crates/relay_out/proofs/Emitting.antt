@@ -21,6 +21,7 @@ further items first rest bytes e f = record {
   rest = f.rest ++ rest;
   split = e ∙ ap (λ (l : List ItemValue). l ++ rest) f.split ∙ append_assoc f.first f.rest rest;
   back = f.back;
+  octets = f.octets;
   are = f.are;
 }
 
@@ -32,7 +33,7 @@ module _ {O : Type 0} (faults : O → ℕ) (told : O → Option (List ℕ)) (asi
   begun_further old new items first rest e b = record { written = b.written; front = further items first rest b.written e b.front; grown = b.grown; kept = b.kept }
 
   nothing_begun : (a : O) (items : List ItemValue) → HasBegun faults told aside a a items
-  nothing_begun a items = record { written = []; front = record { first = []; rest = items; split = refl; back = []; are = refl }; grown = appends_none (told a); kept = refl }
+  nothing_begun a items = record { written = []; front = record { first = []; rest = items; split = refl; back = []; octets = tt; are = refl }; grown = appends_none (told a); kept = refl }
 
   -- whoever judges may be handed anything
   pub any_may : (xs : List ItemValue) → AllByRecursion (λ item. Unit {0}) xs

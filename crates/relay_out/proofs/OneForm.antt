@@ -1,5 +1,6 @@
 -- Of lists of octets one alone has a form: numbers, parts, frames and headers.
 use Rattle.std.proofs.Common.{◌≡◌, ℕ, zero, suc, ◌+◌, ◌*◌, ◌/◌, ◌^◌, ◌<◌, ◌≤◌, Bool, true, false, List, [], ◌∷◌, ◌++◌, length, take, drop, Some, None, refl, sym, ap, subst, ◌∙◌, arith, leb, length-drop, drop-drop, replicate}
+use Rattle.std.specs.List.{AllByRecursion}
 use Rattle.std.specs.Prelude.{if◌then◌else◌, slice_index}
 use Rattle.std.proofs.lemmas.List.{drop_more, length-take-le, take-append-drop}
 use Rattle.std.proofs.lemmas.Nat.{div-mul-add}
@@ -31,6 +32,11 @@ octets_of front rest bytes joined o = all_parts (λ b. b < 256) front rest (subs
 
 pub octets_at : (n : ℕ) (bytes : List ℕ) → AreOctets bytes → AreOctets (take n bytes) × AreOctets (drop n bytes)
 octets_at n bytes o = octets_of (take n bytes) (drop n bytes) bytes (sym (take-append-drop n bytes)) o
+
+-- what holds of the number at each place of a list holds of all
+pub all_at : (P : ℕ → Type 0) (xs : List ℕ) → ((i : ℕ) → P (slice_index xs i)) → AllByRecursion P xs
+all_at P [] at = tt
+all_at P (x ∷ xs) at = (at zero, all_at P xs (λ i. at (suc i)))
 
 octet_at : (xs : List ℕ) → AreOctets xs → (k : ℕ) → slice_index xs k < 256
 octet_at [] o k = omega arith

@@ -1,6 +1,7 @@
 -- What a writer of messages has written, and what it holds back.
 use Rattle.std.specs.Prelude.{◌≡◌, ◌⊎◌, ℕ, List, [], ◌++◌, Option, Result, Ok, Err}
 use Rattle.std.specs.Io.KnownBytes.{Appends}
+use Rattle.bmp_specs.specs.Octets.{AreOctets}
 use Rattle.bmp_specs.specs.Parts.{AreParts}
 use Rattle.bmp_specs.specs.Values.{EffectValue}
 use Rattle.wire_io.specs.Aside.{Aside}
@@ -18,12 +19,13 @@ pub record WriterValue (O : Type 0) : Type 0 where
   pub below : O
   pub held : List ℕ
 
--- the bytes are a front of the first of these messages
+-- the bytes are a front of the first of these messages, and what is missing of these is octets too
 pub record IsFront (items : List ItemValue) (bytes : List ℕ) : Type 0 where
   pub first : List ItemValue
   pub rest : List ItemValue
   pub split : items ≡ first ++ rest
   pub back : List ℕ
+  pub octets : AreOctets back
   pub are : AreParts IsItem (bytes ++ back) first
 
 -- the count of faults rose by one exactly where a write failed, which ended the call

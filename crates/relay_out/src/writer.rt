@@ -1,4 +1,6 @@
 ghost use Rattle.std.specs.Prelude.{◌≡◌, [], ◌++◌, OnOk, IfErr};
+ghost use Rattle.bmp_specs.specs.Octets.{AreOctets};
+ghost use Rattle.wire_io.specs.Writes.{Writes};
 ghost use Rattle.relay_out.specs.Writable.{IsWritable};
 ghost use Rattle.relay_out.specs.Writing.{HasWritten, IsStopped};
 
@@ -16,7 +18,7 @@ use route_runs::RouteTable;
 use std::alloc::Global;
 use std::marker::Model;
 use std::snapshot::Snapshot;
-use wire_io::{ByteList, Sink, write_all};
+use wire_io::{ByteList, Failed, Sink, write_all};
 
 /// So many bytes are gathered before they are written.
 const ENOUGH: usize = 32_768;
@@ -77,6 +79,21 @@ fn octets_of(routes: &[&Route]) -> usize {
     octets
 }
 
+// Writes octets.
+fn write_octets<O: Sink>(out: &mut O, octets: &[u8]) -> Result<(), Failed>
+    ensures writes { Writes O.faults O.told O.aside out.old octets.now result out.new }
+    ensures octets { AreOctets octets.now }
+{
+    write_all(out, octets)
+}
+
+// Whether these octets are enough to be written.
+fn are_enough(octets: &[u8]) -> bool
+    ensures octets { AreOctets octets.now }
+{
+    octets.len() >= ENOUGH
+}
+
 /// Writes messages, gathered to larger pieces.
 pub(crate) struct Writer<O: Sink> {
     alloc: Global,
@@ -119,7 +136,7 @@ impl<O: Sink> Writer<O> {
             → IsStopped O.faults O.told O.aside self.new.first self.new.below items fault) }
         ensures first { self.new.first ≡ self.old.first }
     {
-        write_all(&mut self.out, self.held.as_slice())?;
+        write_octets(&mut self.out, self.held.as_slice())?;
         self.held.truncate(0);
         Ok(())
     }
@@ -150,11 +167,11 @@ impl<O: Sink> Takes for Writer<O> {
     ghost stopped = { λ w items fault. IsStopped O.faults O.told O.aside w.first w.below items fault };
 
     fn take(&mut self, item: &Item<'_>) -> Result<(), EmitFault> {
-        put_item(&mut self.held, self.alloc, item)?;
-        if self.held.as_slice().len() < ENOUGH {
-            return Ok(());
+        if are_enough(self.held.as_slice()) {
+            self.flush()?;
         }
-        self.flush()
+        put_item(&mut self.held, self.alloc, item)?;
+        Ok(())
     }
 
     fn has_taken(&self, table: &RouteTable, key: &PeerKey, view: View, info: &PeerInfo) -> bool {
