@@ -1,6 +1,7 @@
 -- A list of IPv4 pairs and behind it one of IPv6 pairs.
-use Rattle.std.proofs.Common.{◌≡◌, ◌++◌, inl, inr, ◌⊎◌, Bool, true, false, not, cond, List, [], ◌∷◌, Option, None, Some, refl, ap, sym, ◌∙◌, subst}
+use Rattle.std.proofs.Common.{◌≡◌, ◌++◌, inl, inr, ◌⊎◌, Bool, true, false, not, cond, List, [], ◌∷◌, Option, None, Some, refl, ap, sym, ◌∙◌, subst, append-nil}
 use Rattle.std.specs.declared.cmp.Ordering.TheVariants.{Less, Greater}
+use Rattle.std.proofs.lemmas.List.Elements.{filter-append}
 use Rattle.std.specs.BTreeMap.{is_at}
 use Rattle.std.specs.List.{AllByRecursion}
 use Rattle.std.specs.Option.{is_some, option_map}
@@ -9,7 +10,7 @@ use Rattle.bmp_specs.specs.declared.wire.Family.{Family}
 use Rattle.bmp_specs.specs.declared.wire.Family.TheVariants.{V4, V6}
 use Rattle.bmp_specs.specs.Orders.{nlri_cmp}
 use Rattle.bmp_specs.specs.Values.{NlriValue}
-use Rattle.route_runs.specs.Nlri.{IsNlriOf, AreNlri, AreKeys, AreHalves}
+use Rattle.route_runs.specs.Nlri.{IsNlriOf, AreNlri, AreKeys, AreHalves, is_family, is_same, with_family}
 use Rattle.route_runs.specs.Override.{value_at, or_else}
 use Rattle.route_runs.specs.Places.{is_after, is_from, IsFirst, IsFirstPair}
 use Rattle.route_runs.proofs.Merging.{Rising, rising_cons, rising_head, rising_tail}
@@ -91,6 +92,31 @@ rising_both {X = X} (e ∷ es) fs a b r s =
 
 pub rising_cat : {X : Type 0} (es fs : List (NlriValue × X)) → AreHalves es fs → Rising nlri_cmp es → Rising nlri_cmp fs → Rising nlri_cmp (es ++ fs)
 rising_cat es fs h r s = rising_both es fs (keys_are (IsNlriOf V4) es h.low) (keys_are (IsNlriOf V6) fs h.high) r s
+
+-- ---- the pairs of a family
+same_itself : (f : Family) → is_same f f ≡ true
+same_itself V4 = refl
+same_itself V6 = refl
+
+all_kept : {X : Type 0} (family : Family) (es : List (NlriValue × X)) → AllByRecursion (λ (e : NlriValue × X). IsNlriOf family e.0) es → with_family family es ≡ es
+all_kept family [] a = refl
+all_kept family (e ∷ es) a =
+    let kept : is_family family e.0 ≡ true = ap (λ (f : Family). is_same f family) a.0.family ∙ same_itself family in
+    rw (kept, all_kept family es a.1) refl
+
+none_kept : {X : Type 0} (family other : Family) (es : List (NlriValue × X)) → is_same other family ≡ false → AllByRecursion (λ (e : NlriValue × X). IsNlriOf other e.0) es → with_family family es ≡ []
+none_kept family other [] differ a = refl
+none_kept family other (e ∷ es) differ a =
+    let dropped : is_family family e.0 ≡ false = ap (λ (f : Family). is_same f family) a.0.family ∙ differ in
+    rw (dropped, none_kept family other es differ a.1) refl
+
+pub low_of_family : {X : Type 0} (es fs : List (NlriValue × X)) → AreHalves es fs → with_family V4 (es ++ fs) ≡ es
+low_of_family {X = X} es fs h =
+    filter-append (λ (e : NlriValue × X). is_family V4 e.0) es fs ∙ ap (λ l. l ++ with_family V4 fs) (all_kept V4 es (keys_are (IsNlriOf V4) es h.low)) ∙ ap (λ l. es ++ l) (none_kept V4 V6 fs refl (keys_are (IsNlriOf V6) fs h.high)) ∙ append-nil es
+
+pub high_of_family : {X : Type 0} (es fs : List (NlriValue × X)) → AreHalves es fs → with_family V6 (es ++ fs) ≡ fs
+high_of_family {X = X} es fs h =
+    filter-append (λ (e : NlriValue × X). is_family V6 e.0) es fs ∙ ap (λ l. l ++ with_family V6 fs) (none_kept V6 V4 es refl (keys_are (IsNlriOf V4) es h.low)) ∙ all_kept V6 fs (keys_are (IsNlriOf V6) fs h.high)
 
 -- ---- the first pair of a joined list
 module _ {X : Type 0} (es fs : List (NlriValue × X)) (halves : AreHalves es fs) (test : NlriValue → Bool) where

@@ -23,16 +23,6 @@ pub record IsNlriOf (which : Family) (n : NlriValue) : Type 0 where
 abbrev pub AreNlri : {X : Type 0} → List (NlriValue × X) → Type 0
 AreNlri es = (q : NlriValue) → is_some (value_at nlri_cmp q es) ≡ true → IsNlri q
 
--- ---- inside
--- each that a list has passes a test
-abbrev pub AreKeys : {X : Type 0} → (NlriValue → Type 0) → List (NlriValue × X) → Type 0
-AreKeys P es = (q : NlriValue) → is_some (value_at nlri_cmp q es) ≡ true → P q
-
--- a list of IPv4 and one of IPv6
-pub record AreHalves {X : Type 0} (es fs : List (NlriValue × X)) : Type 0 where
-  pub low : AreKeys (IsNlriOf V4) es
-  pub high : AreKeys (IsNlriOf V6) fs
-
 -- whether two families are the same
 abbrev pub is_same : Family → Family → Bool
 is_same V4 V4 = true
@@ -43,6 +33,20 @@ is_same V6 V6 = true
 -- whether an NLRI is of a family
 abbrev pub is_family : Family → NlriValue → Bool
 is_family family n = is_same n.prefix.address.family family
+
+-- the pairs of a family
+abbrev pub with_family : {X : Type 0} → Family → List (NlriValue × X) → List (NlriValue × X)
+with_family family es = filter (λ e. is_family family e.0) es
+
+-- ---- inside
+-- each that a list has passes a test
+abbrev pub AreKeys : {X : Type 0} → (NlriValue → Type 0) → List (NlriValue × X) → Type 0
+AreKeys P es = (q : NlriValue) → is_some (value_at nlri_cmp q es) ≡ true → P q
+
+-- a list of IPv4 and one of IPv6
+pub record AreHalves {X : Type 0} (es fs : List (NlriValue × X)) : Type 0 where
+  pub low : AreKeys (IsNlriOf V4) es
+  pub high : AreKeys (IsNlriOf V6) fs
 
 -- the NLRI of a family
 abbrev pub of_family : Family → List NlriValue → List NlriValue

@@ -6,7 +6,7 @@ ghost use Rattle.std.specs.Option.{option_map};
 ghost use Rattle.bmp_specs.specs.Orders.{nlri_cmp};
 ghost use Rattle.bmp_specs.specs.Prefix.{width_of};
 ghost use Rattle.route_runs.specs.Longest.{IsLongest};
-ghost use Rattle.route_runs.specs.Nlri.{AreNlri};
+ghost use Rattle.route_runs.specs.Nlri.{AreNlri, with_family};
 ghost use Rattle.route_runs.specs.Origins.{when, with_origin};
 ghost use Rattle.route_runs.specs.Override.{value_at};
 ghost use Rattle.route_runs.specs.Places.{is_after, is_from};
@@ -204,6 +204,16 @@ impl RouteTable {
         ensures { result ≡ min (length self.now) 18446744073709551615 }
     {
         self.ipv4.count().saturating_add(self.ipv6.count())
+    }
+
+    /// How many of them are of a family, counted in the same way: the routes of the other aren't walked over.
+    pub fn count_of(&self, family: Family) -> u64
+        ensures { result ≡ min (length (with_family family self.now)) 18446744073709551615 }
+    {
+        match family {
+            Family::V4 => self.ipv4.count(),
+            Family::V6 => self.ipv6.count(),
+        }
     }
 
     /// Whether it is known at once that each route passes a test: the IPv4 ones have a path identifier where `ipv4` is so
