@@ -1,4 +1,4 @@
-ghost use Rattle.std.specs.Prelude.{◌≡◌, ◌↔◌, ◌<◌, ◌≤◌, ◌-◌, List, [], ◌∷◌, IsTrue, IsNone, length, max, nat_lt, option_map, if◌then◌else◌};
+ghost use Rattle.std.specs.Prelude.{◌≡◌, ◌↔◌, ◌<◌, ◌≤◌, ◌-◌, List, [], ◌∷◌, IsTrue, IsNone, Some, length, max, nat_lt, option_map, if◌then◌else◌};
 ghost use Rattle.bmp_specs.specs.ChangeLines.{missed_line, missed_lines};
 ghost use Rattle.bmp_specs.specs.Changes.{Concerns, oldest_kept};
 ghost use Rattle.bmp_specs.specs.QueryReply.{most_told};
@@ -15,10 +15,10 @@ use rib_model::Step;
 /// prefix that is announced or withdrawn. Only the steps that are kept are looked at, each once. `None` where there were
 /// 2^64 - 1 steps or more, since the total says no more then.
 pub fn poll<'a>(recent: &'a Recent<Step>, from: u64, prefix: &Prefix) -> Option<(u64, &'a Step)>
-    ensures kept { recent.now.total < most_told → IsFirst (IsKeptChange recent.now from prefix.now) (option_map change_of result) }
+    ensures kept { recent.now.total < most_told → IsFirst (IsKeptChange recent.now from (Some prefix.now)) (option_map change_of result) }
     ensures most { most_told ≤ recent.now.total → IsNone result }
     // of the last of all steps of a lane
-    ensures changes { (steps : List StepValue) → AreSteps recent.now steps → IsFirst (IsToldChange steps from prefix.now) (option_map change_of result) }
+    ensures changes { (steps : List StepValue) → AreSteps recent.now steps → IsFirst (IsToldChange steps from (Some prefix.now)) (option_map change_of result) }
 {
     let total = recent.total();
     if total == u64::MAX {
@@ -45,7 +45,7 @@ pub fn missed(recent: &Recent<Step>, from: u64) -> u64
 
 // The first change that is kept, from a step on.
 fn first_kept<'a>(recent: &'a Recent<Step>, from: u64, prefix: &Prefix) -> Option<(u64, &'a Step)>
-    ensures { IsFirst (IsKeptChange recent.now from prefix.now) (option_map change_of result) }
+    ensures { IsFirst (IsKeptChange recent.now from (Some prefix.now)) (option_map change_of result) }
 {
     let total = recent.total();
     let oldest = total - recent.len();

@@ -1,4 +1,4 @@
-use Rattle.std.proofs.Common.{◌≡◌, ◌≤◌, ◌<◌, ◌-◌, length, arith, refl, sym}
+use Rattle.std.proofs.Common.{◌≡◌, ◌≤◌, ◌<◌, ◌-◌, length, Some, arith, refl, sym}
 use mathlib.Core.Bool.{false≢true}
 use Rattle.bmp_specs.specs.Changes.{Concerns, oldest_kept}
 use Rattle.recent_ring.proofs.Copies.{item_there}
@@ -16,16 +16,16 @@ returns-then-concerns c =
     let oldest : c.total-total.result - c.len.result ≡ oldest_kept recent.total = omega (arith, c.total-total.ensures.total, c.total-total.ensures.kept, c.len.ensures.len) in
     let concerns : Concerns c.args.prefix.now (step_value c.in-Some.step.now) = c.if-concerns.ensures.0 refl in
     let later : c.args.from - oldest_kept recent.total ≤ c.loop-place.place = omega (arith, oldest, c.saturating_sub-place.ensures, c.loop-place.auto.place) in
-    rw oldest (kept_at recent c.args.from c.args.prefix.now c.loop-place.place c.in-Some.step.now (sym c.in-Some.ensures) concerns later, c.loop-place.invariant)
+    rw oldest (kept_at recent c.args.from (Some c.args.prefix.now) c.loop-place.place c.in-Some.step.now (sym c.in-Some.ensures) concerns later, c.loop-place.invariant)
 
 pub loop-place-preserved : goal.loop-place-preserved
 loop-place-preserved c =
     let recent = c.args.recent.now in
     let within : c.loop-place.place < length recent.items = omega (arith, c.loop-place-test.true, c.len-place-end.ensures.len) in
     elim c.match-get.branch [
-      | in-Some+else-concerns w ↦ stands_from_next recent c.args.from c.args.prefix.now c.loop-place.place w.in-Some.step.now (sym w.in-Some.ensures) (λ concerns. absurd (false≢true (w.if-concerns.ensures.1 concerns))) c.loop-place.invariant
+      | in-Some+else-concerns w ↦ stands_from_next recent c.args.from (Some c.args.prefix.now) c.loop-place.place w.in-Some.step.now (sym w.in-Some.ensures) (λ concerns. absurd (false≢true (w.if-concerns.ensures.1 concerns))) c.loop-place.invariant
       | in_default w ↦ absurd (item_there recent.items c.loop-place.place within (sym w.in_default.ensures))
     ]
 
 pub returns : goal.returns
-returns c = none_past c.args.recent.now c.args.from c.args.prefix.now c.loop-place.place (omega (arith, c.loop-place-test.false, c.len-place-end.ensures.len)) c.loop-place.invariant
+returns c = none_past c.args.recent.now c.args.from (Some c.args.prefix.now) c.loop-place.place (omega (arith, c.loop-place-test.false, c.len-place-end.ensures.len)) c.loop-place.invariant
