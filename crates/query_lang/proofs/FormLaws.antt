@@ -4,7 +4,7 @@ use Rattle.std.specs.Prelude.{IfSome, IfNone}
 use Rattle.bmp_specs.specs.NumberText.{IsNumberText, IsStepText}
 use Rattle.bmp_specs.specs.PeerText.{IsKeyText}
 use Rattle.bmp_specs.specs.PrefixText.{IsPrefixText}
-use Rattle.bmp_specs.specs.Query.{QueryValue, routers, cut, peers, marks, table, count, stats, changes, quit, AreQueryWords, IsSought, IsSelection, IsPeersQuery, IsStatsQuery, IsChangesQuery, ArePeerSelectors, AreSelectors}
+use Rattle.bmp_specs.specs.Query.{QueryValue, routers, cut, peers, marks, table, count, quit, AreQueryWords, IsSought, IsSelection, IsPeersQuery, IsStatsQuery, IsChangesQuery, ArePeerSelectors, AreSelectors}
 use Rattle.bmp_specs.specs.Selection.{SelectValue}
 use Rattle.bmp_specs.specs.Values.{KeyValue, PrefixValue}
 use Rattle.query_lang.specs.Verbs.{verb_of, verb_text}

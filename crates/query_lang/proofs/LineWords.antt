@@ -51,17 +51,23 @@ split_words (b ∷ line) = go (is_space b) refl (split_words line)
     go true e are = All-cons IsWord [] (slice_split is_space line) no_byte are
     go false e are = onto_words b (slice_split is_space line) e are
 
+-- a line is joined of its words, and of no others
+pub line_joined : (line : List ℕ) → All IsWord (words_of line) × (line ≡ join_with_byte space (words_of line))
+unfolding words_of
+line_joined line = (split_words line, sym (join_with_byte-slice_split space line))
+
+pub joined_words : (line : List ℕ) (words : List (List ℕ)) → 0 < length words → All IsWord words → line ≡ join_with_byte space words → words_of line ≡ words
+unfolding words_of
+joined_words line words some are joined = ap (λ (l : List ℕ). slice_split is_space l) joined ∙ split_joined words some are
+
 -- a line of these words is this query, and of no others
 pub is_query : (line : List ℕ) (q : QueryValue) → AreQueryWords q (words_of line) → IsQuery line q
-unfolding words_of
-is_query line q asks = record { words = words_of line; are_words = split_words line; joined = sym (join_with_byte-slice_split space line); asks = asks }
+is_query line q asks = let (are, joined) = line_joined line in record { words = words_of line; are_words = are; joined = joined; asks = asks }
 
 pub query_asks : (line : List ℕ) (q : QueryValue) → IsQuery line q → AreQueryWords q (words_of line)
-unfolding words_of
 query_asks line q is =
     let b = begins q is.words is.asks in
-    let some : 0 < length is.words = omega (arith, ap length b.1) in
-    subst (AreQueryWords q) (sym (ap (λ (l : List ℕ). slice_split is_space l) is.joined ∙ split_joined is.words some is.are_words)) is.asks
+    subst (AreQueryWords q) (sym (joined_words line is.words (omega (arith, ap length b.1)) is.are_words is.joined)) is.asks
 
 -- a text is cut before its first space
 pub cut_word : (text : List ℕ) (at : ℕ) → position (λ b. b == space) text ≡ Some at → words_of text ≡ take at text ∷ further_words (drop at text)

@@ -1,15 +1,24 @@
 -- What a wrong reader would take a line for, and that it isn't what the contract asks for.
-use Rattle.std.proofs.Common.{◌≡◌, ℕ, List, [], ◌∷◌, Some, None, get_or, drop, refl, sym, ap, subst, arith, codes}
+use Rattle.std.proofs.Common.{◌≡◌, ℕ, false, List, [], ◌∷◌, ◌++◌, Some, None, get_or, length, drop, refl, sym, ap, subst, arith, codes}
 use Rattle.std.proofs.lemmas.Bool.{eqb-false}
 use Rattle.bmp_specs.specs.declared.peers.View.TheVariants.{Loc}
 use Rattle.bmp_specs.specs.NumberText.{IsNumberText}
 use Rattle.bmp_specs.specs.PeerText.{IsKeyText, IsViewText}
-use Rattle.bmp_specs.specs.Query.{IsFamilyText, IsQuery, AreSelectors, table, within}
+use Rattle.bmp_specs.specs.PrefixText.{IsPrefixText}
+use Rattle.bmp_specs.specs.Query.{IsFamilyText, AreQueryWords, IsQuery, AreSelectors, QueryValue, table, exact, longest, within, origin, changes}
 use Rattle.bmp_specs.specs.Selection.{SelectValue, select_all}
 use Rattle.bmp_specs.specs.Values.{PrefixValue}
+use Rattle.ask_specs.specs.Asking.{AskValue, plain, steps, TellsRows}
+use Rattle.ask_specs.specs.Offer.{IsOfferedAsk}
+use Rattle.ask_specs.proofs.PlainWords.{plain_front, query_plain}
 use Rattle.query_lang.specs.Reading.{words_of, Takes}
+use Rattle.query_lang.specs.Verbs.{verb_of, verb_text}
+use Rattle.query_lang.specs.declared.verb.Verb.{Verb}
+use Rattle.query_lang.specs.declared.verb.Verb.TheVariants.{Count, Peers, Changes}
+use Rattle.query_lang.proofs.AskWords.{asked_words, asks_nothing, rows_parts, steps_spelled}
 use Rattle.query_lang.proofs.LineWords.{query_asks}
 use Rattle.query_lang.proofs.SelectorLaws.{four_taken, takes_named}
+use Rattle.query_lang.proofs.VerbLaws.{same_verb}
 
 -- a selector that isn't named
 not_taken : {A : Type 0} (word : List ℕ) (IsText : List ℕ → A → Type 0) (first : List ℕ) (others : List (List ℕ)) → (get_or first 0 0 ≡ get_or word 0 0 → ⊥) → Takes word IsText (first ∷ others) None (first ∷ others)
@@ -54,3 +63,81 @@ the_peer_stands_before_the_view select is =
     select (subst (AreSelectors select) (sym rest) asks.are_selectors) in
     let empty : [] ≡ others = none.1 in
     absurd cc
+
+-- ---- what is asked with further words
+-- a line that begins with `steps` is no query
+steps_no_query : (line : List ℕ) (others : List (List ℕ)) → words_of line ≡ codes "steps" ∷ others → (q : QueryValue) → IsQuery line q → ⊥
+steps_no_query line others split q is = plain_front (words_of line) others (codes "steps") (query_plain q (words_of line) (query_asks line q is)) refl split
+
+-- `steps` before a verb whose queries tell no rows
+no_rows_of : (verb : Verb) (line : List ℕ) (others : List (List ℕ)) → ((q : QueryValue) → TellsRows q → verb ≡ verb_of q → ⊥) → words_of line ≡ codes "steps" ∷ verb_text verb ∷ others → (ask : AskValue) → IsOfferedAsk line ask → ⊥
+no_rows_of verb line others none split =
+    asks_nothing line (codes "steps") (verb_text verb ∷ others) split (steps_no_query line (verb_text verb ∷ others) split)
+    (λ _ q are. let (asks, tells) = rows_parts q (verb_text verb ∷ others) are in none q tells (same_verb verb q others asks))
+    (λ e. absurd (omega (arith, ap (λ (w : List ℕ). get_or w 0 0) e)))
+
+count_tells_no_rows : (q : QueryValue) → TellsRows q → Count ≡ verb_of q → ⊥
+count_tells_no_rows (table select) tells e = absurd cc
+count_tells_no_rows (exact prefix select) tells e = absurd cc
+count_tells_no_rows (longest address select) tells e = absurd cc
+count_tells_no_rows (within prefix select) tells e = absurd cc
+count_tells_no_rows (origin number select) tells e = absurd cc
+count_tells_no_rows _ tells e = absurd tells
+
+peers_tells_no_rows : (q : QueryValue) → TellsRows q → Peers ≡ verb_of q → ⊥
+peers_tells_no_rows (table select) tells e = absurd cc
+peers_tells_no_rows (exact prefix select) tells e = absurd cc
+peers_tells_no_rows (longest address select) tells e = absurd cc
+peers_tells_no_rows (within prefix select) tells e = absurd cc
+peers_tells_no_rows (origin number select) tells e = absurd cc
+peers_tells_no_rows _ tells e = absurd tells
+
+-- A number of rows has no lanes' steps before it.
+steps_stand_before_no_count : (ask : AskValue) → IsOfferedAsk (codes "steps count") ask → ⊥
+unfolding words_of
+steps_stand_before_no_count = no_rows_of Count (codes "steps count") [] count_tells_no_rows refl
+
+-- Nor have the peers.
+steps_stand_before_no_peers : (ask : AskValue) → IsOfferedAsk (codes "steps peers") ask → ⊥
+unfolding words_of
+steps_stand_before_no_peers = no_rows_of Peers (codes "steps peers") [] peers_tells_no_rows refl
+
+-- Who passes over `steps` asks for the rows alone.
+steps_is_not_passed_over : (q : QueryValue) → IsOfferedAsk (codes "steps table") (plain q) → ⊥
+unfolding words_of
+steps_is_not_passed_over q is = plain_front (words_of (codes "steps table")) (codes "table" ∷ []) (codes "steps") (query_plain q (words_of (codes "steps table")) (asked_words (codes "steps table") (plain q) is.is_ask)) refl refl
+
+-- Who passes over the prefix asks for all changes.
+the_prefix_is_not_passed_over : (lane from : ℕ) → IsOfferedAsk (codes "changes 0 1 10.0.0.0/8") (steps false lane from None) → ⊥
+unfolding words_of
+the_prefix_is_not_passed_over lane from is =
+    let line = codes "changes 0 1 10.0.0.0/8" in
+    let e = steps_spelled lane from (words_of line) (asked_words line (steps false lane from None) is.is_ask) in
+    omega (arith, ap length e)
+
+no_prefix : (p : PrefixValue) → IsPrefixText [] p → ⊥
+no_prefix p is = empty is.front is.back is.spelled
+  where
+    empty : (front back : List ℕ) → [] ≡ front ++ (47 ∷ back) → ⊥
+    empty [] back e = absurd cc
+    empty (b ∷ front) back e = absurd cc
+
+as_changes : (q : QueryValue) → Changes ≡ verb_of q → (a : ℕ × ℕ × PrefixValue) × (q ≡ changes a.0 a.1 a.2)
+as_changes (changes lane from prefix) e = ((lane, from, prefix), refl)
+as_changes q e = absurd cc
+
+-- A space behind the number is the front of a prefix that is none.
+nothing_follows_the_number : (ask : AskValue) → IsOfferedAsk (codes "changes 0 1 ") ask → ⊥
+unfolding words_of
+nothing_follows_the_number =
+    let line = codes "changes 0 1 " in
+    let others : List (List ℕ) = codes "0" ∷ codes "1" ∷ [] ∷ [] in
+    asks_nothing line (codes "changes") others refl
+    (λ q is.
+    let asks = query_asks line q is in
+    let (a, same) = as_changes q (same_verb Changes q others asks) in
+    let three = subst (λ (v : QueryValue). AreQueryWords v (codes "changes" ∷ others)) same asks in
+    let last : three.prefix_text ≡ [] = sym (ap (λ (l : List (List ℕ)). get_or l 3 []) three.spelled) in
+    no_prefix a.2 (subst (λ (t : List ℕ). IsPrefixText t a.2) last three.is_prefix))
+    (λ e. absurd (omega (arith, ap (λ (w : List ℕ). get_or w 0 0) e)))
+    (λ _ lane from are. omega (arith, ap length (steps_spelled lane from (codes "changes" ∷ others) are)))

@@ -1,4 +1,5 @@
 pub mod Queries
+pub mod Asks
 pub mod QueryText
 pub mod Verbs
 pub mod Reading

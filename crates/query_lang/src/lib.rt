@@ -1,15 +1,20 @@
 //! Our query language: one line of words asks for rows of the tables.
 //!
 //! A line is words with exactly one space between two of them: a word for what is asked, what is sought,
-//! and selectors in a fixed order, `router N`, `peer KEY`, `view V` and `family F`. No call takes memory.
+//! and selectors in a fixed order, `router N`, `peer KEY`, `view V` and `family F`. Two further forms ask
+//! for what a copy of a lane's rows needs: `steps` before a query that tells rows, and `changes` without a
+//! prefix. No call takes memory.
 //!
-//! Proved: `parse` reads a line exactly where it is a query, and as the one query that it is;
+//! Proved: `parse` reads a line exactly where it is a query, and as the one query that it is; `parse_ask`
+//! reads it exactly where it asks something that is offered, and a query as that query;
 //! `Query::put_text` writes the one canonical line of a query, which is that query again.
-//! Begin with `specs/Query.antt` of `bmp_specs`, which has the grammar, then `src/query.rt` and
-//! `src/line.rt`.
+//! Begin with `specs/Query.antt` of `bmp_specs` and `specs/Offer.antt` of `ask_specs`, which have the
+//! grammar, then `src/query.rt`, `src/ask.rt` and `src/line.rt`.
 #![tactic(auto)]
 
+mod ask;
 mod forms;
+mod further;
 mod line;
 mod put;
 mod query;
@@ -18,8 +23,9 @@ mod selectors;
 mod verb;
 mod words;
 
+pub use ask::{Ask, RowQuery};
 pub use bmp_specs::{Family, View};
-pub use line::parse;
+pub use line::{parse, parse_ask};
 pub use query::Query;
 pub use select::Select;
 pub use wire_io::{Failed, Sink};

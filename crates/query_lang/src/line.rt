@@ -1,8 +1,13 @@
-ghost use Rattle.std.specs.Prelude.{◌≡◌, IfSome, IfNone};
+ghost use Rattle.std.specs.Prelude.{◌≡◌, IfSome, IfNone, IsSomeAnd};
+ghost use Rattle.ask_specs.specs.Asking.{AskValue, plain};
+ghost use Rattle.ask_specs.specs.Offer.{IsOfferedAsk};
 ghost use Rattle.bmp_specs.specs.Query.{QueryValue, IsQuery};
+ghost use Rattle.query_lang.specs.Asks.{ask_value};
 ghost use Rattle.query_lang.specs.Queries.{query_value};
 
+use crate::ask::Ask;
 use crate::forms::read_form;
+use crate::further::{lane_and_step, row_query};
 use crate::query::Query;
 use crate::verb::Verb;
 use crate::words::split_word;
@@ -20,4 +25,32 @@ pub fn parse(line: &[u8]) -> Option<Query>
         Some(verb) => read_form(verb, rest),
         None => None,
     }
+}
+
+/// Reads a line, without its end, as what it asks for: a query, as `parse` reads it, or `steps` and a
+/// query that tells rows, or `changes` with a lane and the number of a step alone. A line asks one thing
+/// at most. None exactly where the line asks nothing that is offered.
+pub fn parse_ask(line: &[u8]) -> Option<Ask>
+    ensures some { IfSome result (λ a. IsOfferedAsk line.now (ask_value a)) }
+    ensures only { IfSome result (λ a. (v : AskValue) → IsOfferedAsk line.now v → v ≡ ask_value a) }
+    ensures none { IfNone result ((v : AskValue) → IsOfferedAsk line.now v → ⊥) }
+    ensures keeps { (v : QueryValue) → IsQuery line.now v → IsSomeAnd result (λ a. ask_value a ≡ plain v) }
+{
+    if let Some(query) = parse(line) {
+        return Some(Ask::Query(query));
+    }
+    let (word, rest) = split_word(line);
+    if word == b"steps".as_slice() {
+        return match row_query(rest) {
+            Some(rows) => Some(Ask::Steps(rows)),
+            None => None,
+        };
+    }
+    if word == b"changes".as_slice() {
+        return match lane_and_step(rest) {
+            Some((lane, from)) => Some(Ask::Changes { lane, from }),
+            None => None,
+        };
+    }
+    None
 }

@@ -1,0 +1,55 @@
+ghost use Rattle.std.specs.Prelude.{◌≡◌, IfSome, IfNone};
+ghost use Rattle.ask_specs.specs.Asking.{TellsRows};
+ghost use Rattle.query_lang.specs.Asks.{row_query_value};
+ghost use Rattle.query_lang.specs.Queries.{query_value};
+
+use crate::query::Query;
+use crate::select::Select;
+use ip_prefix::{Addr, Prefix};
+
+/// A query that tells rows, each by a line of its own.
+#[derive(Clone, Copy, Debug, PartialEq, Eq)]
+pub enum RowQuery {
+    /// `table`: the rows.
+    Table(Select),
+
+    /// `prefix P`: the rows of this prefix.
+    Exact(Prefix, Select),
+
+    /// `match A`: the rows of the longest prefixes that hold the address.
+    Longest(Addr, Select),
+
+    /// `within P`: the rows of the prefixes that lie within this one.
+    Within(Prefix, Select),
+
+    /// `origin N`: the rows whose path has this origin AS.
+    Origin(u32, Select),
+}
+
+/// What a line asks for: a query, or one of the two further forms that are offered.
+#[derive(Clone, Copy, Debug, PartialEq, Eq)]
+pub enum Ask {
+    /// A query.
+    Query(Query),
+
+    /// `steps`, and a query: the rows, and before those of each lane the number of its steps.
+    Steps(RowQuery),
+
+    /// `changes N S`: all changes on a lane, from the step of number S on.
+    Changes { lane: u32, from: u64 },
+}
+
+// The query as one that tells rows. None exactly where it tells none.
+pub(crate) fn rows_of(query: &Query) -> Option<RowQuery>
+    ensures some { IfSome result (λ rows. row_query_value rows ≡ query_value query.now) }
+    ensures none { IfNone result (TellsRows (query_value query.now) → ⊥) }
+{
+    match query {
+        Query::Table(select) => Some(RowQuery::Table(*select)),
+        Query::Exact(prefix, select) => Some(RowQuery::Exact(*prefix, *select)),
+        Query::Longest(address, select) => Some(RowQuery::Longest(*address, *select)),
+        Query::Within(prefix, select) => Some(RowQuery::Within(*prefix, *select)),
+        Query::Origin(number, select) => Some(RowQuery::Origin(*number, *select)),
+        _ => None,
+    }
+}
