@@ -2,18 +2,21 @@
 use Rattle.std.proofs.Common.{◌≡◌, ℕ, zero, suc, ◌+◌, ◌<◌, List, length, Option, Result, refl, sym, ap, ◌∙◌, subst, arith}
 use Rattle.std.specs.Prelude.{slice_index_or}
 use Rattle.std.proofs.lemmas.List.{length-map}
-use Rattle.bmp_specs.specs.Query.{QueryValue, quit}
-use Rattle.bmp_specs.specs.QueryReply.{IsReply}
+use Rattle.ask_specs.specs.Asking.{plain}
+use Rattle.ask_specs.specs.AskReply.{IsAskReply}
+use Rattle.bmp_specs.specs.Query.{quit}
 use Rattle.bmp_specs.specs.Values.{EntryValue}
 use Rattle.cut_publisher.specs.declared.history.Event.{Event}
 use Rattle.cut_publisher.specs.History.{part}
+use Rattle.query_lang.specs.Asks.{ask_value}
+use Rattle.query_lang.specs.declared.ask.Ask.{Ask}
 use Rattle.rib_model.specs.declared.entry.Entry.{Entry}
 use Rattle.rib_model.specs.Entries.{entry_value, entry_values}
 use Rattle.router_tables.specs.Tables.{TablesValue}
 use Rattle.wire_io.specs.declared.sink.Failed.{Failed}
 use Rattle.wire_io.specs.Aside.{Aside}
-use Rattle.query_eval.proofs.RepliesThere.{reply_there}
-use Rattle.query_eval.specs.Replies.{PutsText, PutsReply, StandsForLane, StandForLanes, StandsForHistory, IsReplyOn, lanes_from, lanes_of}
+use Rattle.query_eval.proofs.RepliesThere.{ask_reply_there}
+use Rattle.query_eval.specs.Replies.{PutsText, PutsReply, StandsForLane, StandForLanes, StandsForHistory, IsAskReplyOn, lanes_from, lanes_of}
 
 lanes_count : (first n : ℕ) (history : List (Event Entry)) → length (lanes_from first n history) ≡ n
 lanes_count first zero history = refl
@@ -35,12 +38,12 @@ stand_for_lanes cut history stands = record {
       (record { tables = lane.value; count = lane.count ∙ sym (length-map (part k history) entry_value) });
 }
 
-module _ {O : Type 0} {faults : O → ℕ} {told : O → Option (List ℕ)} {aside : O → Aside} (cut : List (TablesValue × ℕ)) (query : QueryValue) where
+module _ {O : Type 0} {faults : O → ℕ} {told : O → Option (List ℕ)} {aside : O → Aside} (cut : List (TablesValue × ℕ)) (ask : Ask) where
   -- a reply by the entries of each lane is one on each history that the cut stands for
-  pub reply_of_history : (a b : O) (r : Result (Unit {0}) Failed) → (query ≡ quit → ⊥) → PutsText faults told aside (StandForLanes cut) (IsReply query) a r b
-      → (history : List (Event Entry)) → StandsForHistory cut history → PutsReply faults told aside (IsReplyOn query (length cut) history) a r b
+  pub reply_of_history : (a b : O) (r : Result (Unit {0}) Failed) → (ask_value ask ≡ plain quit → ⊥) → PutsText faults told aside (StandForLanes cut) (IsAskReply (ask_value ask)) a r b
+      → (history : List (Event Entry)) → StandsForHistory cut history → PutsReply faults told aside (IsAskReplyOn (ask_value ask) (length cut) history) a r b
   reply_of_history a b r asks p history stands =
       let lanes = lanes_of (length cut) history in
       let stand = stand_for_lanes cut history stands in
-      let h = reply_there cut query lanes asks stand in
+      let h = ask_reply_there cut ask lanes asks stand in
       record { text = h.0; is_reply = h.1; written = p.puts lanes h.0 stand h.1 }

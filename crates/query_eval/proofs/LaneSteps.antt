@@ -1,14 +1,16 @@
 -- The lines of all lanes, lane after lane.
-use Rattle.std.proofs.Common.{◌≡◌, inl, inr, ℕ, zero, suc, ◌+◌, ◌<◌, ◌≤◌, Bool, true, false, List, [], ◌∷◌, ◌++◌, length, drop, Option, Result, Ok, Err, refl, sym, ap, ◌∙◌, subst, arith}
+use Rattle.std.proofs.Common.{◌≡◌, inl, inr, ℕ, zero, suc, ◌+◌, ◌<◌, ◌≤◌, Bool, true, false, List, [], ◌∷◌, ◌++◌, length, drop, Option, Some, Result, Ok, Err, refl, sym, ap, ◌∙◌, subst, arith}
 use mathlib.Core.Bool.{false≢true}
 use Rattle.std.specs.Prelude.{MatchBool, flat_map, slice_index_or, ◌==◌}
 use Rattle.std.specs.Result.{is_err}
 use Rattle.std.proofs.lemmas.Bool.{eq-eqb}
 use Rattle.std.proofs.lemmas.Bool.Decides.{eqb_tells}
 use Rattle.std.proofs.lemmas.List.{at_drop_more, drop_all, length-append}
+use Rattle.ask_specs.specs.Asking.{steps}
+use Rattle.ask_specs.specs.AskReply.{AreAskedChangeLines, AreAskedLaneLines}
 use Rattle.bmp_specs.specs.Listed.{AreParallel}
 use Rattle.bmp_specs.specs.Query.{QueryValue, changes}
-use Rattle.bmp_specs.specs.QueryReply.{AreChangeLines, AreLaneLines, AreLines}
+use Rattle.bmp_specs.specs.QueryReply.{AreChangeLines, AreLaneLines}
 use Rattle.bmp_specs.specs.Reply.{told_count}
 use Rattle.bmp_specs.specs.Rows.{RowValue}
 use Rattle.bmp_specs.specs.Values.{EntryValue, PrefixValue}
@@ -17,7 +19,7 @@ use Rattle.wire_io.specs.declared.sink.Failed.{Failed}
 use Rattle.wire_io.specs.Aside.{Aside}
 use Rattle.wire_io.specs.Faults.{HasCause}
 use Rattle.query_eval.specs.Puts.{WritesLines, PutsLines, AreAskedRows, CountsRows}
-use Rattle.query_eval.specs.Replies.{StandsForLane, StandForLanes, CountsAllRows}
+use Rattle.query_eval.specs.Replies.{StandsForLane, StandForLanes, AreLanes, CountsAllRows}
 use Rattle.query_eval.proofs.Leading.{LeadsTo, leads_begin, leads_on, leads_failed, leads_end, lines_as, puts_own, no_lines}
 
 pub same_number : (m n : ℕ) → m ≡ n → (m == n) ≡ true
@@ -44,20 +46,30 @@ module _ {O : Type 0} {faults : O → ℕ} {told : O → Option (List ℕ)} {asi
   pub puts_of_count : (lane : TablesValue × ℕ) (AreThese : List EntryValue → List (List ℕ) → Type 0) (a b : O) (r : Result ℕ Failed) → PutsLines faults told aside (λ es. lane.1 ≡ length es) AreThese a r b → PutsLines faults told aside (StandsForLane lane) AreThese a r b
   puts_of_count lane AreThese a b r p = puts_as (λ es. lane.1 ≡ length es) (StandsForLane lane) AreThese AreThese a b r (λ e s. s.count) (λ e l t. t) p
 
-  -- changes are told of the lane of this number alone
-  module _ (number lane from : ℕ) (prefix : PrefixValue) (tables : TablesValue) where
-    pub changes_elsewhere : (a : O) → (number == lane) ≡ false → PutsLines faults told aside (StandsFor tables) (AreLaneLines (changes number from prefix) lane) a (Ok 0) a
+  -- steps are told of the lane of this number alone
+  module _ (number lane from : ℕ) (prefix : Option PrefixValue) (tables : TablesValue) where
+    pub changes_elsewhere : (a : O) → (number == lane) ≡ false → PutsLines faults told aside (StandsFor tables) (AreAskedLaneLines (steps false number from prefix) lane) a (Ok 0) a
     changes_elsewhere a other =
-        puts_own (StandsFor tables) (AreLaneLines (changes number from prefix) lane) [] a a (Ok 0)
-        (λ entries stands. subst (λ (b : Bool). MatchBool b (AreChangeLines lane entries from prefix []) (no_line ≡ [])) (sym other) refl) (λ entries xs ys p q. none entries xs p ∙ sym (none entries ys q)) (no_lines a [] refl)
+        puts_own (StandsFor tables) (AreAskedLaneLines (steps false number from prefix) lane) [] a a (Ok 0)
+        (λ entries stands. subst (λ (b : Bool). MatchBool b (AreAskedChangeLines false lane entries from prefix []) (no_line ≡ [])) (sym other) refl) (λ entries xs ys p q. none entries xs p ∙ sym (none entries ys q)) (no_lines a [] refl)
       where
-        none : (entries : List EntryValue) (xs : List (List ℕ)) → AreLaneLines (changes number from prefix) lane entries xs → xs ≡ []
-        none entries xs p = let q : MatchBool false (AreChangeLines lane entries from prefix xs) (xs ≡ []) = subst (λ (b : Bool). MatchBool b (AreChangeLines lane entries from prefix xs) (xs ≡ [])) other p in q
+        none : (entries : List EntryValue) (xs : List (List ℕ)) → AreAskedLaneLines (steps false number from prefix) lane entries xs → xs ≡ []
+        none entries xs p = let q : MatchBool false (AreAskedChangeLines false lane entries from prefix xs) (xs ≡ []) = subst (λ (b : Bool). MatchBool b (AreAskedChangeLines false lane entries from prefix xs) (xs ≡ [])) other p in q
 
-    pub changes_here : (a b : O) (r : Result ℕ Failed) → (number == lane) ≡ true → PutsLines faults told aside (StandsFor tables) (λ entries. AreChangeLines lane entries from prefix) a r b → PutsLines faults told aside (StandsFor tables) (AreLaneLines (changes number from prefix) lane) a r b
+    pub changes_here : (a b : O) (r : Result ℕ Failed) → (number == lane) ≡ true → PutsLines faults told aside (StandsFor tables) (λ entries. AreAskedChangeLines false lane entries from prefix) a r b → PutsLines faults told aside (StandsFor tables) (AreAskedLaneLines (steps false number from prefix) lane) a r b
     changes_here a b r same p =
-        puts_as (StandsFor tables) (StandsFor tables) (λ entries. AreChangeLines lane entries from prefix) (AreLaneLines (changes number from prefix) lane) a b r (λ e s. s)
-        (λ e lines t. let q : MatchBool true (AreChangeLines lane e from prefix lines) (lines ≡ []) = subst (λ (b : Bool). MatchBool b (AreChangeLines lane e from prefix lines) (lines ≡ [])) same t in q) p
+        puts_as (StandsFor tables) (StandsFor tables) (λ entries. AreAskedChangeLines false lane entries from prefix) (AreAskedLaneLines (steps false number from prefix) lane) a b r (λ e s. s)
+        (λ e lines t. let q : MatchBool true (AreAskedChangeLines false lane e from prefix lines) (lines ≡ []) = subst (λ (b : Bool). MatchBool b (AreAskedChangeLines false lane e from prefix lines) (lines ≡ [])) same t in q) p
+
+  -- the changes of a prefix are among them, in the words of a query
+  pub plain_changes : (number lane from : ℕ) (prefix : PrefixValue) (tables : TablesValue) (a b : O) (r : Result ℕ Failed) → PutsLines faults told aside (StandsFor tables) (AreAskedLaneLines (steps false number from (Some prefix)) lane) a r b
+      → PutsLines faults told aside (StandsFor tables) (AreLaneLines (changes number from prefix) lane) a r b
+  plain_changes number lane from prefix tables a b r p =
+      puts_as (StandsFor tables) (StandsFor tables) (AreAskedLaneLines (steps false number from (Some prefix)) lane) (AreLaneLines (changes number from prefix) lane) a b r (λ e s. s) (λ e lines t. go e lines (number == lane) t) p
+    where
+      go : (entries : List EntryValue) (lines : List (List ℕ)) (b : Bool) → MatchBool b (AreChangeLines lane entries from prefix lines) (lines ≡ []) → MatchBool b (AreAskedChangeLines false lane entries from (Some prefix) lines) (lines ≡ [])
+      go entries lines true t = record { known = t.known; are_known = t.are_known; told = t.told }
+      go entries lines false t = t
 
 -- ---- all lanes
 -- what each item has is a list of as many
@@ -81,14 +93,14 @@ parts_over parts i over = ap (flat_map (λ p. p)) (drop_all i parts over)
 
 -- The lines of the first lanes were written and counted, whichever their entries are: to write those of the others is to
 -- write all.
-pub record LanesSoFar {O : Type 0} (faults : O → ℕ) (told : O → Option (List ℕ)) (aside : O → Aside) (cut : List (TablesValue × ℕ)) (query : QueryValue) (start now : O) (lane count : ℕ) : Type 0 where
-  pub leads : (lanes : List (List EntryValue)) (parts : List (List (List ℕ))) → StandForLanes cut lanes → AreParallel (AreLaneLines query) lanes parts
+pub record LanesSoFar {O : Type 0} (faults : O → ℕ) (told : O → Option (List ℕ)) (aside : O → Aside) (cut : List (TablesValue × ℕ)) (Fit : ℕ → List EntryValue → List (List ℕ) → Type 0) (start now : O) (lane count : ℕ) : Type 0 where
+  pub leads : (lanes : List (List EntryValue)) (parts : List (List (List ℕ))) → StandForLanes cut lanes → AreParallel Fit lanes parts
       → LeadsTo faults told aside start now count (flat_map (λ p. p) (drop lane parts)) (flat_map (λ p. p) parts)
   pub kept : aside now ≡ aside start
   pub calm : faults now ≡ faults start
 
-module _ {O : Type 0} {faults : O → ℕ} {told : O → Option (List ℕ)} {aside : O → Aside} (cut : List (TablesValue × ℕ)) (query : QueryValue) where
-  pub lanes_begin : (a : O) → LanesSoFar faults told aside cut query a a 0 0
+module _ {O : Type 0} {faults : O → ℕ} {told : O → Option (List ℕ)} {aside : O → Aside} (cut : List (TablesValue × ℕ)) (Fit : ℕ → List EntryValue → List (List ℕ) → Type 0) where
+  pub lanes_begin : (a : O) → LanesSoFar faults told aside cut Fit a a 0 0
   lanes_begin a = record {
     leads = λ lanes parts stand are. leads_begin a (flat_map (λ p. p) parts);
     kept = refl;
@@ -96,23 +108,23 @@ module _ {O : Type 0} {faults : O → ℕ} {told : O → Option (List ℕ)} {asi
   }
 
   -- a lane's own lines, of a cut
-  module _ (a b c : O) (lane n : ℕ) (tables : TablesValue) (entries : ℕ) (r : Result ℕ Failed) (small : lane < length cut) (tables_are : (d : TablesValue × ℕ) → tables ≡ (slice_index_or cut lane d).0) (entries_are : (d : TablesValue × ℕ) → entries ≡ (slice_index_or cut lane d).1) (so_far : LanesSoFar faults told aside cut query a b lane n)
-      (puts : PutsLines faults told aside (StandsForLane (tables, entries)) (AreLaneLines query lane) b r c) where
+  module _ (a b c : O) (lane n : ℕ) (tables : TablesValue) (entries : ℕ) (r : Result ℕ Failed) (small : lane < length cut) (tables_are : (d : TablesValue × ℕ) → tables ≡ (slice_index_or cut lane d).0) (entries_are : (d : TablesValue × ℕ) → entries ≡ (slice_index_or cut lane d).1) (so_far : LanesSoFar faults told aside cut Fit a b lane n)
+      (puts : PutsLines faults told aside (StandsForLane (tables, entries)) (Fit lane) b r c) where
     stands_there : (lanes : List (List EntryValue)) (d : List EntryValue) → StandForLanes cut lanes → StandsForLane (tables, entries) (slice_index_or lanes lane d)
     stands_there lanes d stand =
         let x : TablesValue × ℕ = (tables, entries) in
         subst (λ (y : TablesValue × ℕ). StandsForLane y (slice_index_or lanes lane d)) (λ i. (sym (tables_are x) i, sym (entries_are x) i)) (stand.each lane x d small)
 
-    lines_there : (lanes : List (List EntryValue)) (parts : List (List (List ℕ))) → StandForLanes cut lanes → AreParallel (AreLaneLines query) lanes parts → WritesLines faults told aside b (slice_index_or parts lane []) r c
+    lines_there : (lanes : List (List EntryValue)) (parts : List (List (List ℕ))) → StandForLanes cut lanes → AreParallel Fit lanes parts → WritesLines faults told aside b (slice_index_or parts lane []) r c
     lines_there lanes parts stand are =
         puts.puts (slice_index_or lanes lane []) (slice_index_or parts lane []) (stands_there lanes [] stand) (are.each lane [] [] (let m = stand.count in omega (arith, m, small)))
 
-    split_there : (lanes : List (List EntryValue)) (parts : List (List (List ℕ))) → StandForLanes cut lanes → AreParallel (AreLaneLines query) lanes parts
+    split_there : (lanes : List (List EntryValue)) (parts : List (List (List ℕ))) → StandForLanes cut lanes → AreParallel Fit lanes parts
         → flat_map (λ p. p) (drop lane parts) ≡ slice_index_or parts lane [] ++ flat_map (λ p. p) (drop (lane + 1) parts)
     split_there lanes parts stand are = parts_first parts lane [] (let m = stand.count in let k = are.count in omega (arith, m, k, small))
 
-  pub lanes_on : (a b c : O) (lane n k m : ℕ) (tables : TablesValue) (entries : ℕ) → lane < length cut → ((d : TablesValue × ℕ) → tables ≡ (slice_index_or cut lane d).0) → ((d : TablesValue × ℕ) → entries ≡ (slice_index_or cut lane d).1) → LanesSoFar faults told aside cut query a b lane n
-      → PutsLines faults told aside (StandsForLane (tables, entries)) (AreLaneLines query lane) b (Ok k) c → m ≡ told_count (n + k) → LanesSoFar faults told aside cut query a c (lane + 1) m
+  pub lanes_on : (a b c : O) (lane n k m : ℕ) (tables : TablesValue) (entries : ℕ) → lane < length cut → ((d : TablesValue × ℕ) → tables ≡ (slice_index_or cut lane d).0) → ((d : TablesValue × ℕ) → entries ≡ (slice_index_or cut lane d).1) → LanesSoFar faults told aside cut Fit a b lane n
+      → PutsLines faults told aside (StandsForLane (tables, entries)) (Fit lane) b (Ok k) c → m ≡ told_count (n + k) → LanesSoFar faults told aside cut Fit a c (lane + 1) m
   lanes_on a b c lane n k m tables entries small tables_are entries_are so_far puts more_is = record {
     leads = λ lanes parts stand are.
         leads_on a b c n k m (slice_index_or parts lane []) (flat_map (λ p. p) (drop (lane + 1) parts)) (flat_map (λ p. p) (drop lane parts)) (flat_map (λ p. p) parts) (so_far.leads lanes parts stand are)
@@ -121,8 +133,8 @@ module _ {O : Type 0} {faults : O → ℕ} {told : O → Option (List ℕ)} {asi
     calm = puts.cause.fine ∙ so_far.calm;
   }
 
-  pub lanes_failed : (a b c : O) (lane n : ℕ) (tables : TablesValue) (entries : ℕ) (d : Failed) (r : Result ℕ Failed) → lane < length cut → ((x : TablesValue × ℕ) → tables ≡ (slice_index_or cut lane x).0) → ((x : TablesValue × ℕ) → entries ≡ (slice_index_or cut lane x).1) → LanesSoFar faults told aside cut query a b lane n
-      → PutsLines faults told aside (StandsForLane (tables, entries)) (AreLaneLines query lane) b (Err d) c → is_err r ≡ true → PutsLines faults told aside (StandForLanes cut) (AreLines query) a r c
+  pub lanes_failed : (a b c : O) (lane n : ℕ) (tables : TablesValue) (entries : ℕ) (d : Failed) (r : Result ℕ Failed) → lane < length cut → ((x : TablesValue × ℕ) → tables ≡ (slice_index_or cut lane x).0) → ((x : TablesValue × ℕ) → entries ≡ (slice_index_or cut lane x).1) → LanesSoFar faults told aside cut Fit a b lane n
+      → PutsLines faults told aside (StandsForLane (tables, entries)) (Fit lane) b (Err d) c → is_err r ≡ true → PutsLines faults told aside (StandForLanes cut) (AreLanes Fit) a r c
   lanes_failed a b c lane n tables entries d (Ok k) small tables_are entries_are so_far puts h = absurd (false≢true h)
   lanes_failed a b c lane n tables entries d (Err d') small tables_are entries_are so_far puts h = record {
     puts = λ lanes lines stand are.
@@ -133,7 +145,7 @@ module _ {O : Type 0} {faults : O → ℕ} {told : O → Option (List ℕ)} {asi
     cause = subst (λ (before : ℕ). HasCause {T = ℕ} {E = Failed} before (faults c) (Err d')) so_far.calm (record { later = puts.cause.later; failed = puts.cause.failed; fine = tt });
   }
 
-  pub lanes_end : (a b : O) (lane n : ℕ) → length cut ≤ lane → LanesSoFar faults told aside cut query a b lane n → PutsLines faults told aside (StandForLanes cut) (AreLines query) a (Ok n) b
+  pub lanes_end : (a b : O) (lane n : ℕ) → length cut ≤ lane → LanesSoFar faults told aside cut Fit a b lane n → PutsLines faults told aside (StandForLanes cut) (AreLanes Fit) a (Ok n) b
   lanes_end a b lane n over so_far = record {
     puts = λ lanes lines stand are.
         lines_as a b (flat_map (λ p. p) are.parts) lines (Ok n) (sym are.all)

@@ -19,6 +19,7 @@ pub mod RowOrder
 pub mod RowTellings
 pub mod RowAnswers
 pub mod RowChangeLaws
+pub mod StepsTold
 pub mod LaneSteps
 pub mod ReplySteps
 pub mod LinesThere

@@ -1,6 +1,8 @@
 -- There are lines of a lane for all entries that its tables stand for.
-use Rattle.std.proofs.Common.{◌≡◌, ℕ, Bool, true, false, List, [], ◌∷◌, length, map, refl}
+use Rattle.std.proofs.Common.{◌≡◌, ℕ, Bool, true, false, List, [], ◌∷◌, length, map, Some, None, refl}
 use Rattle.std.specs.Prelude.{MatchBool, ◌==◌}
+use Rattle.ask_specs.specs.Asking.{steps}
+use Rattle.ask_specs.specs.AskReply.{AreAskedChangeLines, AreAskedLaneLines}
 use Rattle.bmp_specs.specs.Counts.{counts_of}
 use Rattle.bmp_specs.specs.PeerLines.{idle_line, closed_line, live_line, lane_line}
 use Rattle.bmp_specs.specs.Query.{QueryValue, routers, cut as cut_query, peers, marks, table, count, exact, longest, within, origin, stats, changes, quit}
@@ -19,6 +21,10 @@ use Rattle.peer_book.specs.Peers.{Peers}
 use Rattle.peer_book.specs.Standing.{StandsForPeers}
 use Rattle.router_tables.specs.Tables.{TablesValue, StandsFor}
 use Rattle.query_eval.specs.Puts.{AreAskedRows}
+use Rattle.query_lang.specs.Asks.{ask_value, row_query_value}
+use Rattle.query_lang.specs.declared.ask.Ask.TheVariants.{Steps}
+use Rattle.query_lang.specs.declared.ask.RowQuery.{RowQuery}
+use Rattle.query_lang.specs.declared.ask.RowQuery.TheVariants.{Table, Exact, Longest, Within, Origin}
 use Rattle.query_eval.specs.Replies.{StandsForLane, TellsByLane}
 use Rattle.query_eval.specs.Told.{states_in, state_lines, up_keys, marks_in, mark_lines}
 use Rattle.query_eval.proofs.InOrder.{by_key, by_key_sorted, peers_by_key, tables_by_key, stand_by_key}
@@ -28,6 +34,7 @@ use Rattle.query_eval.proofs.PeersTold.{are_peer_lines, all_up}
 use Rattle.query_eval.proofs.RowAnswers.{are_table, are_counted, are_exact, are_longest, are_within, are_origin}
 use Rattle.query_eval.proofs.RowChangeLaws.{changes_there}
 use Rattle.query_eval.proofs.StatsTold.{stat_lines_there}
+use Rattle.query_eval.proofs.StepsTold.{steps_there}
 
 module _ (lane : ℕ) (tables : TablesValue) (entries : List EntryValue) (stands : StandsFor tables entries) where
   abbrev book : Peers
@@ -48,9 +55,16 @@ module _ (lane : ℕ) (tables : TablesValue) (entries : List EntryValue) (stands
   )
 
   changes_lines : (number from : ℕ) (prefix : PrefixValue) → (lines : List (List ℕ)) × AreLaneLines (changes number from prefix) lane entries lines
-  changes_lines number from prefix = go (number == lane) (changes_there lane tables entries from prefix stands)
+  changes_lines number from prefix = go (number == lane) (changes_there lane tables entries from (Some prefix) stands)
     where
-      go : (b : Bool) → (lines : List (List ℕ)) × AreChangeLines lane entries from prefix lines → (lines : List (List ℕ)) × MatchBool b (AreChangeLines lane entries from prefix lines) (lines ≡ [])
+      go : (b : Bool) → (lines : List (List ℕ)) × AreAskedChangeLines false lane entries from (Some prefix) lines → (lines : List (List ℕ)) × MatchBool b (AreChangeLines lane entries from prefix lines) (lines ≡ [])
+      go true h = (h.0, record { known = h.1.known; are_known = h.1.are_known; told = h.1.told })
+      go false h = ([], refl)
+
+  all_changes_lines : (number from : ℕ) → (lines : List (List ℕ)) × AreAskedLaneLines (steps false number from None) lane entries lines
+  all_changes_lines number from = go (number == lane) (changes_there lane tables entries from None stands)
+    where
+      go : (b : Bool) → (lines : List (List ℕ)) × AreAskedChangeLines false lane entries from None lines → (lines : List (List ℕ)) × MatchBool b (AreAskedChangeLines false lane entries from None lines) (lines ≡ [])
       go true h = h
       go false h = ([], refl)
 
@@ -82,8 +96,22 @@ module _ (lane : ℕ) (tables : TablesValue) (entries : List EntryValue) (stands
   lane_lines_there (count select) tells = absurd tells
   lane_lines_there quit tells = absurd tells
 
+  -- the rows of a query that tells rows
+  query_rows_there : (rows : RowQuery) → (known : List RowValue) × AreAskedRows (row_query_value rows) lane entries known
+  query_rows_there (Table select) = (_, are_table select lane in_order entries in_order_stands peers_ordered)
+  query_rows_there (Exact prefix select) = (_, are_exact select lane in_order entries in_order_stands peers_ordered prefix)
+  query_rows_there (Longest address select) = (_, are_longest select lane in_order entries in_order_stands peers_ordered address)
+  query_rows_there (Within prefix select) = (_, are_within select lane in_order entries in_order_stands peers_ordered prefix)
+  query_rows_there (Origin asn select) = (_, are_origin select lane in_order entries in_order_stands peers_ordered asn)
+
 pub lines_there : (query : QueryValue) → TellsByLane query → (number : ℕ) (lane : TablesValue × ℕ) (entries : List EntryValue) → StandsForLane lane entries → (lines : List (List ℕ)) × AreLaneLines query number entries lines
 lines_there query tells number lane entries stands = lane_lines_there number lane.0 entries stands.tables query tells
+
+pub steps_lines_there : (rows : RowQuery) (number : ℕ) (lane : TablesValue × ℕ) (entries : List EntryValue) → StandsForLane lane entries → (lines : List (List ℕ)) × AreAskedLaneLines (ask_value (Steps rows)) number entries lines
+steps_lines_there rows number lane entries stands = let known = query_rows_there number lane.0 entries stands.tables rows in steps_there (row_query_value rows) number lane.0 entries stands.tables known.0 known.1
+
+pub changes_lines_there : (asked from : ℕ) (number : ℕ) (lane : TablesValue × ℕ) (entries : List EntryValue) → StandsForLane lane entries → (lines : List (List ℕ)) × AreAskedLaneLines (steps false asked from None) number entries lines
+changes_lines_there asked from number lane entries stands = all_changes_lines number lane.0 entries stands.tables asked from
 
 pub rows_there : (select : SelectValue) (number : ℕ) (lane : TablesValue × ℕ) (entries : List EntryValue) → StandsForLane lane entries → (rows : List RowValue) × AreAskedRows (count select) number entries rows
 rows_there select number lane entries stands =

@@ -1,33 +1,41 @@
 -- Wrong replies, which the clauses of their calls refuse.
-use Rattle.std.proofs.Common.{◌≡◌, ◌<◌, ℕ, zero, suc, false, List, [], ◌∷◌, length, flat_map, replicate, slice_index, slice_index_or, codes, None, Some, Err, refl, ap, sym, ◌∙◌, inl, inr, append-nil, arith}
+use Rattle.std.proofs.Common.{◌≡◌, ◌<◌, ℕ, zero, suc, true, false, List, [], ◌∷◌, ◌++◌, length, map, flat_map, replicate, slice_index, slice_index_or, codes, None, Some, Err, refl, ap, sym, ◌∙◌, inl, inr, append-nil, arith}
 use Rattle.std.specs.Fmt.{digits}
+use Rattle.std.specs.List.{Contains}
+use Rattle.ask_specs.specs.Asking.{rows as rows_asked, steps}
+use Rattle.ask_specs.specs.AskReply.{AsksTraitRow, IsAskReply, told_change}
+use Rattle.ask_specs.specs.Traits.{no_traits}
 use Rattle.bmp_specs.specs.declared.peers.View.{View}
 use Rattle.bmp_specs.specs.declared.peers.View.TheVariants.{InPre, InPost}
 use Rattle.bmp_specs.specs.declared.wire.Family.TheVariants.{V4}
+use Rattle.bmp_specs.specs.Changes.{ChangeValue}
+use Rattle.bmp_specs.specs.ChangeLines.{steps_line}
 use Rattle.bmp_specs.specs.PeerLines.{lane_line}
 use Rattle.bmp_specs.specs.PeerUp.{IsUp}
-use Rattle.bmp_specs.specs.Query.{cut, longest}
+use Rattle.bmp_specs.specs.Query.{cut, longest, table}
 use Rattle.bmp_specs.specs.QueryReply.{IsReply}
 use Rattle.bmp_specs.specs.QueryRows.{AsksRow, IsLongestMatch}
 use Rattle.bmp_specs.specs.Reply.{reply}
+use Rattle.bmp_specs.specs.RouteLine.{route_line}
 use Rattle.bmp_specs.specs.Rows.{RowValue, HasRow}
 use Rattle.bmp_specs.specs.Selection.{SelectValue, IsRowSelected, select_all}
 use Rattle.bmp_specs.specs.TableRows.{AreRows}
-use Rattle.bmp_specs.specs.Values.{AddressValue, AttrsValue, EffectValue, KeyValue, NlriValue, OpenValue, PeerInfoValue, up, announce}
+use Rattle.bmp_specs.specs.Values.{AddressValue, AttrsValue, EffectValue, KeyValue, NlriValue, OpenValue, PeerInfoValue, opened, opened_step, up, announce}
+use Rattle.bmp_specs.proofs.ListedOne.{contains_first}
 use Rattle.bmp_specs.proofs.RowLaws.{none_row, row_from, row_now, row_still, up_now, up_still}
 use Rattle.wire_io.specs.Faults.{HasCause}
 
 -- the lines of one lane are those of its part
-one_part : (lines : List (List ℕ)) (parts : List (List (List ℕ))) (line : List ℕ) → length parts ≡ 1 → slice_index_or parts 0 [] ≡ line ∷ [] → lines ≡ flat_map (λ part. part) parts → lines ≡ line ∷ []
-one_part lines [] line n first all = absurd (omega (arith, n))
-one_part lines (p ∷ []) line n first all = all ∙ append-nil p ∙ first
-one_part lines (p ∷ q ∷ parts) line n first all = absurd (omega (arith, n))
+first_part : (lines : List (List ℕ)) (parts : List (List (List ℕ))) → length parts ≡ 1 → lines ≡ flat_map (λ part. part) parts → lines ≡ slice_index_or parts 0 []
+first_part lines [] n all = absurd (omega (arith, n))
+first_part lines (p ∷ []) n all = all ∙ append-nil p
+first_part lines (p ∷ q ∷ parts) n all = absurd (omega (arith, n))
 
 -- The last line counts the first one too: `cut` tells one line of a lane without an entry, and the reply ends with 2.
 the_first_line_is_not_counted : IsReply cut ([] ∷ []) (codes "at 0\nlane 0 0\nend 2\n") → ⊥
 unfolding digits
 the_first_line_is_not_counted r =
-    let lines : r.lines ≡ lane_line 0 0 ∷ [] = one_part r.lines r.are_lines.parts (lane_line 0 0) r.are_lines.each.count (r.are_lines.each.each 0 [] [] (omega arith)) r.are_lines.all in
+    let lines : r.lines ≡ lane_line 0 0 ∷ [] = first_part r.lines r.are_lines.parts r.are_lines.each.count r.are_lines.all ∙ r.are_lines.each.each 0 [] [] (omega arith) in
     omega (arith, ap (λ (text : List ℕ). slice_index text 18) (r.told ∙ ap (reply 0) lines))
 
 -- After a write that failed the buffer is flushed once more, and that fails too: two faults are counted.
@@ -126,3 +134,61 @@ match_tells_one_for_each_view = each_has_its_longest (peer 1) InPre (peer 1) InP
     (λ same. let e : InPre ≡ InPost = same.1 in cc)
     (up_now (up (peer 1) info ∷ []) (peer 1) info)
     (record { of_peer = record { router_is = tt; peer_is = refl }; view_is = tt; family_is = tt })
+
+-- ---- further words
+-- a lane without an entry has no row
+no_rows : (Asks : RowValue → Type 0) (known : List RowValue) → AreRows Asks [] known → known ≡ []
+no_rows Asks [] are = refl
+no_rows Asks (row ∷ rows) are = absurd (none_row row ((are.exact row).0 (contains_first row rows)).0)
+
+-- `steps table` tells the number of a lane's steps before its rows, where it has none of either too: a reply without that
+-- line is no reply.
+steps_are_told : IsAskReply (rows_asked true false (table select_all) no_traits) ([] ∷ []) (codes "at 0\nend 0\n") → ⊥
+unfolding digits
+steps_are_told r =
+    let part = r.are_lines.each.each 0 [] [] (omega arith) in
+    let lines : r.lines ≡ part.steps_lines ++ map (route_line 0) part.known = first_part r.lines r.are_lines.parts r.are_lines.each.count r.are_lines.all ∙ part.told in
+    elim part.are_steps [
+      | inl told ↦ omega (arith, ap (λ (text : List ℕ). slice_index text 5) (r.told ∙ ap (reply 0) (lines ∙ ap (λ (l : List (List ℕ)). l ++ map (route_line 0) part.known) told.1)))
+      | inr other ↦ absurd (other.0 tt)
+    ]
+
+-- `router 1`
+abbrev of_lane_one : SelectValue
+of_lane_one = record { router = Some 1; peer = None; view = None; family = None }
+
+-- And it tells none of a lane that the selectors don't keep.
+no_steps_of_another_lane : IsAskReply (rows_asked true false (table of_lane_one) no_traits) ([] ∷ []) (codes "at 0\nsteps 0 0\nend 1\n") → ⊥
+unfolding digits
+no_steps_of_another_lane r =
+    let part = r.are_lines.each.each 0 [] [] (omega arith) in
+    let none : part.known ≡ [] = no_rows (AsksTraitRow (table of_lane_one) no_traits 0 []) part.known part.are_rows in
+    let lines : r.lines ≡ part.steps_lines ++ map (route_line 0) part.known = first_part r.lines r.are_lines.parts r.are_lines.each.count r.are_lines.all ∙ part.told in
+    elim part.are_steps [
+      | inl told ↦ omega (arith, told.0)
+      | inr other ↦ omega (arith, ap (λ (text : List ℕ). slice_index text 5) (r.told ∙ ap (reply 0) (lines ∙ (λ i. other.1 i ++ map (route_line 0) (none i)))))
+    ]
+
+-- a lane whose connection was opened has one step
+abbrev opening : ChangeValue
+opening = record { number = 0; step = opened_step }
+
+some_known : (known : List ChangeValue) → Contains known opening → (first : ChangeValue) × (rest : List ChangeValue) × (known ≡ first ∷ rest)
+some_known [] c = absurd (omega (arith, c.1))
+some_known (first ∷ rest) c = (first, rest, refl)
+
+-- `changes 0 0` tells it: the number of steps alone is no reply.
+each_step_is_told : IsAskReply (steps false 0 0 None) ((opened ∷ []) ∷ []) (codes "at 1\nsteps 0 1\nend 1\n") → ⊥
+unfolding digits
+each_step_is_told r =
+    let part = r.are_lines.each.each 0 [] [] (omega arith) in
+    let some = some_known part.known ((part.are_known.exact opening).1 (record { later = omega arith; stands = refl })) in
+    let lines : r.lines ≡ steps_line 0 1 ∷ map (told_change false 0) part.known = first_part r.lines r.are_lines.parts r.are_lines.each.count r.are_lines.all ∙ part.told in
+    omega (arith, ap (λ (text : List ℕ). slice_index text 15) (r.told ∙ ap (reply 1) (lines ∙ ap (λ (known : List ChangeValue). steps_line 0 1 ∷ map (told_change false 0) known) some.2)))
+
+-- And the steps of another lane are no reply to `changes 1 0`.
+steps_of_the_lane_are_told : IsAskReply (steps false 1 0 None) ((opened ∷ []) ∷ []) (codes "at 1\nsteps 0 1\nchange 0 0 opened\nend 2\n") → ⊥
+unfolding digits
+steps_of_the_lane_are_told r =
+    let lines : r.lines ≡ [] = first_part r.lines r.are_lines.parts r.are_lines.each.count r.are_lines.all ∙ r.are_lines.each.each 0 [] [] (omega arith) in
+    omega (arith, ap (λ (text : List ℕ). slice_index text 5) (r.told ∙ ap (reply 1) lines))

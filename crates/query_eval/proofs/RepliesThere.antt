@@ -1,6 +1,8 @@
 -- There is a reply on all entries that a cut stands for.
-use Rattle.std.proofs.Common.{◌≡◌, ℕ, ◌<◌, List, [], ◌∷◌, length, refl, arith}
+use Rattle.std.proofs.Common.{◌≡◌, ℕ, ◌<◌, false, List, [], ◌∷◌, length, None, refl, ap, arith}
 use Rattle.std.specs.Prelude.{sum_by, flat_map, slice_index_or}
+use Rattle.ask_specs.specs.Asking.{plain, steps as steps_asked}
+use Rattle.ask_specs.specs.AskReply.{AreAskedLaneLines, AreAskedLines, AreFurtherLines, IsAskReply}
 use Rattle.bmp_specs.specs.PeerLines.{count_line}
 use Rattle.bmp_specs.specs.Query.{QueryValue, routers, cut as cut_query, peers, marks, table, count, exact, longest, within, origin, stats, changes, quit}
 use Rattle.bmp_specs.specs.QueryReply.{AreLaneLines, AreLines, AreReplyLines, IsReply}
@@ -8,23 +10,34 @@ use Rattle.bmp_specs.specs.Reply.{reply, told_count}
 use Rattle.bmp_specs.specs.Rows.{RowValue}
 use Rattle.bmp_specs.specs.Selection.{SelectValue}
 use Rattle.bmp_specs.specs.Values.{EntryValue}
+use Rattle.query_lang.specs.Asks.{ask_value}
+use Rattle.query_lang.specs.declared.ask.Ask.{Ask}
+use Rattle.query_lang.specs.declared.ask.Ask.TheVariants.{Query, Steps, Changes}
+use Rattle.query_lang.specs.declared.ask.RowQuery.{RowQuery}
+use Rattle.query_lang.specs.declared.ask.RowQuery.TheVariants.{Table, Exact, Longest, Within, Origin}
+use Rattle.query_lang.specs.Queries.{query_value}
 use Rattle.router_tables.specs.Tables.{TablesValue}
 use Rattle.query_eval.specs.Puts.{AreAskedRows}
-use Rattle.query_eval.specs.Replies.{StandsForLane, StandForLanes, TellsByLane}
+use Rattle.query_eval.specs.Replies.{StandsForLane, StandForLanes, AreLanes, TellsByLane}
 use Rattle.query_eval.proofs.LaneSteps.{gather}
-use Rattle.query_eval.proofs.LinesThere.{lines_there, rows_there}
+use Rattle.query_eval.proofs.LinesThere.{changes_lines_there, lines_there, rows_there, steps_lines_there}
 
 module _ (cut : List (TablesValue × ℕ)) (lanes : List (List EntryValue)) (stand : StandForLanes cut lanes) where
   stands_at : (k : ℕ) (d : List EntryValue) → k < length lanes → (x : TablesValue × ℕ) → StandsForLane (slice_index_or cut k x) (slice_index_or lanes k d)
   stands_at k d small x = stand.each k x d (let c = stand.count in omega (arith, c, small))
 
-  -- the tables of some lane, where there is one
-  lane_lines : (query : QueryValue) → TellsByLane query → (k : ℕ) (d : List EntryValue) → k < length lanes → (lines : List (List ℕ)) × AreLaneLines query k (slice_index_or lanes k d) lines
-  lane_lines query tells k d small = go cut stand.count (stands_at k d small)
-    where
-      go : (values : List (TablesValue × ℕ)) → length lanes ≡ length values → ((x : TablesValue × ℕ) → StandsForLane (slice_index_or cut k x) (slice_index_or lanes k d)) → (lines : List (List ℕ)) × AreLaneLines query k (slice_index_or lanes k d) lines
-      go [] as_many stands = absurd (omega (arith, as_many, small))
-      go (x ∷ values) as_many stands = lines_there query tells k (slice_index_or cut k x) (slice_index_or lanes k d) (stands x)
+  -- what each lane has, where its tables stand for its entries
+  module _ (Fit : ℕ → List EntryValue → List (List ℕ) → Type 0) (there : (number : ℕ) (lane : TablesValue × ℕ) (entries : List EntryValue) → StandsForLane lane entries → (lines : List (List ℕ)) × Fit number entries lines) where
+    -- the tables of some lane, where there is one
+    lane_lines : (k : ℕ) (d : List EntryValue) → k < length lanes → (lines : List (List ℕ)) × Fit k (slice_index_or lanes k d) lines
+    lane_lines k d small = go cut stand.count (stands_at k d small)
+      where
+        go : (values : List (TablesValue × ℕ)) → length lanes ≡ length values → ((x : TablesValue × ℕ) → StandsForLane (slice_index_or cut k x) (slice_index_or lanes k d)) → (lines : List (List ℕ)) × Fit k (slice_index_or lanes k d) lines
+        go [] as_many stands = absurd (omega (arith, as_many, small))
+        go (x ∷ values) as_many stands = there k (slice_index_or cut k x) (slice_index_or lanes k d) (stands x)
+
+    all_lines : (lines : List (List ℕ)) × AreLanes Fit lanes lines
+    all_lines = let g = gather Fit lanes lane_lines in (flat_map (λ p. p) g.0, record { parts = g.0; each = g.1; all = refl })
 
   lane_rows : (select : SelectValue) → (k : ℕ) (d : List EntryValue) → k < length lanes → (rows : List RowValue) × AreAskedRows (count select) k (slice_index_or lanes k d) rows
   lane_rows select k d small = go cut stand.count (stands_at k d small)
@@ -34,7 +47,10 @@ module _ (cut : List (TablesValue × ℕ)) (lanes : List (List EntryValue)) (sta
       go (x ∷ values) as_many stands = rows_there select k (slice_index_or cut k x) (slice_index_or lanes k d) (stands x)
 
   by_lanes : (query : QueryValue) → TellsByLane query → (lines : List (List ℕ)) × AreLines query lanes lines
-  by_lanes query tells = let g = gather (AreLaneLines query) lanes (lane_lines query tells) in (flat_map (λ p. p) g.0, record { parts = g.0; each = g.1; all = refl })
+  by_lanes query tells = let h = all_lines (AreLaneLines query) (lines_there query tells) in (h.0, record { parts = h.1.parts; each = h.1.each; all = h.1.all })
+
+  steps_by_lanes : (rows : RowQuery) → (lines : List (List ℕ)) × AreAskedLines (ask_value (Steps rows)) lanes lines
+  steps_by_lanes rows = let h = all_lines (AreAskedLaneLines (ask_value (Steps rows))) (steps_lines_there rows) in (h.0, record { parts = h.1.parts; each = h.1.each; all = h.1.all })
 
   reply_lines : (query : QueryValue) → (query ≡ quit → ⊥) → (lines : List (List ℕ)) × AreReplyLines query lanes lines
   reply_lines routers asks = by_lanes routers tt
@@ -53,5 +69,20 @@ module _ (cut : List (TablesValue × ℕ)) (lanes : List (List EntryValue)) (sta
       (count_line (told_count (length (flat_map (λ (p : List RowValue). p) g.0))) ∷ [], record { rows = flat_map (λ p. p) g.0; are_rows = record { parts = g.0; each = g.1; all = refl }; told = refl })
   reply_lines quit asks = absurd (asks refl)
 
+  steps_lines : (rows : RowQuery) → (lines : List (List ℕ)) × AreFurtherLines (ask_value (Steps rows)) lanes lines
+  steps_lines (Table select) = steps_by_lanes (Table select)
+  steps_lines (Exact prefix select) = steps_by_lanes (Exact prefix select)
+  steps_lines (Longest address select) = steps_by_lanes (Longest address select)
+  steps_lines (Within prefix select) = steps_by_lanes (Within prefix select)
+  steps_lines (Origin asn select) = steps_by_lanes (Origin asn select)
+
+  changes_lines : (asked from : ℕ) → (lines : List (List ℕ)) × AreFurtherLines (steps_asked false asked from None) lanes lines
+  changes_lines asked from = let h = all_lines (AreAskedLaneLines (steps_asked false asked from None)) (changes_lines_there asked from) in (h.0, record { parts = h.1.parts; each = h.1.each; all = h.1.all })
+
 pub reply_there : (cut : List (TablesValue × ℕ)) (query : QueryValue) (lanes : List (List EntryValue)) → (query ≡ quit → ⊥) → StandForLanes cut lanes → (text : List ℕ) × IsReply query lanes text
 reply_there cut query lanes asks stand = let h = reply_lines cut lanes stand query asks in (reply (sum_by length lanes) h.0, record { lines = h.0; are_lines = h.1; told = refl })
+
+pub ask_reply_there : (cut : List (TablesValue × ℕ)) (ask : Ask) (lanes : List (List EntryValue)) → (ask_value ask ≡ plain quit → ⊥) → StandForLanes cut lanes → (text : List ℕ) × IsAskReply (ask_value ask) lanes text
+ask_reply_there cut (Query query) lanes asks stand = reply_there cut (query_value query) lanes (λ is. asks (ap plain is)) stand
+ask_reply_there cut (Steps rows) lanes asks stand = let h = steps_lines cut lanes stand rows in (reply (sum_by length lanes) h.0, record { lines = h.0; are_lines = h.1; told = refl })
+ask_reply_there cut (Changes asked from) lanes asks stand = let h = changes_lines cut lanes stand asked from in (reply (sum_by length lanes) h.0, record { lines = h.0; are_lines = h.1; told = refl })

@@ -1,16 +1,19 @@
 -- A reply, from its first line to its last, and through a buffer.
-use Rattle.std.proofs.Common.{◌≡◌, ℕ, suc, ◌+◌, List, [], ◌∷◌, ◌++◌, length, Option, Result, Ok, Err, refl, sym, ap, ◌∙◌, subst, append-nil, arith}
+use Rattle.std.proofs.Common.{◌≡◌, ℕ, suc, ◌+◌, Bool, List, [], ◌∷◌, ◌++◌, length, Option, Result, Ok, Err, refl, sym, ap, ◌∙◌, subst, arith}
 use mathlib.Core.Bool.{true, false≢true}
 use Rattle.std.specs.Prelude.{sum_by}
 use Rattle.std.specs.List.{concat}
 use Rattle.std.specs.Result.{is_err}
 use Rattle.std.proofs.lemmas.List.Sums.{sum_by-cons}
+use Rattle.ask_specs.specs.Asking.{AskValue, plain, rows as rows_asked, steps}
+use Rattle.ask_specs.specs.AskReply.{AreAskedLines, IsAskReply}
+use Rattle.ask_specs.specs.Traits.{TraitsValue}
 use Rattle.bmp_specs.specs.Lines.{at_line, end_line}
 use Rattle.bmp_specs.specs.Listed.{AreParallel}
 use Rattle.bmp_specs.specs.PeerLines.{count_line}
 use Rattle.bmp_specs.specs.Query.{QueryValue, routers, cut as cut_query, peers, marks, table, count, exact, longest, within, origin, stats, changes, quit}
-use Rattle.bmp_specs.specs.QueryReply.{AreLines, AreReplyLines, IsReply}
-use Rattle.bmp_specs.specs.Reply.{told_count}
+use Rattle.bmp_specs.specs.QueryReply.{AreLines, AreReplyLines}
+use Rattle.bmp_specs.specs.Reply.{reply, told_count}
 use Rattle.bmp_specs.specs.Selection.{SelectValue}
 use Rattle.bmp_specs.specs.Values.{EntryValue}
 use Rattle.cut_publisher.specs.Cuts.{total}
@@ -22,7 +25,7 @@ use Rattle.wire_io.specs.Faults.{HasCause}
 use Rattle.wire_io.specs.Writes.{Writes}
 use Rattle.wire_io.proofs.Joins.{join, join_failed, more}
 use Rattle.query_eval.specs.Puts.{PutsLines}
-use Rattle.query_eval.specs.Replies.{PutsBuffered, PutsText, StandsForLane, StandForLanes, CountsAllRows, TellsByLane}
+use Rattle.query_eval.specs.Replies.{PutsBuffered, PutsText, StandsForLane, StandForLanes, AreAskLaneLines, AreAskLines, AreLanes, AsksByLane, CountsAllRows}
 use Rattle.query_eval.proofs.Leading.{one_line, one_line_failed}
 
 -- the revision of a cut is the number of all entries
@@ -42,8 +45,53 @@ revision_is cut lanes stand = go (λ number lane es. StandsForLane lane es) (λ 
 lines_are : (cut : List (TablesValue × ℕ)) (select : SelectValue) (rows : ℕ) → CountsAllRows (StandForLanes cut) (count select) rows → (lanes : List (List EntryValue)) (lines : List (List ℕ)) → StandForLanes cut lanes → AreReplyLines (count select) lanes lines → lines ≡ count_line rows ∷ []
 lines_are cut select rows all lanes lines stand are = are.told ∙ ap (λ (n : ℕ). count_line n ∷ []) (sym (all.counts lanes are.rows stand are.are_rows))
 
-text_is : (cut : List (TablesValue × ℕ)) (query : QueryValue) (rev : ℕ) → rev ≡ total cut → (lanes : List (List EntryValue)) (text : List ℕ) → StandForLanes cut lanes → (is : IsReply query lanes text) → text ≡ at_line rev ++ (concat is.lines ++ end_line (told_count (length is.lines)))
-text_is cut query rev rev_is lanes text stand is = is.told ∙ ap (λ (n : ℕ). at_line n ++ (concat is.lines ++ end_line (told_count (length is.lines)))) (sym (rev_is ∙ revision_is cut lanes stand))
+-- a text of lanes is a reply that these lines make
+abbrev pub IsMadeOf : (List (List EntryValue) → List (List ℕ) → Type 0) → (List (List EntryValue) → List ℕ → Type 0) → Type 0
+IsMadeOf AreThese IsText = (lanes : List (List EntryValue)) (text : List ℕ) → IsText lanes text → (lines : List (List ℕ)) × AreThese lanes lines × (text ≡ reply (sum_by length lanes) lines)
+
+pub ask_made : (ask : AskValue) → IsMadeOf (AreAskLines ask) (IsAskReply ask)
+ask_made (plain query) lanes text is = (is.lines, is.are_lines, is.told)
+ask_made (rows_asked with_steps full query traits) lanes text is = (is.lines, is.are_lines, is.told)
+ask_made (steps full lane from prefix) lanes text is = (is.lines, is.are_lines, is.told)
+
+text_is : (cut : List (TablesValue × ℕ)) (rev : ℕ) → rev ≡ total cut → (lanes : List (List EntryValue)) (text : List ℕ) (lines : List (List ℕ)) → StandForLanes cut lanes → text ≡ reply (sum_by length lanes) lines → text ≡ at_line rev ++ (concat lines ++ end_line (told_count (length lines)))
+text_is cut rev rev_is lanes text lines stand is = is ∙ ap (λ (n : ℕ). at_line n ++ (concat lines ++ end_line (told_count (length lines)))) (sym (rev_is ∙ revision_is cut lanes stand))
+
+-- the lines of a reply that tells of each lane apart are those of its lanes
+of_lines : (query : QueryValue) (lanes : List (List EntryValue)) (lines : List (List ℕ)) → AreLines query lanes lines → AreLanes (AreAskLaneLines (plain query)) lanes lines
+of_lines query lanes lines are = record { parts = are.parts; each = are.each; all = are.all }
+
+of_rows : (with_steps full : Bool) (query : QueryValue) (traits : TraitsValue) (lanes : List (List EntryValue)) (lines : List (List ℕ)) → AreAskedLines (rows_asked with_steps full query traits) lanes lines → AreLanes (AreAskLaneLines (rows_asked with_steps full query traits)) lanes lines
+of_rows with_steps full query traits lanes lines are = record { parts = are.parts; each = are.each; all = are.all }
+
+by_lanes : (ask : AskValue) → AsksByLane ask → (lanes : List (List EntryValue)) (lines : List (List ℕ)) → AreAskLines ask lanes lines → AreLanes (AreAskLaneLines ask) lanes lines
+by_lanes (plain routers) tells lanes lines are = of_lines routers lanes lines are
+by_lanes (plain cut_query) tells lanes lines are = of_lines cut_query lanes lines are
+by_lanes (plain (peers router peer)) tells lanes lines are = of_lines (peers router peer) lanes lines are
+by_lanes (plain (marks select)) tells lanes lines are = of_lines (marks select) lanes lines are
+by_lanes (plain (table select)) tells lanes lines are = of_lines (table select) lanes lines are
+by_lanes (plain (exact prefix select)) tells lanes lines are = of_lines (exact prefix select) lanes lines are
+by_lanes (plain (longest address select)) tells lanes lines are = of_lines (longest address select) lanes lines are
+by_lanes (plain (within prefix select)) tells lanes lines are = of_lines (within prefix select) lanes lines are
+by_lanes (plain (origin asn select)) tells lanes lines are = of_lines (origin asn select) lanes lines are
+by_lanes (plain (stats key)) tells lanes lines are = of_lines (stats key) lanes lines are
+by_lanes (plain (changes number from prefix)) tells lanes lines are = of_lines (changes number from prefix) lanes lines are
+by_lanes (plain (count select)) tells lanes lines are = absurd tells
+by_lanes (plain quit) tells lanes lines are = absurd tells
+by_lanes (rows_asked with_steps full (table select) traits) tells lanes lines are = of_rows with_steps full (table select) traits lanes lines are
+by_lanes (rows_asked with_steps full (exact prefix select) traits) tells lanes lines are = of_rows with_steps full (exact prefix select) traits lanes lines are
+by_lanes (rows_asked with_steps full (longest address select) traits) tells lanes lines are = of_rows with_steps full (longest address select) traits lanes lines are
+by_lanes (rows_asked with_steps full (within prefix select) traits) tells lanes lines are = of_rows with_steps full (within prefix select) traits lanes lines are
+by_lanes (rows_asked with_steps full (origin asn select) traits) tells lanes lines are = of_rows with_steps full (origin asn select) traits lanes lines are
+by_lanes (rows_asked with_steps full (count select) traits) tells lanes lines are = absurd tells
+by_lanes (rows_asked with_steps full routers traits) tells lanes lines are = absurd tells
+by_lanes (rows_asked with_steps full cut_query traits) tells lanes lines are = absurd tells
+by_lanes (rows_asked with_steps full (peers router peer) traits) tells lanes lines are = absurd tells
+by_lanes (rows_asked with_steps full (marks select) traits) tells lanes lines are = absurd tells
+by_lanes (rows_asked with_steps full (stats key) traits) tells lanes lines are = absurd tells
+by_lanes (rows_asked with_steps full (changes number from prefix) traits) tells lanes lines are = absurd tells
+by_lanes (rows_asked with_steps full quit traits) tells lanes lines are = absurd tells
+by_lanes (steps full lane from prefix) tells lanes lines are = record { parts = are.parts; each = are.each; all = are.all }
 
 module _ {O : Type 0} {faults : O → ℕ} {told : O → Option (List ℕ)} {aside : O → Aside} where
   -- the number of rows
@@ -64,46 +112,35 @@ module _ {O : Type 0} {faults : O → ℕ} {told : O → Option (List ℕ)} {asi
     }
 
   -- the lines of a reply that tells of each lane apart
-  pub puts_by_lanes : (query : QueryValue) → TellsByLane query → (lanes : List (TablesValue × ℕ)) (a b : O) (r : Result ℕ Failed) → PutsLines faults told aside (StandForLanes lanes) (AreLines query) a r b → PutsLines faults told aside (StandForLanes lanes) (AreReplyLines query) a r b
-  puts_by_lanes routers tells lanes a b r p = p
-  puts_by_lanes cut_query tells lanes a b r p = p
-  puts_by_lanes (peers router peer) tells lanes a b r p = p
-  puts_by_lanes (marks select) tells lanes a b r p = p
-  puts_by_lanes (table select) tells lanes a b r p = p
-  puts_by_lanes (exact prefix select) tells lanes a b r p = p
-  puts_by_lanes (longest address select) tells lanes a b r p = p
-  puts_by_lanes (within prefix select) tells lanes a b r p = p
-  puts_by_lanes (origin asn select) tells lanes a b r p = p
-  puts_by_lanes (stats key) tells lanes a b r p = p
-  puts_by_lanes (changes number from prefix) tells lanes a b r p = p
-  puts_by_lanes (count select) tells lanes a b r p = absurd tells
-  puts_by_lanes quit tells lanes a b r p = absurd tells
+  pub puts_by_lanes : (ask : AskValue) → AsksByLane ask → (cut : List (TablesValue × ℕ)) (a b : O) (r : Result ℕ Failed) → PutsLines faults told aside (StandForLanes cut) (AreLanes (AreAskLaneLines ask)) a r b → PutsLines faults told aside (StandForLanes cut) (AreAskLines ask) a r b
+  puts_by_lanes ask tells cut a b r p = record { puts = λ lanes lines stand are. p.puts lanes lines stand (by_lanes ask tells lanes lines are); kept = p.kept; cause = p.cause }
 
   -- the whole reply
-  module _ (cut : List (TablesValue × ℕ)) (query : QueryValue) (rev : ℕ) (rev_is : rev ≡ total cut) where
-    pub first_failed : (a b : O) (d : Failed) (r : Result (Unit {0}) Failed) → Writes faults told aside a (at_line rev) (Err d) b → is_err r ≡ true → PutsText faults told aside (StandForLanes cut) (IsReply query) a r b
+  module _ (cut : List (TablesValue × ℕ)) (AreThese : List (List EntryValue) → List (List ℕ) → Type 0) (IsText : List (List EntryValue) → List ℕ → Type 0) (made : IsMadeOf AreThese IsText) (rev : ℕ) (rev_is : rev ≡ total cut) where
+    pub first_failed : (a b : O) (d : Failed) (r : Result (Unit {0}) Failed) → Writes faults told aside a (at_line rev) (Err d) b → is_err r ≡ true → PutsText faults told aside (StandForLanes cut) IsText a r b
     first_failed a b d (Ok u) w h = absurd (false≢true h)
     first_failed a b d (Err d') w h = record {
-      puts = λ lanes text stand is. more a b (at_line rev) (concat is.lines ++ end_line (told_count (length is.lines))) text d (Err d') w refl (text_is cut query rev rev_is lanes text stand is);
+      puts = λ lanes text stand is. let m = made lanes text is in more a b (at_line rev) (concat m.0 ++ end_line (told_count (length m.0))) text d (Err d') w refl (text_is cut rev rev_is lanes text m.0 stand m.2);
       kept = w.kept;
       cause = record { later = w.cause.later; failed = w.cause.failed; fine = tt };
     }
 
-    pub lines_failed : (a b c : O) (d : Failed) (r : Result (Unit {0}) Failed) → Writes faults told aside a (at_line rev) (Ok tt) b → PutsLines faults told aside (StandForLanes cut) (AreReplyLines query) b (Err d) c → is_err r ≡ true → PutsText faults told aside (StandForLanes cut) (IsReply query) a r c
+    pub lines_failed : (a b c : O) (d : Failed) (r : Result (Unit {0}) Failed) → Writes faults told aside a (at_line rev) (Ok tt) b → PutsLines faults told aside (StandForLanes cut) AreThese b (Err d) c → is_err r ≡ true → PutsText faults told aside (StandForLanes cut) IsText a r c
     lines_failed a b c d (Ok u) w p h = absurd (false≢true h)
     lines_failed a b c d (Err d') w p h = record {
-      puts = λ lanes text stand is. join_failed a b c (at_line rev) (concat is.lines) (end_line (told_count (length is.lines))) text d (Err d') w (p.puts lanes is.lines stand is.are_lines).written refl (text_is cut query rev rev_is lanes text stand is);
+      puts = λ lanes text stand is. let m = made lanes text is in join_failed a b c (at_line rev) (concat m.0) (end_line (told_count (length m.0))) text d (Err d') w (p.puts lanes m.0 stand m.1).written refl (text_is cut rev rev_is lanes text m.0 stand m.2);
       kept = p.kept ∙ w.kept;
       cause = subst (λ (before : ℕ). HasCause {T = Unit {0}} {E = Failed} before (faults c) (Err d')) w.cause.fine (record { later = p.cause.later; failed = p.cause.failed; fine = tt });
     }
 
-    pub all_written : (a b c e : O) (n : ℕ) (r : Result (Unit {0}) Failed) → Writes faults told aside a (at_line rev) (Ok tt) b → PutsLines faults told aside (StandForLanes cut) (AreReplyLines query) b (Ok n) c → Writes faults told aside c (end_line n) r e
-        → PutsText faults told aside (StandForLanes cut) (IsReply query) a r e
+    pub all_written : (a b c e : O) (n : ℕ) (r : Result (Unit {0}) Failed) → Writes faults told aside a (at_line rev) (Ok tt) b → PutsLines faults told aside (StandForLanes cut) AreThese b (Ok n) c → Writes faults told aside c (end_line n) r e
+        → PutsText faults told aside (StandForLanes cut) IsText a r e
     all_written a b c e n r w p v = record {
       puts = λ lanes text stand is.
-          let lines = p.puts lanes is.lines stand is.are_lines in
-          join a b e (at_line rev) (concat is.lines ++ end_line n) text tt r w (join b c e (concat is.lines) (end_line n) (concat is.lines ++ end_line n) tt r lines.written v refl)
-          (text_is cut query rev rev_is lanes text stand is ∙ ap (λ (k : ℕ). at_line rev ++ (concat is.lines ++ end_line k)) (sym lines.counted));
+          let m = made lanes text is in
+          let lines = p.puts lanes m.0 stand m.1 in
+          join a b e (at_line rev) (concat m.0 ++ end_line n) text tt r w (join b c e (concat m.0) (end_line n) (concat m.0 ++ end_line n) tt r lines.written v refl)
+          (text_is cut rev rev_is lanes text m.0 stand m.2 ∙ ap (λ (k : ℕ). at_line rev ++ (concat m.0 ++ end_line k)) (sym lines.counted));
       kept = v.kept ∙ p.kept ∙ w.kept;
       cause = subst (λ (before : ℕ). HasCause before (faults e) r) (p.cause.fine ∙ w.cause.fine) v.cause;
     }

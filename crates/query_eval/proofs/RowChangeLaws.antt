@@ -1,6 +1,6 @@
--- The changes of a prefix as a list are the changes that are kept, and the next one is the first of them.
+-- The steps that are asked for as a list are those that are kept, and the next one is the first of them.
 use Rattle.std.specs.Prelude.{MatchBool, if◌then◌else◌}
-use Rattle.std.proofs.Common.{◌≡◌, ◌↔◌, ◌⊎◌, inl, inr, ℕ, zero, suc, ◌+◌, ◌-◌, ◌<◌, ◌≤◌, max, min, Bool, true, false, nat_lt, List, [], ◌∷◌, ◌++◌, length, drop, map, slice_get, None, Some, arith, refl, sym, ap, ◌∙◌, subst, Decides}
+use Rattle.std.proofs.Common.{◌≡◌, ◌↔◌, ◌⊎◌, inl, inr, ℕ, zero, suc, ◌+◌, ◌-◌, ◌<◌, ◌≤◌, max, min, Bool, true, false, nat_lt, List, [], ◌∷◌, ◌++◌, length, drop, map, slice_get, Option, None, Some, arith, refl, sym, ap, ◌∙◌, subst, Decides}
 use Rattle.std.specs.declared.cmp.Ordering.TheVariants.{Less}
 use Rattle.std.specs.Ordering.{nat_cmp}
 use Rattle.std.specs.List.{AllByRecursion, Contains}
@@ -10,11 +10,12 @@ use Rattle.std.proofs.lemmas.Bool.Decides.{nat_tests}
 use Rattle.std.proofs.lemmas.Cmp.{nat_cmp_total}
 use Rattle.std.proofs.lemmas.List.{drop-drop, length-map}
 use Rattle.std.proofs.lemmas.Option.{slice_get_within}
-use Rattle.bmp_specs.specs.Changes.{ChangeValue, Concerns, IsChange, oldest_kept}
+use Rattle.ask_specs.specs.AskReply.{AreAskedChangeLines, IsAskedStep}
+use Rattle.bmp_specs.specs.Changes.{ChangeValue, Concerns, oldest_kept}
 use Rattle.bmp_specs.specs.ChangeLines.{steps_line, missed_lines, change_line}
 use Rattle.bmp_specs.specs.Listed.{AreAll}
 use Rattle.bmp_specs.specs.Orders.{prefix_cmp}
-use Rattle.bmp_specs.specs.QueryReply.{AreChangeLines, most_told}
+use Rattle.bmp_specs.specs.QueryReply.{most_told}
 use Rattle.bmp_specs.specs.Steps.{steps_of}
 use Rattle.bmp_specs.specs.Values.{EntryValue, PrefixValue, StepValue, opened_step, closed_step, up_step, down_step, announce_step, withdraw_step}
 use Rattle.bmp_specs.proofs.ListedOne.{all_one, contains_cases, contains_first, contains_later}
@@ -23,9 +24,10 @@ use Rattle.recent_ring.specs.Recent.{RecentValue, last_items, recent}
 use Rattle.recent_ring.proofs.TwoParts.{slice_get-drop}
 use Rattle.rib_model.specs.declared.step.Step.{Step}
 use Rattle.rib_model.specs.Steps.{step_value}
-use Rattle.route_watch.specs.Watch.{IsFirst, IsKeptChange}
+use Rattle.route_watch.specs.Watch.{IsAsked, IsFirst, IsKeptChange}
+use Rattle.route_watch.proofs.Kept.{asked_of, of_asked}
 use Rattle.router_tables.specs.Tables.{TablesValue, StandsFor, steps_told}
-use Rattle.query_eval.specs.RowChanges.{concerns, changes_in, kept_changes, told_changes}
+use Rattle.query_eval.specs.RowChanges.{concerns, is_asked, changes_in, kept_changes, told_changes}
 use Rattle.query_eval.proofs.RowDeciding.{same_decides}
 use Rattle.query_eval.proofs.RowLists.{all_of}
 
@@ -37,12 +39,16 @@ concerns_decides p (down_step key) = (λ _. tt, λ _. refl)
 concerns_decides p (announce_step key view nlri route) = same_decides prefix_cmp prefix_total prefix_exact nlri.prefix p
 concerns_decides p (withdraw_step key view nlri) = same_decides prefix_cmp prefix_total prefix_exact nlri.prefix p
 
--- one of these steps, which are numbered on from a number, that concerns the prefix
-record IsIn (steps : List StepValue) (p : PrefixValue) (n : ℕ) (change : ChangeValue) : Type 0 where
+asked_decides : (p : Option PrefixValue) (step : StepValue) → Decides (is_asked p step) (IsAsked p step)
+asked_decides None step = (λ _. tt, λ _. refl)
+asked_decides (Some p) step = concerns_decides p step
+
+-- one of these steps, which are numbered on from a number, that is asked for
+record IsIn (steps : List StepValue) (p : Option PrefixValue) (n : ℕ) (change : ChangeValue) : Type 0 where
   pub index : ℕ
   pub number_is : change.number ≡ n + index
   pub stands : slice_get steps index ≡ Some change.step
-  pub concerning : Concerns p change.step
+  pub asked : IsAsked p change.step
 
 abbrev number : ChangeValue → ℕ
 number change = change.number
@@ -50,19 +56,19 @@ number change = change.number
 later_number : (n m k : ℕ) → m ≡ suc n + k → nat_cmp n m ≡ Less
 later_number n m k e = let less : n < m = omega (arith, e) in grind (arith, nat_tests, less)
 
-module _ (step : StepValue) (steps : List StepValue) (p : PrefixValue) (n : ℕ) where
+module _ (step : StepValue) (steps : List StepValue) (p : Option PrefixValue) (n : ℕ) where
   abbrev head : ChangeValue
   head = record { number = n; step = step }
 
   in_later : (change : ChangeValue) → IsIn steps p (suc n) change → IsIn (step ∷ steps) p n change
-  in_later change i = record { index = suc i.index; number_is = omega (arith, i.number_is); stands = i.stands; concerning = i.concerning }
+  in_later change i = record { index = suc i.index; number_is = omega (arith, i.number_is); stands = i.stands; asked = i.asked }
 
   in_cases : (change : ChangeValue) → IsIn (step ∷ steps) p n change → (head ≡ change) ⊎ IsIn steps p (suc n) change
   in_cases change i = go i.index i.number_is i.stands
     where
       go : (k : ℕ) → change.number ≡ n + k → slice_get (step ∷ steps) k ≡ Some change.step → (head ≡ change) ⊎ IsIn steps p (suc n) change
       go zero at there = let same : step ≡ change.step = cc in let here : n ≡ change.number = omega (arith, at) in inl (λ j. record { number = here j; step = same j })
-      go (suc k) at there = inr (record { index = k; number_is = omega (arith, at); stands = there; concerning = i.concerning })
+      go (suc k) at there = inr (record { index = k; number_is = omega (arith, at); stands = there; asked = i.asked })
 
 none_ordered : IsStrictlySortedBy nat_cmp (map number [])
 unfolding IsStrictlySortedBy
@@ -72,13 +78,13 @@ head_ordered : (change : ChangeValue) (rest : List ChangeValue) → AllByRecursi
 unfolding IsStrictlySortedBy
 head_ordered change rest a s = (a, s)
 
-module _ (step : StepValue) (steps : List StepValue) (p : PrefixValue) (n : ℕ) (rest : List ChangeValue) (are : AreAll number nat_cmp (IsIn steps p (suc n)) rest) where
-  with_head : concerns p step ≡ true → AreAll number nat_cmp (IsIn (step ∷ steps) p n) (head step steps p n ∷ rest)
+module _ (step : StepValue) (steps : List StepValue) (p : Option PrefixValue) (n : ℕ) (rest : List ChangeValue) (are : AreAll number nat_cmp (IsIn steps p (suc n)) rest) where
+  with_head : is_asked p step ≡ true → AreAll number nat_cmp (IsIn (step ∷ steps) p n) (head step steps p n ∷ rest)
   with_head t = record {
     ordered = head_ordered (head step steps p n) rest (all_of number (λ m. nat_cmp n m ≡ Less) rest (λ change c. let i = (are.exact change).0 c in later_number n change.number i.index i.number_is)) are.ordered;
     exact = λ change. (
       λ c. elim (contains_cases (head step steps p n) rest change c) [
-        | inl is ↦ subst (IsIn (step ∷ steps) p n) is (record { index = 0; number_is = omega arith; stands = refl; concerning = (concerns_decides p step).0 t })
+        | inl is ↦ subst (IsIn (step ∷ steps) p n) is (record { index = 0; number_is = omega arith; stands = refl; asked = (asked_decides p step).0 t })
         | inr d ↦ in_later step steps p n change ((are.exact change).0 d)
       ],
       λ i. elim (in_cases step steps p n change i) [
@@ -88,41 +94,42 @@ module _ (step : StepValue) (steps : List StepValue) (p : PrefixValue) (n : ℕ)
     );
   }
 
-  without_head : concerns p step ≡ false → AreAll number nat_cmp (IsIn (step ∷ steps) p n) rest
+  without_head : is_asked p step ≡ false → AreAll number nat_cmp (IsIn (step ∷ steps) p n) rest
   without_head f = record {
     ordered = are.ordered;
     exact = λ change. (
       λ c. in_later step steps p n change ((are.exact change).0 c),
       λ i. elim (in_cases step steps p n change i) [
-        | inl is ↦ absurd (false≢true (sym f ∙ (concerns_decides p step).1 (subst (λ (x : ChangeValue). Concerns p x.step) (sym is) i.concerning)))
+        | inl is ↦ absurd (false≢true (sym f ∙ (asked_decides p step).1 (subst (λ (x : ChangeValue). IsAsked p x.step) (sym is) i.asked)))
         | inr j ↦ (are.exact change).1 j
       ],
     );
   }
 
-are_in : (steps : List StepValue) (p : PrefixValue) (n : ℕ) → AreAll number nat_cmp (IsIn steps p n) (changes_in steps p n)
+are_in : (steps : List StepValue) (p : Option PrefixValue) (n : ℕ) → AreAll number nat_cmp (IsIn steps p n) (changes_in steps p n)
 are_in [] p n = record { ordered = none_ordered; exact = λ change. (λ c. absurd (omega (arith, c.1)), λ i. let none_there : None ≡ Some change.step = i.stands in absurd cc) }
 are_in (step ∷ steps) p n =
     let are = are_in steps p (suc n) in
     let rest = changes_in steps p (suc n) in
-    cond_both (concerns p step) (head step steps p n ∷ rest) rest (AreAll number nat_cmp (IsIn (step ∷ steps) p n)) (with_head step steps p n rest are) (without_head step steps p n rest are)
+    cond_both (is_asked p step) (head step steps p n ∷ rest) rest (AreAll number nat_cmp (IsIn (step ∷ steps) p n)) (with_head step steps p n rest are) (without_head step steps p n rest are)
 
 -- in other words
 as_others : (Is Other : ChangeValue → Type 0) (list : List ChangeValue) → ((change : ChangeValue) → Is change ↔ Other change) → AreAll number nat_cmp Is list → AreAll number nat_cmp Other list
 as_others Is Other list same a = record { ordered = a.ordered; exact = λ change. (λ c. (same change).0 ((a.exact change).0 c), λ o. (a.exact change).1 ((same change).1 o)) }
 
 -- ---- the changes of all steps
-pub all_changes : (steps : List StepValue) (first : ℕ) (p : PrefixValue) → AreAll number nat_cmp (IsChange steps first p) (changes_in (drop first steps) p first)
-all_changes steps first p = as_others (IsIn (drop first steps) p first) (IsChange steps first p) (changes_in (drop first steps) p first)
+pub all_changes : (steps : List StepValue) (first : ℕ) (p : Option PrefixValue) → AreAll number nat_cmp (IsAskedStep p steps first) (changes_in (drop first steps) p first)
+all_changes steps first p = as_others (IsIn (drop first steps) p first) (IsAskedStep p steps first) (changes_in (drop first steps) p first)
     (λ change. (
-      λ i. record { later = omega (arith, i.number_is); stands = ap (slice_get steps) i.number_is ∙ sym (slice_get-drop first steps i.index) ∙ i.stands; concerns = i.concerning },
-      λ c. let at : first + (change.number - first) ≡ change.number = omega (arith, c.later) in
-          record { index = change.number - first; number_is = sym at; stands = slice_get-drop first steps (change.number - first) ∙ ap (slice_get steps) at ∙ c.stands; concerning = c.concerns },
+      λ i. asked_of p steps first change (omega (arith, i.number_is)) (ap (slice_get steps) i.number_is ∙ sym (slice_get-drop first steps i.index) ∙ i.stands) i.asked,
+      λ c. let is = of_asked p steps first change c in
+          let at : first + (change.number - first) ≡ change.number = omega (arith, is.0) in
+          record { index = change.number - first; number_is = sym at; stands = slice_get-drop first steps (change.number - first) ∙ ap (slice_get steps) at ∙ is.1; asked = is.2 },
     ))
     (are_in (drop first steps) p first)
 
 -- ---- the changes that are kept
-module _ (ring : RecentValue Step) (p : PrefixValue) where
+module _ (ring : RecentValue Step) (p : Option PrefixValue) where
   pub kept_are : (from : ℕ) → AreAll number nat_cmp (IsKeptChange ring from p) (kept_changes (steps_told ring) from p)
   kept_are from =
       let oldest = oldest_kept ring.total in
@@ -134,14 +141,14 @@ module _ (ring : RecentValue Step) (p : PrefixValue) where
               later = omega (arith, i.number_is);
               kept = omega (arith, i.number_is);
               stands = ap (slice_get items) at ∙ sym (slice_get-drop (from - oldest) items i.index) ∙ i.stands;
-              concerns = i.concerning;
+              asked = i.asked;
             },
         λ c. let at : from - oldest + (change.number - max from oldest) ≡ change.number - oldest = omega (arith, c.later, c.kept) in
             record {
               index = change.number - max from oldest;
               number_is = omega (arith, c.later, c.kept);
               stands = slice_get-drop (from - oldest) items (change.number - max from oldest) ∙ ap (slice_get items) at ∙ c.stands;
-              concerning = c.concerns;
+              asked = c.asked;
             },
       ))
       (are_in (drop (from - oldest) items) p (max from oldest))
@@ -170,11 +177,11 @@ module _ (ring : RecentValue Step) (p : PrefixValue) where
         exact = λ change. (
           λ c. elim (contains_cases f rest change c) [
             | inl is ↦ subst (IsKeptChange ring from p) is first.0
-            | inr d ↦ let k = (are.exact change).0 d in record { later = omega (arith, k.later, first.0.later); kept = k.kept; stands = k.stands; concerns = k.concerns }
+            | inr d ↦ let k = (are.exact change).0 d in record { later = omega (arith, k.later, first.0.later); kept = k.kept; stands = k.stands; asked = k.asked }
           ],
           λ k. elim (cases_eq f.number change.number) [
             | inl same ↦ subst (Contains (f ∷ rest)) (one_number from f change first.0 k same) (contains_first f rest)
-            | inr other ↦ contains_later f rest change ((are.exact change).1 (record { later = omega (arith, other, first.1 change k); kept = k.kept; stands = k.stands; concerns = k.concerns }))
+            | inr other ↦ contains_later f rest change ((are.exact change).1 (record { later = omega (arith, other, first.1 change k); kept = k.kept; stands = k.stands; asked = k.asked }))
           ],
         );
       }
@@ -190,14 +197,14 @@ module _ (ring : RecentValue Step) (p : PrefixValue) where
   none_kept from none = none_in (kept_changes (steps_told ring) from p) (λ change c. none change (((kept_are from).exact change).0 c))
 
 -- ---- the lines
-module _ (ring : RecentValue StepValue) (lane from : ℕ) (p : PrefixValue) where
+module _ (ring : RecentValue StepValue) (lane from : ℕ) (p : Option PrefixValue) where
   abbrev more_lines : List (List ℕ)
   more_lines = missed_lines from (oldest_kept ring.total) ++ map (change_line lane) (kept_changes ring from p)
 
   pub told_all : ring.total < most_told → told_changes ring lane from p ≡ steps_line lane ring.total ∷ more_lines
   told_all less = ap (λ (b : Bool). steps_line lane ring.total ∷ (if b then more_lines else [])) (lt-ltb ring.total most_told less)
 
-module _ (lane from : ℕ) (p : PrefixValue) (entries : List EntryValue) where
+module _ (lane from : ℕ) (p : Option PrefixValue) (entries : List EntryValue) where
   abbrev steps : List StepValue
   steps = steps_of entries
 
@@ -226,14 +233,14 @@ module _ (lane from : ℕ) (p : PrefixValue) (entries : List EntryValue) where
       let total : min (length steps) most_told ≡ most_told = omega (arith, more) in
       ap (λ (n : ℕ). steps_line lane n ∷ (if nat_lt n most_told then missed_lines from (oldest_kept n) ++ map (change_line lane) (kept_changes (recent steps) from p) else [])) total
 
-  pub change_lines : AreChangeLines lane entries from p (told_changes (recent steps) lane from p)
+  pub change_lines : AreAskedChangeLines false lane entries from p (told_changes (recent steps) lane from p)
   change_lines = record { known = changes_in (drop first steps) p first; are_known = all_changes steps first p; told = told_cases (nat_lt (length steps) most_told) refl }
 
-  pub change_lines_one : (a b : List (List ℕ)) → AreChangeLines lane entries from p a → AreChangeLines lane entries from p b → a ≡ b
+  pub change_lines_one : (a b : List (List ℕ)) → AreAskedChangeLines false lane entries from p a → AreAskedChangeLines false lane entries from p b → a ≡ b
   change_lines_one a b x y = go (nat_lt (length steps) most_told) x.told y.told
     where
       known_one : x.known ≡ y.known
-      known_one = all_one number nat_cmp nat_cmp_total (IsChange steps first p) x.known y.known x.are_known y.are_known
+      known_one = all_one number nat_cmp nat_cmp_total (IsAskedStep p steps first) x.known y.known x.are_known y.are_known
 
       go : (t : Bool) → MatchBool t (a ≡ steps_line lane (length steps) ∷ (missed_lines from (oldest_kept (length steps)) ++ map (change_line lane) x.known)) (a ≡ steps_line lane most_told ∷ [])
           → MatchBool t (b ≡ steps_line lane (length steps) ∷ (missed_lines from (oldest_kept (length steps)) ++ map (change_line lane) y.known)) (b ≡ steps_line lane most_told ∷ []) → a ≡ b
@@ -241,10 +248,10 @@ module _ (lane from : ℕ) (p : PrefixValue) (entries : List EntryValue) where
       go false u v = u ∙ sym v
 
 -- what the tables of a lane tell of its changes
-pub tables_told : (value : TablesValue) (ring : RecentValue Step) (lane from : ℕ) (p : PrefixValue) → steps_told ring ≡ value.steps → (entries : List EntryValue) → StandsFor value entries → AreChangeLines lane entries from p (told_changes (steps_told ring) lane from p)
+pub tables_told : (value : TablesValue) (ring : RecentValue Step) (lane from : ℕ) (p : Option PrefixValue) → steps_told ring ≡ value.steps → (entries : List EntryValue) → StandsFor value entries → AreAskedChangeLines false lane entries from p (told_changes (steps_told ring) lane from p)
 tables_told value ring lane from p is entries stands =
-    subst (λ (r : RecentValue StepValue). AreChangeLines lane entries from p (told_changes r lane from p)) (sym (is ∙ stands.steps)) (change_lines lane from p entries)
+    subst (λ (r : RecentValue StepValue). AreAskedChangeLines false lane entries from p (told_changes r lane from p)) (sym (is ∙ stands.steps)) (change_lines lane from p entries)
 
 -- a lane has such lines
-pub changes_there : (lane : ℕ) (tables : TablesValue) (entries : List EntryValue) (from : ℕ) (prefix : PrefixValue) → StandsFor tables entries → (lines : List (List ℕ)) × AreChangeLines lane entries from prefix lines
+pub changes_there : (lane : ℕ) (tables : TablesValue) (entries : List EntryValue) (from : ℕ) (prefix : Option PrefixValue) → StandsFor tables entries → (lines : List (List ℕ)) × AreAskedChangeLines false lane entries from prefix lines
 changes_there lane tables entries from prefix stands = (told_changes (recent (steps_of entries)) lane from prefix, change_lines lane from prefix entries)

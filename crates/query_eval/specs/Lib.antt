@@ -7,3 +7,4 @@ pub mod RowTables
 pub mod RowRuns
 pub mod Rows
 pub mod RowChanges
+pub mod RowSteps

@@ -1,14 +1,16 @@
 -- What a call leaves that writes a reply, and the replies on the histories that a cut stands for.
-use Rattle.std.specs.Prelude.{◌≡◌, ℕ, zero, suc, List, [], ◌∷◌, length, Option, Result}
+use Rattle.std.specs.Prelude.{◌≡◌, ℕ, zero, suc, List, [], ◌∷◌, length, flat_map, Option, Result}
 use Rattle.std.specs.Io.KnownBytes.{append_known}
 use Rattle.cut_publisher.specs.declared.history.Event.{Event}
 use Rattle.cut_publisher.specs.Cuts.{Stands}
 use Rattle.cut_publisher.specs.History.{part}
 use Rattle.rib_model.specs.declared.entry.Entry.{Entry}
 use Rattle.rib_model.specs.Entries.{entry_values}
+use Rattle.ask_specs.specs.Asking.{AskValue, TellsRows, plain, rows, steps}
+use Rattle.ask_specs.specs.AskReply.{AreAskedLaneLines, AreFurtherLines, IsAskReply}
 use Rattle.bmp_specs.specs.Listed.{AreParallel}
 use Rattle.bmp_specs.specs.Query.{QueryValue, count, quit}
-use Rattle.bmp_specs.specs.QueryReply.{IsReply, AreAllRows}
+use Rattle.bmp_specs.specs.QueryReply.{AreAllRows, AreLaneLines, AreReplyLines}
 use Rattle.bmp_specs.specs.Reply.{told_count}
 use Rattle.bmp_specs.specs.Rows.{RowValue}
 use Rattle.bmp_specs.specs.Values.{EntryValue}
@@ -56,9 +58,24 @@ lanes_of lanes history = lanes_from 0 lanes history
 abbrev pub StandsForHistory : List (TablesValue × ℕ) → List (Event Entry) → Type 0
 StandsForHistory lanes history = Stands (λ tables entries. StandsFor tables (entry_values entries)) lanes history
 
--- the text is the reply of the query on the history, which has so many lanes
-abbrev pub IsReplyOn : QueryValue → ℕ → List (Event Entry) → List ℕ → Type 0
-IsReplyOn query lanes history text = IsReply query (lanes_of lanes history) text
+-- the text is the reply to what is asked, on the history, which has so many lanes
+abbrev pub IsAskReplyOn : AskValue → ℕ → List (Event Entry) → List ℕ → Type 0
+IsAskReplyOn ask lanes history text = IsAskReply ask (lanes_of lanes history) text
+
+-- the lines of a lane in the reply to what is asked, and all lines between the first and the last of it
+abbrev pub AreAskLaneLines : AskValue → ℕ → List EntryValue → List (List ℕ) → Type 0
+AreAskLaneLines (plain query) lane entries lines = AreLaneLines query lane entries lines
+AreAskLaneLines ask lane entries lines = AreAskedLaneLines ask lane entries lines
+
+abbrev pub AreAskLines : AskValue → List (List EntryValue) → List (List ℕ) → Type 0
+AreAskLines (plain query) lanes lines = AreReplyLines query lanes lines
+AreAskLines ask lanes lines = AreFurtherLines ask lanes lines
+
+-- lanes with these entries have these lines in all, lane after lane, where a lane has lines that fit
+pub record AreLanes (Fit : ℕ → List EntryValue → List (List ℕ) → Type 0) (lanes : List (List EntryValue)) (lines : List (List ℕ)) : Type 0 where
+  pub parts : List (List (List ℕ))
+  pub each : AreParallel Fit lanes parts
+  pub all : lines ≡ flat_map (λ part. part) parts
 
 -- For whichever entries of each lane, it is the number of all rows that are asked for, at most the greatest of 64 bits.
 pub record CountsAllRows (Of : List (List EntryValue) → Type 0) (query : QueryValue) (number : ℕ) : Type 0 where
@@ -70,3 +87,9 @@ abbrev pub TellsByLane : QueryValue → Type 0
 TellsByLane (count select) = ⊥
 TellsByLane quit = ⊥
 TellsByLane _ = Unit {0}
+
+-- the same of what is asked
+abbrev pub AsksByLane : AskValue → Type 0
+AsksByLane (plain query) = TellsByLane query
+AsksByLane (rows with_steps full query traits) = TellsRows query
+AsksByLane (steps full lane from prefix) = Unit {0}

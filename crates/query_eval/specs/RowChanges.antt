@@ -1,5 +1,5 @@
--- The changes of a prefix that a lane keeps, as a list, and their lines.
-use Rattle.std.specs.Prelude.{ℕ, suc, ◌-◌, max, Bool, true, nat_lt, if◌then◌else◌, List, [], ◌∷◌, ◌++◌, drop, map}
+-- The steps that a lane keeps, as a list, and their lines: all of them, or where a prefix is named, its changes.
+use Rattle.std.specs.Prelude.{ℕ, suc, ◌-◌, max, Bool, true, nat_lt, if◌then◌else◌, List, [], ◌∷◌, ◌++◌, drop, map, Option, Some, None}
 use Rattle.std.specs.Ordering.{is_eq}
 use Rattle.bmp_specs.specs.Changes.{ChangeValue, oldest_kept}
 use Rattle.bmp_specs.specs.ChangeLines.{steps_line, missed_lines, change_line}
@@ -17,19 +17,24 @@ concerns p (down_step key) = true
 concerns p (announce_step key view nlri route) = is_eq (prefix_cmp nlri.prefix p)
 concerns p (withdraw_step key view nlri) = is_eq (prefix_cmp nlri.prefix p)
 
--- the changes among steps that are numbered on from a number
-abbrev pub changes_in : List StepValue → PrefixValue → ℕ → List ChangeValue
+-- whether the step is asked for
+abbrev pub is_asked : Option PrefixValue → StepValue → Bool
+is_asked None step = true
+is_asked (Some p) step = concerns p step
+
+-- those that are asked for, among steps that are numbered on from a number
+abbrev pub changes_in : List StepValue → Option PrefixValue → ℕ → List ChangeValue
 changes_in [] p n = []
-changes_in (step ∷ steps) p n = if concerns p step then record { number = n; step = step } ∷ changes_in steps p (suc n) else changes_in steps p (suc n)
+changes_in (step ∷ steps) p n = if is_asked p step then record { number = n; step = step } ∷ changes_in steps p (suc n) else changes_in steps p (suc n)
 
 -- those that are kept, from the step of a number on
-abbrev pub kept_changes : RecentValue StepValue → ℕ → PrefixValue → List ChangeValue
+abbrev pub kept_changes : RecentValue StepValue → ℕ → Option PrefixValue → List ChangeValue
 kept_changes recent from p = changes_in (drop (from - oldest_kept recent.total) recent.items) p (max from (oldest_kept recent.total))
 
 -- the lines of how many steps are missed and of these changes; past the greatest number of 64 bits no step is told
-abbrev pub further_changes : RecentValue StepValue → ℕ → ℕ → PrefixValue → List (List ℕ)
+abbrev pub further_changes : RecentValue StepValue → ℕ → ℕ → Option PrefixValue → List (List ℕ)
 further_changes recent lane from p = if nat_lt recent.total most_told then missed_lines from (oldest_kept recent.total) ++ map (change_line lane) (kept_changes recent from p) else []
 
 -- and of how many steps were made
-abbrev pub told_changes : RecentValue StepValue → ℕ → ℕ → PrefixValue → List (List ℕ)
+abbrev pub told_changes : RecentValue StepValue → ℕ → ℕ → Option PrefixValue → List (List ℕ)
 told_changes recent lane from p = steps_line lane recent.total ∷ further_changes recent lane from p

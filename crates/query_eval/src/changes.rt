@@ -1,7 +1,9 @@
-ghost use Rattle.std.specs.Prelude.{◌<◌, map};
+ghost use Rattle.std.specs.Prelude.{◌<◌, false, map, option_map};
+ghost use Rattle.ask_specs.specs.AskReply.{AreAskedChangeLines};
 ghost use Rattle.bmp_specs.specs.Changes.{oldest_kept};
 ghost use Rattle.bmp_specs.specs.ChangeLines.{change_line, missed_lines};
-ghost use Rattle.bmp_specs.specs.QueryReply.{AreChangeLines, most_told};
+ghost use Rattle.bmp_specs.specs.QueryReply.{most_told};
+ghost use Rattle.route_watch.specs.Watch.{IsFirst, IsKeptChange, change_of};
 ghost use Rattle.router_tables.specs.Tables.{StandsFor, steps_told};
 ghost use Rattle.query_eval.specs.Puts.{PutsLines, WritesLines};
 ghost use Rattle.query_eval.specs.RowChanges.{kept_changes, told_changes};
@@ -10,7 +12,7 @@ use ip_prefix::Prefix;
 use recent_ring::Recent;
 use reply_text::{put_change, put_missed, put_steps};
 use rib_model::Step;
-use route_watch::{missed, poll};
+use route_watch::{missed, poll, poll_any};
 use router_tables::RouterTables;
 use wire_io::{Failed, Sink};
 
@@ -27,13 +29,28 @@ fn put_lost<O: Sink>(out: &mut O, recent: &Recent<Step>, from: u64) -> Result<u6
     Ok(1)
 }
 
+// The first step that is kept, from a number on: any, or where a prefix is named, one that concerns it.
+fn next_change<'a>(
+    recent: &'a Recent<Step>,
+    from: u64,
+    prefix: &Option<Prefix>,
+) -> Option<(u64, &'a Step)>
+    requires { recent.now.total < most_told }
+    ensures { IsFirst (IsKeptChange recent.now from prefix.now) (option_map change_of result) }
+{
+    match prefix {
+        Some(prefix) => poll(recent, from, prefix),
+        None => poll_any(recent, from),
+    }
+}
+
 // Writes the lines of the changes that are kept. Each step is looked at once.
 fn put_kept_changes<O: Sink>(
     out: &mut O,
     lane: u32,
     recent: &Recent<Step>,
     from: u64,
-    prefix: &Prefix,
+    prefix: &Option<Prefix>,
 ) -> Result<u64, Failed>
     requires { recent.now.total < most_told }
     ensures { WritesLines O.faults O.told O.aside out.old (map (change_line lane) (kept_changes (steps_told recent.now) from prefix.now)) result out.new }
@@ -42,7 +59,7 @@ fn put_kept_changes<O: Sink>(
     let _total = recent.total();
     let mut next = from;
     let mut count: u64 = 0;
-    while let Some(found) = poll(recent, next, prefix) {
+    while let Some(found) = next_change(recent, next, prefix) {
         put_change(out, lane, found.0, found.1)?;
         count = count.saturating_add(1);
         next = found.0 + 1;
@@ -56,7 +73,7 @@ fn put_recent<O: Sink>(
     lane: u32,
     recent: &Recent<Step>,
     from: u64,
-    prefix: &Prefix,
+    prefix: &Option<Prefix>,
 ) -> Result<u64, Failed>
     ensures { WritesLines O.faults O.told O.aside out.old (told_changes (steps_told recent.now) lane from prefix.now) result out.new }
 {
@@ -71,16 +88,17 @@ fn put_recent<O: Sink>(
     Ok(count.saturating_add(kept))
 }
 
-/// Writes the lines of `changes N S P` of the lane N: how many steps it made, how many are missed of those from the
-/// step of number S on, and the changes of the prefix that are kept; and answers how many lines these are.
+/// Writes the lines of `changes N S` or `changes N S P` of the lane N: how many steps it made, how many are missed of those
+/// from the step of number S on, and the steps that are kept, those that concern the prefix alone where one is named; and
+/// answers how many lines these are.
 pub(crate) fn put_changes<O: Sink>(
     out: &mut O,
     lane: u32,
     tables: &RouterTables,
     from: u64,
-    prefix: &Prefix,
+    prefix: &Option<Prefix>,
 ) -> Result<u64, Failed>
-    ensures { PutsLines O.faults O.told O.aside (StandsFor tables.now) (λ entries. AreChangeLines lane entries from prefix.now) out.old result out.new }
+    ensures { PutsLines O.faults O.told O.aside (StandsFor tables.now) (λ entries. AreAskedChangeLines false lane entries from prefix.now) out.old result out.new }
 {
     put_recent(out, lane, tables.recent(), from, prefix)
 }

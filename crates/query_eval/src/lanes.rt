@@ -1,11 +1,14 @@
 //! The lines of all lanes, lane after lane.
-ghost use Rattle.std.specs.Prelude.{◌≡◌, length};
-ghost use Rattle.bmp_specs.specs.Query.{changes, count, cut};
-ghost use Rattle.bmp_specs.specs.QueryReply.{AreLaneLines, AreLines};
+ghost use Rattle.std.specs.Prelude.{◌≡◌, false, length};
+ghost use Rattle.ask_specs.specs.Asking.{steps};
+ghost use Rattle.ask_specs.specs.AskReply.{AreAskedLaneLines};
+ghost use Rattle.bmp_specs.specs.Query.{count, cut};
+ghost use Rattle.bmp_specs.specs.QueryReply.{AreLaneLines};
+ghost use Rattle.query_lang.specs.Asks.{ask_value};
 ghost use Rattle.query_lang.specs.Queries.{query_value};
 ghost use Rattle.router_tables.specs.Tables.{StandsFor};
 ghost use Rattle.query_eval.specs.Puts.{PutsLines};
-ghost use Rattle.query_eval.specs.Replies.{StandsForLane, StandForLanes, TellsByLane, CountsAllRows};
+ghost use Rattle.query_eval.specs.Replies.{StandsForLane, StandForLanes, AreAskLaneLines, AreLanes, AsksByLane, TellsByLane, CountsAllRows};
 
 use crate::changes::put_changes;
 use crate::count::count_rows;
@@ -17,9 +20,10 @@ use crate::peers::put_peers;
 use crate::routers::put_routers;
 use crate::run::Part;
 use crate::stats::put_stats;
+use crate::steps::put_steps_rows;
 use cut_publisher::Cut;
 use ip_prefix::Prefix;
-use query_lang::{Query, Select};
+use query_lang::{Ask, Query, Select};
 use reply_text::put_lane;
 use router_tables::RouterTables;
 use wire_io::{Failed, Sink};
@@ -32,16 +36,16 @@ fn put_entries<O: Sink>(out: &mut O, lane: u32, entries: u64) -> Result<u64, Fai
     Ok(1)
 }
 
-// Writes the lines of the changes of a prefix, where they are asked of this lane.
+// Writes the lines of the steps that a lane keeps, or of the changes of a prefix, where they are asked of this lane.
 fn put_lane_changes<O: Sink>(
     out: &mut O,
     lane: u32,
     tables: &RouterTables,
     number: u32,
     from: u64,
-    prefix: &Prefix,
+    prefix: &Option<Prefix>,
 ) -> Result<u64, Failed>
-    ensures { PutsLines O.faults O.told O.aside (StandsFor tables.now) (AreLaneLines (changes number from prefix.now) lane) out.old result out.new }
+    ensures { PutsLines O.faults O.told O.aside (StandsFor tables.now) (AreAskedLaneLines (steps false number from prefix.now) lane) out.old result out.new }
 {
     if number != lane {
         return Ok(0);
@@ -49,7 +53,7 @@ fn put_lane_changes<O: Sink>(
     put_changes(out, lane, tables, from, prefix)
 }
 
-// Writes the lines of one lane, and answers how many they are.
+// Writes the lines of one lane that a query asks for, and answers how many they are.
 fn put_lane_lines<O: Sink>(
     out: &mut O,
     query: &Query,
@@ -79,7 +83,7 @@ fn put_lane_lines<O: Sink>(
             lane: number,
             from,
             prefix,
-        } => put_lane_changes(out, lane, tables, *number, *from, prefix),
+        } => put_lane_changes(out, lane, tables, *number, *from, &Some(*prefix)),
         // excluded by the premise: rows are counted over all lanes together
         Query::Count(_) => unreachable!(),
         // excluded by the premise: `quit` has no reply
@@ -87,18 +91,38 @@ fn put_lane_lines<O: Sink>(
     }
 }
 
+// Writes the lines of one lane that are asked for, and answers how many they are.
+fn put_ask_lines<O: Sink>(
+    out: &mut O,
+    ask: &Ask,
+    lane: u32,
+    tables: &RouterTables,
+    entries: u64,
+) -> Result<u64, Failed>
+    requires { AsksByLane (ask_value ask.now) }
+    ensures { PutsLines O.faults O.told O.aside (StandsForLane (tables.now, entries)) (AreAskLaneLines (ask_value ask.now) lane) out.old result out.new }
+{
+    match ask {
+        Ask::Query(query) => put_lane_lines(out, query, lane, tables, entries),
+        Ask::Steps(rows) => put_steps_rows(out, lane, tables, rows),
+        Ask::Changes { lane: number, from } => {
+            put_lane_changes(out, lane, tables, *number, *from, &None)
+        }
+    }
+}
+
 // Writes the lines of all lanes, lane after lane, and answers how many they are.
 pub(crate) fn put_lanes<O: Sink>(
     out: &mut O,
     cut: &Cut<RouterTables>,
-    query: &Query,
+    ask: &Ask,
 ) -> Result<u64, Failed>
-    requires { TellsByLane (query_value query.now) }
-    ensures { PutsLines O.faults O.told O.aside (StandForLanes cut.now) (AreLines (query_value query.now)) out.old result out.new }
+    requires { AsksByLane (ask_value ask.now) }
+    ensures { PutsLines O.faults O.told O.aside (StandForLanes cut.now) (AreLanes (AreAskLaneLines (ask_value ask.now))) out.old result out.new }
 {
     let mut count: u64 = 0;
     for lane in 0..cut.lanes() {
-        let lines = put_lane_lines(out, query, lane, cut.value(lane), cut.count(lane))?;
+        let lines = put_ask_lines(out, ask, lane, cut.value(lane), cut.count(lane))?;
         count = count.saturating_add(lines);
     }
     Ok(count)

@@ -1,17 +1,20 @@
-//! The reply of a query.
+//! The reply to what is asked.
 ghost use Rattle.std.specs.Prelude.{◌≡◌, ◌≢◌, [], List, length, OnOk, IfSome, IsNone};
+ghost use Rattle.ask_specs.specs.Asking.{plain};
+ghost use Rattle.ask_specs.specs.AskReply.{IsAskReply};
 ghost use Rattle.bmp_specs.specs.Query.{count, quit};
-ghost use Rattle.bmp_specs.specs.QueryReply.{AreReplyLines, IsReply};
+ghost use Rattle.bmp_specs.specs.QueryReply.{AreReplyLines};
 ghost use Rattle.cut_publisher.specs.declared.history.Event.{Event};
+ghost use Rattle.query_lang.specs.Asks.{ask_value};
 ghost use Rattle.query_lang.specs.Queries.{query_value};
 ghost use Rattle.rib_model.specs.declared.entry.Entry.{Entry};
 ghost use Rattle.wire_io.specs.Faults.{HasCause};
 ghost use Rattle.query_eval.specs.Puts.{PutsLines};
-ghost use Rattle.query_eval.specs.Replies.{PutsBuffered, PutsText, PutsReply, StandForLanes, StandsForHistory, IsReplyOn, TellsByLane};
+ghost use Rattle.query_eval.specs.Replies.{PutsBuffered, PutsText, PutsReply, StandForLanes, StandsForHistory, AreAskLines, AsksByLane, IsAskReplyOn, TellsByLane};
 
 use crate::lanes::{count_all, put_lanes};
 use cut_publisher::Cut;
-use query_lang::{Query, Select};
+use query_lang::{Ask, Query, Select};
 use reply_text::{put_at, put_count, put_end};
 use router_tables::RouterTables;
 use wire_io::{BufferedSink, Failed, Puts, Sink, through_buffer};
@@ -28,6 +31,19 @@ fn counted(query: &Query) -> Option<Select>
     }
 }
 
+// The same of what is asked.
+fn count_asked(ask: &Ask) -> Option<Select>
+    requires { ask_value ask.now ≢ plain quit }
+    ensures some { IfSome result (λ select. ask_value ask.now ≡ plain (count select)) }
+    ensures none { IsNone result → AsksByLane (ask_value ask.now) }
+{
+    match ask {
+        Ask::Query(query) => counted(query),
+        Ask::Steps(_) => None,
+        Ask::Changes { .. } => None,
+    }
+}
+
 // Writes the number of rows of all lanes, and answers that it is one line.
 fn put_row_count<O: Sink>(
     out: &mut O,
@@ -41,63 +57,63 @@ fn put_row_count<O: Sink>(
 }
 
 // Writes the lines between the first and the last of a reply, and answers how many they are.
-fn put_lines<O: Sink>(out: &mut O, cut: &Cut<RouterTables>, query: &Query) -> Result<u64, Failed>
-    requires { query_value query.now ≢ quit }
-    ensures { PutsLines O.faults O.told O.aside (StandForLanes cut.now) (AreReplyLines (query_value query.now)) out.old result out.new }
+fn put_lines<O: Sink>(out: &mut O, cut: &Cut<RouterTables>, ask: &Ask) -> Result<u64, Failed>
+    requires { ask_value ask.now ≢ plain quit }
+    ensures { PutsLines O.faults O.told O.aside (StandForLanes cut.now) (AreAskLines (ask_value ask.now)) out.old result out.new }
 {
-    match counted(query) {
+    match count_asked(ask) {
         Some(select) => put_row_count(out, cut, &select),
-        None => put_lanes(out, cut, query),
+        None => put_lanes(out, cut, ask),
     }
 }
 
 // Writes a reply, by the entries of each lane.
-fn put_reply<O: Sink>(out: &mut O, cut: &Cut<RouterTables>, query: &Query) -> Result<(), Failed>
-    requires { query_value query.now ≢ quit }
-    ensures { PutsText O.faults O.told O.aside (StandForLanes cut.now) (IsReply (query_value query.now)) out.old result out.new }
+fn put_reply<O: Sink>(out: &mut O, cut: &Cut<RouterTables>, ask: &Ask) -> Result<(), Failed>
+    requires { ask_value ask.now ≢ plain quit }
+    ensures { PutsText O.faults O.told O.aside (StandForLanes cut.now) (IsAskReply (ask_value ask.now)) out.old result out.new }
 {
     put_at(out, cut.rev())?;
-    let rows = put_lines(out, cut, query)?;
+    let rows = put_lines(out, cut, ask)?;
     put_end(out, rows)
 }
 
-// The reply of a query on a cut.
+// The reply to what is asked, on a cut.
 struct Reply<'a> {
     cut: &'a Cut<RouterTables>,
-    query: &'a Query,
+    ask: &'a Ask,
 }
 
 impl<O: Sink> Puts<O> for Reply<'_> {
-    ghost may_put = { λ reply. query_value reply.query.now ≢ quit };
+    ghost may_put = { λ reply. ask_value reply.ask.now ≢ plain quit };
 
-    ghost leaves = { λ reply. PutsBuffered O.faults O.told O.aside (StandForLanes reply.cut.now) (IsReply (query_value reply.query.now)) };
+    ghost leaves = { λ reply. PutsBuffered O.faults O.told O.aside (StandForLanes reply.cut.now) (IsAskReply (ask_value reply.ask.now)) };
 
     fn put(self, buffer: &mut BufferedSink<O>) -> Result<(), Failed> {
-        let Reply { cut, query } = self;
-        put_reply(buffer, cut, query)
+        let Reply { cut, ask } = self;
+        put_reply(buffer, cut, ask)
     }
 }
 
 // Writes a reply through a buffer of its own.
-fn put_buffered<O: Sink>(out: &mut O, cut: &Cut<RouterTables>, query: &Query) -> Result<(), Failed>
-    requires { query_value query.now ≢ quit }
-    ensures { PutsText O.faults O.told O.aside (StandForLanes cut.now) (IsReply (query_value query.now)) out.old result out.new }
+fn put_buffered<O: Sink>(out: &mut O, cut: &Cut<RouterTables>, ask: &Ask) -> Result<(), Failed>
+    requires { ask_value ask.now ≢ plain quit }
+    ensures { PutsText O.faults O.told O.aside (StandForLanes cut.now) (IsAskReply (ask_value ask.now)) out.old result out.new }
 {
-    through_buffer(out, Reply { cut, query })
+    through_buffer(out, Reply { cut, ask })
 }
 
-/// Writes the reply of a query: the revision of the cut, the lines of the rows that are asked for, lane
-/// after lane, and their number, at most 2^64 - 1. It is the reply on every history that the cut stands
-/// for. The query isn't the end of a session. A write that fails ends the call; a front of the reply was
-/// then written.
+/// Writes the reply to what a line asks: the revision of the cut, the lines that are asked for, lane after
+/// lane, and their number, at most 2^64 - 1. It is the reply on every history that the cut stands for. What
+/// is asked isn't the end of a session. A write that fails ends the call; a front of the reply was then
+/// written.
 ///
 /// The lines go through a buffer, which is handed on at the end. It takes no memory.
-pub fn answer<O: Sink>(cut: &Cut<RouterTables>, query: &Query, out: &mut O) -> Result<(), Failed>
-    requires { query_value query.now ≢ quit }
+pub fn answer<O: Sink>(cut: &Cut<RouterTables>, ask: &Ask, out: &mut O) -> Result<(), Failed>
+    requires { ask_value ask.now ≢ plain quit }
     ensures reply { (history : List (Event Entry)) → StandsForHistory cut.now history
-        → PutsReply O.faults O.told O.aside (IsReplyOn (query_value query.now) (length cut.now) history) out.old result out.new }
+        → PutsReply O.faults O.told O.aside (IsAskReplyOn (ask_value ask.now) (length cut.now) history) out.old result out.new }
     ensures kept { O.aside out.new ≡ O.aside out.old }
     ensures cause { HasCause (O.faults out.old) (O.faults out.new) result }
 {
-    put_buffered(out, cut, query)
+    put_buffered(out, cut, ask)
 }

@@ -1,4 +1,4 @@
-use Rattle.query_eval.proofs.LaneSteps.{puts_of_tables, puts_of_count}
+use Rattle.query_eval.proofs.LaneSteps.{plain_changes, puts_of_tables, puts_of_count}
 use Rattle.query_eval.proofs.lanes.put_lane_lines.Goals as goal
 
 pub returns-in-Routers : goal.returns-in-Routers
@@ -32,4 +32,4 @@ pub returns-in-Stats : goal.returns-in-Stats
 returns-in-Stats g c = rw c.in-Stats.is (puts_of_tables _ _ _ _ _ c.put_stats.ensures)
 
 pub returns-in-Changes : goal.returns-in-Changes
-returns-in-Changes g c = rw c.in-Changes.is (puts_of_tables _ _ _ _ _ c.put_lane_changes.ensures)
+returns-in-Changes g c = rw c.in-Changes.is (puts_of_tables _ _ _ _ _ (plain_changes _ _ _ _ _ _ _ _ c.put_lane_changes.ensures))
