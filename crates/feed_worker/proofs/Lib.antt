@@ -14,4 +14,5 @@ pub mod GivenConnections
 pub mod Longer
 pub mod WholeLives
 pub mod Planned
+pub mod LaneLives
 mod Refuted

@@ -1,16 +1,24 @@
 -- What the clauses refuse: for each mistake that someone could make here, its result at one value.
 use Rattle.std.proofs.Common.{◌≡◌, ◌⊎◌, inl, inr, ⊎_elim, ℕ, ◌+◌, ◌≤◌, Bool, true, false, List, [], ◌∷◌, ◌++◌, length, take, get_or, refl, sym, ◌∙◌, ap, subst, append-nil, length-append, arith, nat_lt, Some, Result, Ok, Err}
-use Rattle.std.specs.Prelude.{MatchBool}
+use Rattle.std.specs.Prelude.{MatchBool, flat_map}
 use Rattle.std.proofs.lemmas.List.{length-map, take_at}
 use Rattle.bmp_specs.specs.declared.causes.Cause.{Cause}
 use Rattle.bmp_specs.specs.declared.causes.Cause.TheVariants.{Ended, Full, ReadFault}
-use Rattle.bmp_specs.specs.Life.{LastRead, gave, failed, IsLife, IsOpenLife}
+use Rattle.bmp_specs.specs.Life.{LastRead, gave, IsLife, IsOpenLife}
 use Rattle.bmp_specs.specs.Meaning.{Meaning, IsExact, WalksBy}
+use Rattle.bmp_specs.specs.MessageEffects.{strict}
 use Rattle.bmp_specs.specs.Values.{EntryValue, opened, message, closed}
 use Rattle.bmp_specs.specs.declared.causes.Why.TheVariants.{Version}
 use Rattle.bmp_specs.specs.Walk.{whole, broken}
 use Rattle.bmp_specs.proofs.WalkOne.{walk_one}
-use Rattle.cut_publisher.specs.History.{Fed}
+use Rattle.ask_specs.specs.Lives.{AreLives, IsLaneOf}
+use Rattle.ask_specs.specs.StepRows.{AnnouncesOfUp}
+use Rattle.ask_specs.specs.Wrong.{some_row, unannounced}
+use Rattle.ask_specs.proofs.CopyCases.{up_tells}
+use Rattle.ask_specs.proofs.LiveLaws.{strict_lives}
+use Rattle.ask_specs.proofs.StepLaws.{leave_rows}
+use Rattle.cut_publisher.specs.declared.history.Event.{Event}
+use Rattle.cut_publisher.specs.History.{Begins, Fed}
 use Rattle.rib_model.specs.declared.entry.Entry.{Entry}
 use Rattle.rib_model.specs.Entries.{entry_value}
 use Rattle.station_doors.specs.Doors.{Opens, IsRefusal, CountsLast}
@@ -21,7 +29,9 @@ use Rattle.feed_worker.specs.Connection.{TakesConnection, IsBegun}
 use Rattle.feed_worker.specs.Feed.{Refuses, ServesAll, Stops, most_entries}
 use Rattle.feed_worker.specs.FeedPort.{IsAtRest, IsPublishedWhereTold}
 use Rattle.feed_worker.specs.Front.{BreaksWhereTold}
+use Rattle.feed_worker.specs.Lives.{IsServedLane, seen_of}
 use Rattle.feed_worker.specs.Publishing.{EndsWith, Grows}
+use Rattle.feed_worker.proofs.LaneLives.{seen_lives, seen_up}
 
 -- A meaning of bodies under which each has an entry without effects, and the walk of one Initiation without a TLV.
 abbrev plain : Meaning
@@ -140,3 +150,22 @@ other_messages_are_not_told (before, is) = not_last before is
     not_last [] e = absurd (cc e)
     not_last (x ∷ []) e = absurd (cc e)
     not_last (x ∷ y ∷ before) e = absurd (omega (arith, ap length e, length-append before (opened ∷ [])))
+
+-- Of a lane no announcement of a peer that isn't up is seen, and no message that stands before an opening.
+no_orphan_is_seen : (lane : ℕ) (history seen : List (Event Entry)) → IsServedLane strict lane history → Begins seen history → seen_of lane seen ≡ unannounced → ⊥
+no_orphan_is_seen lane history seen is begins e =
+    let up : AnnouncesOfUp unannounced = subst AnnouncesOfUp e (seen_up strict strict_lives lane history seen is begins) in
+    up_tells.isnt_there ((leave_rows unannounced some_row up).1 up_tells.is_left)
+
+not_begun : (lives : List (List EntryValue)) (present : List EntryValue) → AreLives plain lives → (present ≡ []) ⊎ ((bytes : List ℕ) × IsOpenLife plain bytes present) → entry ∷ [] ≡ flat_map (λ (l : List EntryValue). l) lives ++ present → ⊥
+not_begun [] present are (inl none) e = absurd (omega (arith, ap length e, ap length none))
+not_begun [] present are (inr (bytes, is)) e = let other : entry ∷ [] ≡ opened ∷ is.messages = e ∙ is.is in absurd (cc other)
+not_begun (life ∷ lives) present (bytes, last, is, are) p e =
+    let rest = flat_map (λ (l : List EntryValue). l) lives in
+    let other : entry ∷ [] ≡ opened ∷ (((is.messages ++ closed is.cause ∷ []) ++ rest) ++ present) = e ∙ ap (λ (l : List EntryValue). (l ++ rest) ++ present) is.is in
+    absurd (cc other)
+
+no_message_stands_before_an_opening : (lane : ℕ) (history seen : List (Event Entry)) → IsServedLane plain lane history → Begins seen history → seen_of lane seen ≡ entry ∷ [] → ⊥
+no_message_stands_before_an_opening lane history seen is begins e =
+    let lives : IsLaneOf plain (entry ∷ []) = subst (IsLaneOf plain) e (seen_lives plain lane history seen is begins) in
+    not_begun lives.lives lives.present lives.are_lives lives.is_present lives.joined

@@ -6,3 +6,4 @@ pub mod Walking
 pub mod Feed
 pub mod Planned
 pub mod Front
+pub mod Lives

@@ -10,7 +10,9 @@
 //! lives of all connections that it opened. All three are written over any `FeedPort`, which gives bytes only where the
 //! messages of all earlier ones are published, and opens a connection only where the closing of the last one is;
 //! `LanePort` makes one of any port, and `LaneYard` is a yard that hands out such ports alone. Out of memory, the last
-//! connection's life was published up to its last read at least.
+//! connection's life was published up to its last read at least. Whatever front of the history is seen, what is there of
+//! a lane are lives, of which the last may be open, so that a client can keep an exact copy of its rows (`lanes_are_lives`,
+//! `lanes_keep_copies`).
 //! Begin with `specs/Connection.antt`, `specs/Feed.antt` and `specs/FeedPort.antt`, then `src/connection.rt`.
 #![tactic(auto)]
 
@@ -29,4 +31,7 @@ pub use feed::{LaneEnd, serve_feed};
 pub use feed_port::FeedPort;
 pub use lane_port::LanePort;
 pub use lane_yard::LaneYard;
-pub use laws::{few_lives_fit, few_rounds_fit, lanes_publish_plans, ports_tell_connections};
+pub use laws::{
+    few_lives_fit, few_rounds_fit, lanes_announce_of_up, lanes_are_lives, lanes_keep_copies,
+    lanes_publish_plans, ports_tell_connections,
+};
