@@ -7,4 +7,7 @@ pub mod Living
 pub mod Serving
 pub mod Later
 pub mod GivenSessions
+pub mod TurnLaws
+pub mod LaneLines
+pub mod CopyLaws
 mod Refuted

@@ -67,7 +67,7 @@ module _ (lanes : ℕ) where
   is_too_long : (line : List ℕ) (heard : Heard) → IsHeard line heard → 1024 < length line → heard ≡ too_long
   is_too_long line too_long is long = refl
   is_too_long line unknown is long = absurd (omega (arith, is.0))
-  is_too_long line (asked q) is long = absurd (omega (arith, is.0))
+  is_too_long line (asked ask) is long = absurd (omega (arith, is.0))
   is_too_long line over is long = absurd (omega (arith, is.0))
 
   -- after it the connection doesn't go on

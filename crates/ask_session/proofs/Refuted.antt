@@ -1,23 +1,30 @@
 -- What the clauses refuse: for each mistake that someone could make here, its result at one value.
-use Rattle.std.proofs.Common.{◌≡◌, ◌⊎◌, ⊎_elim, ℕ, ◌+◌, ◌-◌, ◌≤◌, nat_eq, cond, Bool, true, false, List, [], ◌∷◌, ◌++◌, length, take, drop, get_or, refl, sym, ◌∙◌, ap, subst, length-append, length-take, take-append-drop, arith, Option, None, Some}
+use Rattle.std.proofs.Common.{◌≡◌, ⊎_elim, ℕ, ◌-◌, ◌≤◌, nat_eq, cond, Bool, true, false, List, [], ◌∷◌, ◌++◌, length, take, drop, get_or, refl, sym, ◌∙◌, ap, subst, length-append, length-take, take-append-drop, arith, Option, None, Some}
 use Rattle.std.specs.Fmt.{digits}
 use Rattle.std.specs.Prelude.{codes, sum_by}
 use Rattle.std.proofs.lemmas.List.{get_or-append_right, take-append-le}
+use Rattle.std.proofs.lemmas.List.Elements.{All-nil, All-cons}
+use Rattle.ask_specs.specs.AskReply.{IsAskReply}
+use Rattle.ask_specs.specs.Asking.{AskValue, plain, rows, steps}
+use Rattle.ask_specs.specs.Offer.{IsOfferedAsk}
+use Rattle.ask_specs.specs.Traits.{no_traits}
+use Rattle.ask_specs.proofs.OfferLaws.{full_table, offers_plain}
+use Rattle.ask_specs.proofs.WordLaws.{word_is_free}
+use Rattle.ask_specs.proofs.WrongLaws.{lacks_space}
 use Rattle.bmp_specs.specs.Life.{failed, Given}
-use Rattle.bmp_specs.specs.Query.{QueryValue, quit, AreQueryWords, IsQuery}
+use Rattle.bmp_specs.specs.Query.{table, quit, IsQuery, IsWord}
 use Rattle.bmp_specs.specs.Reply.{reply}
+use Rattle.bmp_specs.specs.Selection.{select_all}
+use Rattle.bmp_specs.specs.Values.{EntryValue}
 use Rattle.cut_publisher.specs.declared.history.Event.TheVariants.{Of}
-use Rattle.query_eval.specs.Replies.{IsReplyOn, lanes_of}
-use Rattle.query_lang.proofs.FormLaws.{as_quit}
-use Rattle.query_lang.proofs.LineWords.{query_asks, whole_word}
+use Rattle.query_eval.specs.Replies.{IsAskReplyOn, lanes_of}
 use Rattle.query_lang.proofs.TextLaws.{read_back, quit_line}
-use Rattle.query_lang.proofs.VerbLaws.{same_verb}
 use Rattle.rib_model.specs.declared.entry.Entry.TheVariants.{Opened}
 use Rattle.wire_io.specs.Aside.{Aside}
 use Rattle.ask_session.specs.declared.close.Close.{Close}
 use Rattle.ask_session.specs.declared.close.Close.TheVariants.{Ended, ReadFault, WriteFault}
 use Rattle.ask_session.specs.Lines.{HasNoEnd, IsTooMany, chomped, EndsLine, IsLast}
-use Rattle.ask_session.specs.Replies.{History, Heard, too_long, unknown, asked, over, IsHeard, IsAnswer, is_over}
+use Rattle.ask_session.specs.Replies.{History, Heard, too_long, unknown, asked, over, IsHeard, IsAnswer, error_query, is_over}
 use Rattle.ask_session.specs.Dialogue.{Turn, Leaves, EndsWith, Takes, Talks, Dialogue}
 use Rattle.ask_session.specs.Connection.{SaysEnd, HasWritten, IsReadNoFurther, Conversed}
 use Rattle.ask_session.specs.Hearing.{Replied}
@@ -26,7 +33,7 @@ use Rattle.ask_session.specs.Hearing.{Replied}
 a_line_of_1025_bytes_is_too_long : (text : List ℕ) (heard : Heard) → length text ≡ 1025 → IsHeard text heard → heard ≡ too_long
 a_line_of_1025_bytes_is_too_long text too_long size h = refl
 a_line_of_1025_bytes_is_too_long text unknown size h = absurd (omega (arith, h.0, size))
-a_line_of_1025_bytes_is_too_long text (asked q) size h = absurd (omega (arith, h.0, size))
+a_line_of_1025_bytes_is_too_long text (asked ask) size h = absurd (omega (arith, h.0, size))
 a_line_of_1025_bytes_is_too_long text over size h = absurd (omega (arith, h.0, size))
 
 a_line_of_1024_bytes_is_not_too_long : (text : List ℕ) → length text ≡ 1024 → IsHeard text too_long → ⊥
@@ -55,16 +62,62 @@ a_carriage_return_more_is_not_too_many text size many =
 is_quit : IsQuery (codes "quit") quit
 is_quit = subst (λ (l : List ℕ). IsQuery l quit) quit_line (read_back quit refl)
 
-only_quit : (q : QueryValue) → IsQuery (codes "quit") q → q ≡ quit
-only_quit q is =
-    let asks : AreQueryWords q (codes "quit" ∷ []) = subst (AreQueryWords q) (whole_word (codes "quit") refl) (query_asks (codes "quit") q is) in
-    (as_quit q (same_verb _ q [] asks)).1
-
 quit_is_over : (heard : Heard) → IsHeard (codes "quit") heard → heard ≡ over
 quit_is_over too_long h = absurd (omega (arith, h))
-quit_is_over unknown h = absurd (h.1 quit is_quit)
-quit_is_over (asked q) h = absurd (h.2 (only_quit q h.1))
+quit_is_over unknown h = absurd (h.1 (plain quit) ((offers_plain (codes "quit") quit (plain quit) is_quit).1 refl))
+quit_is_over (asked ask) h = absurd (h.2 ((offers_plain (codes "quit") quit ask is_quit).0 h.1))
 quit_is_over over h = refl
+
+-- the first line of a reply tells a revision
+asked_reply : (ask : AskValue) (all : List (List EntryValue)) (text : List ℕ) → IsAskReply ask all text → (lines : List (List ℕ)) × (text ≡ reply (sum_by length all) lines)
+asked_reply (plain query) all text r = (r.lines, r.told)
+asked_reply (rows s f query traits) all text r = (r.lines, r.told)
+asked_reply (steps f lane from prefix) all text r = (r.lines, r.told)
+
+no_error : (ask : AskValue) (lanes : ℕ) (history : History) → IsAskReplyOn ask lanes history error_query → ⊥
+no_error ask lanes history r = absurd (omega (arith, ap (λ (l : List ℕ). get_or l 0 0) (asked_reply ask (lanes_of lanes history) error_query r).1))
+
+-- `steps table` is offered, so it isn't answered by `error query`.
+steps_table : IsOfferedAsk (codes "steps table") (rows true false (table select_all) no_traits)
+steps_table = record {
+  is_ask = record {
+    words = codes "steps" ∷ codes "table" ∷ [];
+    are_words = All-cons IsWord (codes "steps") (codes "table" ∷ []) (word_is_free (codes "steps") (lacks_space (codes "steps") refl)) (All-cons IsWord (codes "table") [] (word_is_free (codes "table") (lacks_space (codes "table") refl)) (All-nil IsWord));
+    joined = refl;
+    asks = record {
+      steps_words = codes "steps" ∷ [];
+      full_words = [];
+      query_words = codes "table" ∷ [];
+      traits_words = [];
+      is_steps = refl;
+      is_full = refl;
+      is_query = record {
+        selectors = [];
+        are_selectors = record { peer_words = []; view_words = []; family_words = []; are_peer = record { router_words = []; peer_words = []; is_router = refl; is_peer = refl; spelled = refl }; is_view = refl; is_family = refl; spelled = refl };
+        spelled = refl;
+      };
+      are_traits = record { through_words = []; community_words = []; other_words = []; is_through = refl; is_community = refl; is_other = refl; spelled = refl };
+      asks = tt;
+      told = (λ e. tt, λ e. tt);
+      more = tt;
+      spelled = refl;
+    };
+  };
+  is_offered = refl;
+}
+
+steps_table_is_no_error : (lanes : ℕ) (history : History) (heard : Heard) → IsHeard (codes "steps table") heard → IsAnswer lanes history heard error_query → ⊥
+steps_table_is_no_error lanes history too_long h a = absurd (omega (arith, h))
+steps_table_is_no_error lanes history unknown h a = h.1 (rows true false (table select_all) no_traits) steps_table
+steps_table_is_no_error lanes history (asked ask) h a = no_error ask lanes history a
+steps_table_is_no_error lanes history over h a = absurd (omega (arith, ap (λ (l : List ℕ). length l) a))
+
+-- `full table` asks more than is offered, so it is answered by `error query` alone.
+full_table_is_an_error : (lanes : ℕ) (history : History) (heard : Heard) (text : List ℕ) → IsHeard (codes "full table") heard → IsAnswer lanes history heard text → text ≡ error_query
+full_table_is_an_error lanes history too_long text h a = absurd (omega (arith, h))
+full_table_is_an_error lanes history unknown text h a = a
+full_table_is_an_error lanes history (asked ask) text h a = absurd (full_table.no_offer ask h.1)
+full_table_is_an_error lanes history over text h a = absurd (full_table.no_offer (plain quit) h.1)
 
 -- bytes before the first line feed are one list
 same_line : (a b x y : List ℕ) → HasNoEnd a → HasNoEnd b → a ++ 10 ∷ x ≡ b ++ 10 ∷ y → a ≡ b
@@ -128,8 +181,8 @@ a_failed_write_is_counted_once : (text : List ℕ) (told told' : Option (List �
 a_failed_write_is_counted_once text told told' w = absurd (omega (arith, w.1))
 
 -- A reply begins with its revision: no row that no lane published stands before it.
-no_row_stands_before_a_reply : (query : QueryValue) (lanes : ℕ) (history : History) (more : List ℕ) → IsReplyOn query lanes history (codes "router 0 idle\n" ++ more) → ⊥
-no_row_stands_before_a_reply query lanes history more r = absurd (omega (arith, ap (λ (l : List ℕ). get_or l 0 0) r.told))
+no_row_stands_before_a_reply : (ask : AskValue) (lanes : ℕ) (history : History) (more : List ℕ) → IsAskReplyOn ask lanes history (codes "router 0 idle\n" ++ more) → ⊥
+no_row_stands_before_a_reply ask lanes history more r = absurd (omega (arith, ap (λ (l : List ℕ). get_or l 0 0) (asked_reply ask (lanes_of lanes history) (codes "router 0 idle\n" ++ more) r).1))
 
 -- A reply isn't of the snapshot before: where one entry was seen, none tells the revision 0. Only the clause of `reply_to`
 -- says so: by that of `serve_session` a reply is right at the revision that it tells, which never falls.
@@ -149,7 +202,9 @@ tells_1 lines = refl
 not_before : (heard : Heard) (text more : List ℕ) → text ≡ at_0 more → is_over heard ≡ false → IsAnswer 1 one_entry heard text → ⊥
 not_before too_long text more is going a = absurd (cc going)
 not_before unknown text more is going a = absurd (omega (arith, ap (λ (l : List ℕ). get_or l 0 0) (sym is ∙ a)))
-not_before (asked q) text more is going a = absurd (omega (arith, ap (λ (l : List ℕ). get_or l 3 0) (sym is ∙ a.told ∙ ap (λ (n : ℕ). reply n a.lines) its_revision), tells_1 a.lines))
+not_before (asked ask) text more is going a =
+    let (lines, told) = asked_reply ask (lanes_of 1 one_entry) text a in
+    absurd (omega (arith, ap (λ (l : List ℕ). get_or l 3 0) (sym is ∙ told ∙ ap (λ (n : ℕ). reply n lines) its_revision), tells_1 lines))
 not_before over text more is going a = absurd (cc going)
 
 a_reply_is_not_of_the_snapshot_before : (line more : List ℕ) → Replied 1 line one_entry (Some []) (Some (at_0 more)) 0 0 None → ⊥

@@ -1,5 +1,6 @@
 -- The dialogue of a connection: the lines that a client sent, and the replies to them.
 use Rattle.std.specs.Prelude.{◌≡◌, ◌⊎◌, ℕ, ◌≤◌, Bool, true, false, List, [], ◌∷◌, ◌++◌}
+use Rattle.std.specs.List.{Contains}
 use Rattle.cut_publisher.specs.History.{Begins, revision}
 use Rattle.ask_session.specs.declared.close.Close.{Close}
 use Rattle.ask_session.specs.declared.close.Close.TheVariants.{Ended, Full, Over, ReadFault, WriteFault}
@@ -57,3 +58,13 @@ pub record Dialogue (lanes : ℕ) (close : Close) (ended : Bool) (history : Hist
 -- may become a line yet. It is the dialogue of a connection of which the next read fails.
 abbrev pub GoesOn : ℕ → History → ℕ → List ℕ → List ℕ → Type 0
 GoesOn lanes history least bytes text = Dialogue lanes ReadFault false history least bytes text
+
+-- a turn of some connection, on this history
+pub record IsTurnOn (lanes : ℕ) (history : History) (turn : Turn) : Type 0 where
+  pub close : Close
+  pub ended : Bool
+  pub least : ℕ
+  pub bytes : List ℕ
+  pub text : List ℕ
+  pub dialogue : Dialogue lanes close ended history least bytes text
+  pub stands : Contains dialogue.turns turn

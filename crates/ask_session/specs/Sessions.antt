@@ -1,15 +1,20 @@
 -- The connections of an asker, one after another.
-use Rattle.std.specs.Prelude.{◌≡◌, ℕ, Bool, List, [], ◌∷◌, length, MatchBool, nat_lt, Option, Result, Some, IfSome, OnErr, map, ◌++◌}
+use Rattle.std.specs.Prelude.{◌≡◌, ◌≢◌, ℕ, ◌≤◌, Bool, List, [], ◌∷◌, length, MatchBool, nat_lt, Option, Result, Some, IfSome, OnErr, map, ◌++◌}
 use Rattle.std.specs.Io.KnownBytes.{Keeps}
+use Rattle.ask_specs.specs.Asking.{AskValue, plain}
+use Rattle.ask_specs.specs.Offer.{IsOfferedAsk}
 use Rattle.bmp_specs.specs.Life.{Given}
+use Rattle.bmp_specs.specs.Query.{QueryValue, IsQuery, quit}
+use Rattle.bmp_specs.specs.QueryReply.{IsReply}
 use Rattle.cut_publisher.specs.History.{Asker, Begins, IsUnmarked, revision}
+use Rattle.query_eval.specs.Replies.{IsAskReplyOn, lanes_of}
 use Rattle.rib_model.specs.declared.entry.Entry.{Entry}
 use Rattle.station_doors.specs.Doors.{Opens, Closes, noted_writes, opened_one, IsRefusal}
 use Rattle.wire_io.specs.Aside.{Aside}
 use Rattle.wire_io.specs.declared.sink.Failed.{Failed}
 use Rattle.ask_session.specs.declared.close.Close.{Close}
-use Rattle.ask_session.specs.Replies.{History}
-use Rattle.ask_session.specs.Dialogue.{Dialogue}
+use Rattle.ask_session.specs.Replies.{History, asked}
+use Rattle.ask_session.specs.Dialogue.{Turn, Dialogue, IsTurnOn}
 use Rattle.ask_session.specs.Connection.{Conversed}
 
 -- One connection: what the pass had seen when it ended; what the link told when it was opened, ended and closed; what was
@@ -62,6 +67,16 @@ pub record Sees (old new : Asker Entry) : Type 0 where
   pub seat : new.seated ≡ old.seated
   pub seen : Begins old.seen new.seen
   pub unmarked : IsUnmarked old.seen → IsUnmarked new.seen
+
+-- A line that asks something offered, and no end, is taken as asking that, and gets the reply to it.
+abbrev pub AsksGetReplies : Type 0
+AsksGetReplies = (lanes : ℕ) (history : History) (turn : Turn) (ask : AskValue) → IsTurnOn lanes history turn → IsOfferedAsk turn.line ask → length turn.line ≤ 1024 → ask ≢ plain quit
+    → (turn.heard ≡ asked ask) × IsAskReplyOn ask lanes turn.seen turn.reply
+
+-- A line that is a query of `bmp_specs` is taken as that query, and gets its plain reply.
+abbrev pub QueriesKeepReplies : Type 0
+QueriesKeepReplies = (lanes : ℕ) (history : History) (turn : Turn) (query : QueryValue) → IsTurnOn lanes history turn → IsQuery turn.line query → length turn.line ≤ 1024 → query ≢ quit
+    → (turn.heard ≡ asked (plain query)) × IsReply query (lanes_of lanes turn.seen) turn.reply
 
 -- What was answered on a front of a history was answered on the history.
 abbrev pub RepliesStay : Type 0

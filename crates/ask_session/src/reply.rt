@@ -1,7 +1,8 @@
 ghost use Rattle.std.specs.Prelude.{◌≡◌, ◌≢◌, ◌↔◌, true, false, IsTrue};
+ghost use Rattle.ask_specs.specs.Asking.{plain};
 ghost use Rattle.bmp_specs.specs.Query.{quit};
-ghost use Rattle.query_lang.specs.Queries.{query_value};
-ghost use Rattle.query_eval.specs.Replies.{IsReplyOn};
+ghost use Rattle.query_lang.specs.Asks.{ask_value};
+ghost use Rattle.query_eval.specs.Replies.{IsAskReplyOn};
 ghost use Rattle.ask_session.specs.Replies.{error_line, error_query};
 ghost use Rattle.ask_session.specs.Sessions.{Sees};
 ghost use Rattle.ask_session.specs.Hearing.{Answers, HasReplied, Replied};
@@ -10,7 +11,7 @@ use crate::close::Close;
 use crate::line::MOST_LINE;
 use cut_publisher::{AskPass, snapshot};
 use query_eval::answer;
-use query_lang::{Query, parse};
+use query_lang::{Ask, Query, parse_ask};
 use router_tables::RouterTables;
 use station_doors::Link;
 use wire_io::{Sink, write_all};
@@ -35,22 +36,22 @@ fn refuse_query<O: Sink>(out: &mut O) -> Option<Close>
     }
 }
 
-fn is_quit(query: &Query) -> bool
-    ensures { IsTrue result ↔ (query_value query.now ≡ quit) }
+fn is_quit(ask: &Ask) -> bool
+    ensures { IsTrue result ↔ (ask_value ask.now ≡ plain quit) }
 {
-    match query {
-        Query::Quit => true,
+    match ask {
+        Ask::Query(Query::Quit) => true,
         _ => false,
     }
 }
 
-// Answers a query of the cut that the pass keeps.
-fn put_reply<O: Sink>(out: &mut O, pass: &AskPass<RouterTables>, query: &Query) -> Option<Close>
-    requires { query_value query.now ≢ quit }
-    ensures replied { HasReplied (IsReplyOn (query_value query.now) pass.now.station.lanes pass.now.seen) result (O.told out.old) (O.told out.new) (O.faults out.old) (O.faults out.new) }
+// Answers what is asked of the cut that the pass keeps.
+fn put_reply<O: Sink>(out: &mut O, pass: &AskPass<RouterTables>, ask: &Ask) -> Option<Close>
+    requires { ask_value ask.now ≢ plain quit }
+    ensures replied { HasReplied (IsAskReplyOn (ask_value ask.now) pass.now.station.lanes pass.now.seen) result (O.told out.old) (O.told out.new) (O.faults out.old) (O.faults out.new) }
     ensures kept { O.aside out.new ≡ O.aside out.old }
 {
-    match answer(pass.cut(), query, out) {
+    match answer(pass.cut(), ask, out) {
         Ok(()) => None,
         Err(_) => Some(Close::WriteFault),
     }
@@ -64,13 +65,13 @@ fn answer_line<O: Sink>(out: &mut O, pass: &AskPass<RouterTables>, line: &[u8]) 
     if line.len() > MOST_LINE {
         return refuse_line(out);
     }
-    match parse(line) {
+    match parse_ask(line) {
         None => refuse_query(out),
-        Some(query) => {
-            if is_quit(&query) {
+        Some(ask) => {
+            if is_quit(&ask) {
                 return Some(Close::Over);
             }
-            put_reply(out, pass, &query)
+            put_reply(out, pass, &ask)
         }
     }
 }

@@ -25,7 +25,7 @@ fn opens<K: Link>(link: &mut K) -> bool
 /// the link then gave no further one: there was none, or it failed.
 ///
 /// Each line gets its reply from a snapshot that is taken after the read that brought its last byte, and the reply is
-/// handed on before more is read. A line outside the grammar gets `error query`. A connection ends at `quit`, at
+/// handed on before more is read. A line that asks nothing that is offered gets `error query`. A connection ends at `quit`, at
 /// `error line` for a line of more than 1,024 bytes, where the input ends, after 2^46 bytes, or where a read or a write
 /// fails. After that nothing is read of it: where it ends with a line, that line's end, or the byte with which it was too
 /// long, was among the last 512 bytes. It takes no memory and no lock.
