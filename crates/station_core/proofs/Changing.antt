@@ -4,10 +4,11 @@ use Rattle.std.specs.Prelude.{All, slice_get}
 use Rattle.std.proofs.lemmas.Option.{slice_get-get_or, slice_get_within, get_or_from_slice_get}
 use Rattle.std.proofs.lemmas.List.{length-map, map-append, drop_at, get_or_default, take_at}
 use native.Mathlib.Decide.{ℕ_discrete}
+use Rattle.ask_specs.specs.AskReply.{IsAskReply}
+use Rattle.ask_specs.specs.Asking.{AskValue, plain}
 use Rattle.bmp_specs.specs.Life.{gave, Given}
 use Rattle.bmp_specs.specs.Meaning.{Meaning}
-use Rattle.bmp_specs.specs.Query.{QueryValue, quit}
-use Rattle.bmp_specs.specs.QueryReply.{IsReply}
+use Rattle.bmp_specs.specs.Query.{quit}
 use Rattle.bmp_specs.specs.Values.{EntryValue, opened}
 use Rattle.cut_publisher.specs.declared.history.Event.{Event as Joined}
 use Rattle.cut_publisher.specs.declared.history.Event.TheVariants.{Finish as Mark}
@@ -15,7 +16,7 @@ use Rattle.cut_publisher.specs.Cuts.{AreLanes, total}
 use Rattle.cut_publisher.specs.History.{part, revision, batch, IsWithin}
 use Rattle.cut_publisher.proofs.Given.{stands_given}
 use Rattle.cut_publisher.proofs.Lanes.{part-append, part-batch_same, part-batch_other}
-use Rattle.query_eval.specs.Replies.{IsReplyOn, lanes_of}
+use Rattle.query_eval.specs.Replies.{IsAskReplyOn, lanes_of}
 use Rattle.rib_model.specs.declared.entry.Entry.{Entry}
 use Rattle.rib_model.specs.Entries.{entry_value, entry_values}
 use Rattle.router_tables.specs.Tables.{TablesValue, StandsFor}
@@ -236,13 +237,13 @@ module _ {B : Type 0} (meaning : Meaning) (state : B → meaning.State) where
     tells few asker rev new (inr (past, is)) = (v, inr (omega (arith, past, ap length s.askers), refl), subst (λ (l : List ℕ). Stands meaning state lanes shown l finished v) (sym is) s)
 
     -- a reply by what is shown is one on the history
-    pub replies : (query : QueryValue) (text : List ℕ) → IsReplyOn query (length shown) s.entries text → IsReply query (parts_from 0 (length v.lanes) v.history) text
-    replies query text is =
+    pub replies : (ask : AskValue) (text : List ℕ) → IsAskReplyOn ask (length shown) s.entries text → IsAskReply ask (parts_from 0 (length v.lanes) v.history) text
+    replies ask text is =
         let parts : lanes_of (length shown) s.entries ≡ parts_from 0 (length v.lanes) v.history = ap (λ (n : ℕ). lanes_of n s.entries) (s.shown_count ∙ sym s.lane_count) ∙ sym (valued-parts 0 (length v.lanes) s.entries) ∙ ap (parts_from 0 (length v.lanes)) (sym s.history) in
-        subst (λ (l : List (List EntryValue)). IsReply query l text) parts is
+        subst (λ (l : List (List EntryValue)). IsAskReply ask l text) parts is
 
-    pub asks : AreFew v → (asker : ℕ) (query : QueryValue) (text : List ℕ) → asker < length seen → (query ≡ quit → ⊥) → IsReplyOn query (length shown) s.entries text → IsAnswered asker query v (with_seen v asker (total shown)) text
-    asks few asker query text here asked is = record { asker_is = omega (arith, here, ap length s.askers); asks = asked; is_reply = replies query text is; is = ap (λ (n : ℕ). with_seen v asker n) (total_is few) }
+    pub asks : AreFew v → (asker : ℕ) (ask : AskValue) (text : List ℕ) → asker < length seen → (ask ≡ plain quit → ⊥) → IsAskReplyOn ask (length shown) s.entries text → IsAnswered asker ask v (with_seen v asker (total shown)) text
+    asks few asker ask text here asked is = record { asker_is = omega (arith, here, ap length s.askers); asks = asked; is_reply = replies ask text is; is = ap (λ (n : ℕ). with_seen v asker n) (total_is few) }
 
     pub stands_asked : (asker : ℕ) (new : List ℕ) → new ≡ set seen asker (total shown) → Stands meaning state lanes shown new finished (with_seen v asker (total shown))
     stands_asked asker new is = subst (λ (l : List ℕ). Stands meaning state lanes shown l finished (with_seen v asker (total shown))) (sym is) (seen_at asker (total shown))

@@ -2,9 +2,9 @@
 use Rattle.std.proofs.Common.{◌≡◌, ℕ, ◌<◌, ◌≤◌, min, max, List, [], ◌∷◌, ◌++◌, length, drop, get_or, set, inl, inr, sym, ap, ◌∙◌, subst, arith, length-set, get_or-set_other, get_or-set_same}
 use Rattle.std.proofs.lemmas.Option.{get_or_from_slice_get}
 use native.Mathlib.Decide.{ℕ_discrete}
+use Rattle.ask_specs.specs.AskReply.{IsAskReply}
 use Rattle.bmp_specs.specs.Life.{Given}
 use Rattle.bmp_specs.specs.Meaning.{Meaning}
-use Rattle.bmp_specs.specs.QueryReply.{IsReply}
 use Rattle.cut_publisher.specs.declared.history.Event.TheVariants.{Finish as Mark}
 use Rattle.cut_publisher.specs.History.{Begins, batch, revision}
 use Rattle.cut_publisher.proofs.Fronts.{front_is}
@@ -76,8 +76,8 @@ act_grows meaning (Publish lane) old new reply (inr (past, same), none) = grows_
 act_grows meaning (Tell asker rev) old new reply (inl (here, t), none) =
     grows_seen old new asker (min (max t.seen rev) (revision old.history)) here t.is (λ seen. omega (arith, get_or_from_slice_get old.askers asker t.seen 0 t.at, seen asker here)) (omega arith)
 act_grows meaning (Tell asker rev) old new reply (inr (past, same), none) = grows_same old new same
-act_grows meaning (Ask asker query) old new reply (inl a) = grows_seen old new asker (revision old.history) a.asker_is a.is (λ seen. seen asker a.asker_is) (omega arith)
-act_grows meaning (Ask asker query) old new reply (inr (why, still)) = grows_same old new still.same
+act_grows meaning (Ask asker ask) old new reply (inl a) = grows_seen old new asker (revision old.history) a.asker_is a.is (λ seen. seen asker a.asker_is) (omega arith)
+act_grows meaning (Ask asker ask) old new reply (inr (why, still)) = grows_same old new still.same
 act_grows meaning Finish old new reply (is, none) = grows_lanes old new (begins_with old new (Mark ∷ []) (ap (λ (m : MachineValue). m.history) is)) (ap (λ (m : MachineValue). m.askers) is)
 
 step_grows : (meaning : Meaning) (event : Event) (old new : MachineValue) (reply : List ℕ) → Steps meaning event old new reply → Grows old new
@@ -90,10 +90,10 @@ histories_grow meaning (e ∷ events) old new replies (first, rest) =
     begins_trans old.history first.next.history new.history (step_grows meaning e old first.next first.reply first.steps).history (histories_grow meaning events first.next new first.after rest)
 
 pub replies_fronts : (meaning : Meaning) → RepliesAreOnFronts meaning
-replies_fronts meaning events asker query at next end reply replies unmarked a runs =
+replies_fronts meaning events asker ask at next end reply replies unmarked a runs =
     let same : next.history ≡ at.history = ap (λ (m : MachineValue). m.history) a.is in
     let begins : Begins at.history end.history = subst (λ (h : History). Begins h end.history) same (histories_grow meaning events next end replies runs) in
-    subst (λ (h : History). IsReply query (parts_from 0 (length at.lanes) h) reply) (front_is at.history end.history begins unmarked) a.is_reply
+    subst (λ (h : History). IsAskReply ask (parts_from 0 (length at.lanes) h) reply) (front_is at.history end.history begins unmarked) a.is_reply
 
 pub askers_remember : (meaning : Meaning) → AskersRemember meaning
 askers_remember meaning [] old new replies seen (same, none) = let g = grows_same old new same in (g.seen seen, g.more seen)

@@ -1,13 +1,16 @@
 -- What mistaken bodies would come to, which the clauses refuse.
-use Rattle.std.proofs.Common.{◌≡◌, ℕ, ◌+◌, max, min, List, [], ◌∷◌, ◌++◌, length, get_or, Option, inl, inr, refl, ap, ◌∙◌, arith, append-nil, length-append, unwrap_or}
+use Rattle.std.proofs.Common.{◌≡◌, ℕ, max, min, false, List, [], ◌∷◌, ◌++◌, length, get_or, Option, None, inl, inr, refl, ap, ◌∙◌, arith, append-nil, length-append, unwrap_or}
+use Rattle.ask_specs.specs.Asking.{plain, steps}
 use Rattle.bmp_specs.specs.declared.causes.Cause.{Cause}
 use Rattle.bmp_specs.specs.declared.causes.Cause.TheVariants.{Ended, Terminated, CutShort, Broken}
 use Rattle.bmp_specs.specs.Life.{gave_none, Fits}
 use Rattle.bmp_specs.specs.Meaning.{Meaning}
+use Rattle.bmp_specs.specs.Query.{quit}
 use Rattle.bmp_specs.specs.Values.{EntryValue, closed, opened}
 use Rattle.bmp_specs.specs.Walk.{Verdict, whole, more, terminated, broken}
 use Rattle.cut_publisher.specs.History.{batch}
-use Rattle.station_core.specs.declared.event.Event.TheVariants.{Tell}
+use Rattle.query_lang.specs.declared.ask.Ask.TheVariants.{Changes}
+use Rattle.station_core.specs.declared.event.Event.TheVariants.{Ask, Tell}
 use Rattle.station_core.specs.Machine.{AreDue, MachineValue, Steps}
 use Rattle.station_core.specs.Schedule.{unused}
 
@@ -46,3 +49,11 @@ telling_lowers_nothing meaning reply (inl (unmarked, (inl (named, told), none)))
     let seen : 3 ≡ told.seen = ap (λ (o : Option ℕ). unwrap_or o 0) told.at in
     let now : 1 ≡ min (max told.seen 1) 3 = ap (λ (m : MachineValue). get_or m.askers 0 0) told.is in
     omega (arith, seen, now)
+
+-- All changes of a lane are asked for: something is written.
+all_changes_have_a_reply : (meaning : Meaning) (new : MachineValue) → Steps meaning (Ask 0 (Changes 0 0)) (with_one_asker 3) new [] → ⊥
+unfolding with_one_asker
+all_changes_have_a_reply meaning new (inr (marked, still)) = marked tt
+all_changes_have_a_reply meaning new (inl (unmarked, inl answered)) = omega (arith, ap (λ (l : List ℕ). get_or l 0 0) answered.is_reply.told)
+all_changes_have_a_reply meaning new (inl (unmarked, inr (inl few, still))) = omega (arith, few)
+all_changes_have_a_reply meaning new (inl (unmarked, inr (inr quits, still))) = let same : steps false 0 0 None ≡ plain quit = quits in absurd cc

@@ -95,8 +95,8 @@ act_counts meaning (End lane fault) v w reply (does, none) = lane_counts (End la
 act_counts meaning (Publish lane) v w reply (does, none) = publish_counts (Publish lane) lane 0 (λ k is. omega arith) meaning v w does
 act_counts meaning (Tell asker rev) v w reply (inl (here, t), none) = same_counts (Tell asker rev) v w (ap (λ (m : MachineValue). m.lanes) t.is)
 act_counts meaning (Tell asker rev) v w reply (inr (past, same), none) = same_counts (Tell asker rev) v w (ap (λ (m : MachineValue). m.lanes) same)
-act_counts meaning (Ask asker query) v w reply (inl a) = same_counts (Ask asker query) v w (ap (λ (m : MachineValue). m.lanes) a.is)
-act_counts meaning (Ask asker query) v w reply (inr (why, still)) = same_counts (Ask asker query) v w (ap (λ (m : MachineValue). m.lanes) still.same)
+act_counts meaning (Ask asker ask) v w reply (inl a) = same_counts (Ask asker ask) v w (ap (λ (m : MachineValue). m.lanes) a.is)
+act_counts meaning (Ask asker ask) v w reply (inr (why, still)) = same_counts (Ask asker ask) v w (ap (λ (m : MachineValue). m.lanes) still.same)
 act_counts meaning Finish v w reply (is, none) = same_counts Finish v w (ap (λ (m : MachineValue). m.lanes) is)
 
 pub step_counts : (meaning : Meaning) (event : Event) (v w : MachineValue) (reply : List ℕ) → Steps meaning event v w reply → CountsOn event v w

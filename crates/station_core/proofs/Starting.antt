@@ -2,12 +2,13 @@
 use Rattle.std.proofs.Common.{◌≡◌, ℕ, ◌^◌, ◌<◌, ◌≤◌, Bool, true, false, List, [], length, get_or, Option, None, Result, Ok, Err, inl, inr, refl, sym, ap, ◌∙◌, subst, arith, length-append}
 use Rattle.std.specs.Prelude.{◌⊎◌, All, OnOk, replicate}
 use Rattle.std.proofs.lemmas.List.{get_or-replicate, length-replicate}
+use Rattle.ask_specs.specs.Asking.{plain}
 use Rattle.bmp_specs.specs.Meaning.{Meaning}
 use Rattle.bmp_specs.specs.Query.{quit}
 use Rattle.cut_publisher.specs.Cuts.{total}
 use Rattle.cut_publisher.specs.History.{part}
-use Rattle.query_lang.specs.Queries.{query_value}
-use Rattle.query_lang.specs.declared.query.Query.{Query}
+use Rattle.query_lang.specs.Asks.{ask_value}
+use Rattle.query_lang.specs.declared.ask.Ask.{Ask as Asked}
 use Rattle.rib_model.specs.declared.entry.Entry.{Entry}
 use Rattle.router_tables.specs.Tables.{TablesValue, StandsFor}
 use Rattle.wire_io.specs.Aside.{Aside}
@@ -123,18 +124,18 @@ module _ {B : Type 0} (meaning : Meaning) (state : B → meaning.State) where
       pub finished_now : Stepped Finish out out lanes shown seen true (Ok tt)
       finished_now = silent Finish out lanes shown seen true (record { next = _; steps = inl (s.mark, (refl, refl)); stands = finishes meaning state lanes shown seen v s })
 
-      pub answered : AreFew v → (asker : ℕ) (query : Query) (seen' : List ℕ) (new : O) (r : Result (Unit {0}) ScheduleFault) → AsksOn faults told aside shown asker (query_value query) seen seen' out new r → Stepped (Ask asker query) out new lanes shown seen' false r
-      answered few asker query seen' new (Ok done) (inl (here, asked, puts, is)) =
+      pub answered : AreFew v → (asker : ℕ) (ask : Asked) (seen' : List ℕ) (new : O) (r : Result (Unit {0}) ScheduleFault) → AsksOn faults told aside shown asker (ask_value ask) seen seen' out new r → Stepped (Ask asker ask) out new lanes shown seen' false r
+      answered few asker ask seen' new (Ok done) (inl (here, asked, puts, is)) =
           let p = puts s.entries (within_shown meaning state lanes shown seen false v s) (are_lanes meaning state lanes shown seen false v s) in
-          (p.text, record { next = with_seen v asker (total shown); steps = inl (s.mark, inl (asks meaning state lanes shown seen false v s few asker (query_value query) p.text here asked p.is_reply)); stands = stands_asked meaning state lanes shown seen false v s asker seen' is }, p.written)
-      answered few asker query seen' new (Ok done) (inr (why, same, still)) =
-          let none : Stepped (Ask asker query) out out lanes shown seen false (Ok tt) = silent (Ask asker query) out lanes shown seen false (record { next = v; steps = inl (s.mark, inr (unnamed why, record { same = refl; none = refl })); stands = s }) in
-          subst (λ (o : O). Stepped (Ask asker query) out o lanes shown seen' false (Ok done)) (sym same) (subst (λ (l : List ℕ). Stepped (Ask asker query) out out lanes shown l false (Ok done)) (sym still) none)
+          (p.text, record { next = with_seen v asker (total shown); steps = inl (s.mark, inl (asks meaning state lanes shown seen false v s few asker (ask_value ask) p.text here asked p.is_reply)); stands = stands_asked meaning state lanes shown seen false v s asker seen' is }, p.written)
+      answered few asker ask seen' new (Ok done) (inr (why, same, still)) =
+          let none : Stepped (Ask asker ask) out out lanes shown seen false (Ok tt) = silent (Ask asker ask) out lanes shown seen false (record { next = v; steps = inl (s.mark, inr (unnamed why, record { same = refl; none = refl })); stands = s }) in
+          subst (λ (o : O). Stepped (Ask asker ask) out o lanes shown seen' false (Ok done)) (sym same) (subst (λ (l : List ℕ). Stepped (Ask asker ask) out out lanes shown l false (Ok done)) (sym still) none)
         where
-          unnamed : (length seen ≤ asker) ⊎ (query_value query ≡ quit) → (length v.askers ≤ asker) ⊎ (query_value query ≡ quit)
+          unnamed : (length seen ≤ asker) ⊎ (ask_value ask ≡ plain quit) → (length v.askers ≤ asker) ⊎ (ask_value ask ≡ plain quit)
           unnamed (inl past) = inl (omega (arith, past, ap length s.askers))
           unnamed (inr is) = inr is
-      answered few asker query seen' new (Err Failed) (here, asked, failed, puts) =
+      answered few asker ask seen' new (Err Failed) (here, asked, failed, puts) =
           let p = puts s.entries (within_shown meaning state lanes shown seen false v s) (are_lanes meaning state lanes shown seen false v s) in
-          (p.text, with_seen v asker (total shown), inl (s.mark, inl (asks meaning state lanes shown seen false v s few asker (query_value query) p.text here asked p.is_reply)), failed, p.written)
-      answered few asker query seen' new (Err NoMemory) same = same
+          (p.text, with_seen v asker (total shown), inl (s.mark, inl (asks meaning state lanes shown seen false v s few asker (ask_value ask) p.text here asked p.is_reply)), failed, p.written)
+      answered few asker ask seen' new (Err NoMemory) same = same

@@ -1,9 +1,9 @@
 -- What follows for any schedule: the history only grows, so a reply is one on a front of the last history; and an asker is
 -- never answered on less than it was shown or told of.
 use Rattle.std.specs.Prelude.{ℕ, ◌<◌, ◌≤◌, List, length, take, slice_index}
+use Rattle.ask_specs.specs.AskReply.{IsAskReply}
+use Rattle.ask_specs.specs.Asking.{AskValue}
 use Rattle.bmp_specs.specs.Meaning.{Meaning}
-use Rattle.bmp_specs.specs.Query.{QueryValue}
-use Rattle.bmp_specs.specs.QueryReply.{IsReply}
 use Rattle.cut_publisher.specs.History.{Begins, IsUnmarked, revision}
 use Rattle.station_core.specs.declared.event.Event.{Event}
 use Rattle.station_core.specs.Machine.{IsAnswered, MachineValue, parts_from}
@@ -13,10 +13,10 @@ use Rattle.station_core.specs.Schedule.{Runs}
 abbrev pub HistoriesGrow : Meaning → Type 0
 HistoriesGrow meaning = (events : List Event) (old new : MachineValue) (replies : List ℕ) → Runs meaning events old new replies → Begins old.history new.history
 
--- a reply is the query's on as many of the last history's entries as its revision says
+-- a reply is that to what is asked, on as many of the last history's entries as its revision says
 abbrev pub RepliesAreOnFronts : Meaning → Type 0
-RepliesAreOnFronts meaning = (events : List Event) (asker : ℕ) (query : QueryValue) (at next end : MachineValue) (reply replies : List ℕ) → IsUnmarked at.history → IsAnswered asker query at next reply → Runs meaning events next end replies
-    → IsReply query (parts_from 0 (length at.lanes) (take (revision at.history) end.history)) reply
+RepliesAreOnFronts meaning = (events : List Event) (asker : ℕ) (ask : AskValue) (at next end : MachineValue) (reply replies : List ℕ) → IsUnmarked at.history → IsAnswered asker ask at next reply → Runs meaning events next end replies
+    → IsAskReply ask (parts_from 0 (length at.lanes) (take (revision at.history) end.history)) reply
 
 -- no asker has seen more than there is
 abbrev pub HaveSeen : MachineValue → Type 0

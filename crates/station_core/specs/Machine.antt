@@ -2,17 +2,18 @@
 -- what is due of them joins the one history of all lanes, in steps; an asker is answered on the whole history.
 use Rattle.std.specs.Prelude.{◌≡◌, ◌≢◌, ℕ, zero, suc, ◌+◌, ◌<◌, ◌≤◌, min, max, ◌⊎◌, Bool, true, false, if◌then◌else◌, List, [], ◌∷◌, ◌++◌, length, take, drop, slice_get, slice_set, Some}
 use Rattle.std.specs.List.{position_or_len}
+use Rattle.ask_specs.specs.AskReply.{IsAskReply}
+use Rattle.ask_specs.specs.Asking.{AskValue, plain}
 use Rattle.bmp_specs.specs.declared.causes.Cause.{Cause}
 use Rattle.bmp_specs.specs.Life.{gave, gave_none, failed, most_taken, Fits, IsLife, IsOpenLife, Given}
 use Rattle.bmp_specs.specs.Meaning.{Meaning, WalksBy}
-use Rattle.bmp_specs.specs.Query.{QueryValue, quit}
-use Rattle.bmp_specs.specs.QueryReply.{IsReply}
+use Rattle.bmp_specs.specs.Query.{quit}
 use Rattle.bmp_specs.specs.Values.{EntryValue, opened, message, closed}
 use Rattle.bmp_specs.specs.Walk.{Verdict}
 use Rattle.cut_publisher.specs.declared.history.Event.{Event as Joined}
 use Rattle.cut_publisher.specs.declared.history.Event.TheVariants.{Finish as Mark}
 use Rattle.cut_publisher.specs.History.{part, revision, batch, IsUnmarked}
-use Rattle.query_lang.specs.Queries.{query_value}
+use Rattle.query_lang.specs.Asks.{ask_value}
 use Rattle.wire_io.specs.Aside.{fresh}
 use Rattle.station_core.specs.declared.event.Event.{Event}
 use Rattle.station_core.specs.declared.event.Event.TheVariants.{Begin, Take, End, Publish, Tell, Ask, Finish}
@@ -139,11 +140,11 @@ pub record IsTold (asker rev : ℕ) (old new : MachineValue) : Type 0 where
   pub at : slice_get old.askers asker ≡ Some seen
   pub is : new ≡ with_seen old asker (min (max seen rev) (revision old.history))
 
--- the query of an asker is answered on the whole history, which it has then seen
-pub record IsAnswered (asker : ℕ) (query : QueryValue) (old new : MachineValue) (reply : List ℕ) : Type 0 where
+-- what an asker asks is answered on the whole history, which it has then seen
+pub record IsAnswered (asker : ℕ) (ask : AskValue) (old new : MachineValue) (reply : List ℕ) : Type 0 where
   pub asker_is : asker < length old.askers
-  pub asks : query ≢ quit
-  pub is_reply : IsReply query (parts_from 0 (length old.lanes) old.history) reply
+  pub asks : ask ≢ plain quit
+  pub is_reply : IsAskReply ask (parts_from 0 (length old.lanes) old.history) reply
   pub is : new ≡ with_seen old asker (revision old.history)
 
 -- nothing changes, and nothing is written
@@ -158,8 +159,8 @@ Acts meaning (Take lane piece) old new reply = WhereNamed lane old.lanes (Change
 Acts meaning (End lane fault) old new reply = WhereNamed lane old.lanes (ChangesLane lane (ComesTo meaning (with_end fault))) old new × (reply ≡ [])
 Acts meaning (Publish lane) old new reply = WhereNamed lane old.lanes (Publishes meaning lane) old new × (reply ≡ [])
 Acts meaning (Tell asker rev) old new reply = WhereNamed asker old.askers (IsTold asker rev) old new × (reply ≡ [])
-Acts meaning (Ask asker query) old new reply = IsAnswered asker (query_value query) old new reply
-    ⊎ (((length old.askers ≤ asker) ⊎ (query_value query ≡ quit)) × IsStill old new reply)
+Acts meaning (Ask asker ask) old new reply = IsAnswered asker (ask_value ask) old new reply
+    ⊎ (((length old.askers ≤ asker) ⊎ (ask_value ask ≡ plain quit)) × IsStill old new reply)
 Acts meaning Finish old new reply = (new ≡ record { history = old.history ++ Mark ∷ []; lanes = old.lanes; askers = old.askers }) × (reply ≡ [])
 
 -- what an event does, and what it writes: nothing once the mark is there

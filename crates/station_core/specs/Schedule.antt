@@ -23,7 +23,7 @@ begins_on lane (Take l piece) = false
 begins_on lane (End l fault) = false
 begins_on lane (Publish l) = false
 begins_on lane (Tell asker rev) = false
-begins_on lane (Ask asker query) = false
+begins_on lane (Ask asker ask) = false
 begins_on lane Finish = false
 
 -- how many of the events begin a connection of this lane

@@ -1,14 +1,15 @@
 -- What the machine keeps for a state of it: for each lane what it keeps, and the tables that are published of it.
 use Rattle.std.specs.Prelude.{◌≡◌, ◌≢◌, ℕ, ◌+◌, ◌<◌, ◌≤◌, ◌⊎◌, min, max, Bool, MatchBool, List, [], ◌∷◌, ◌++◌, length, drop, slice_index, slice_index_or, slice_set, Option, Result, Ok, Err}
+use Rattle.ask_specs.specs.Asking.{AskValue, plain}
 use Rattle.bmp_specs.specs.Life.{Given}
 use Rattle.bmp_specs.specs.Meaning.{Meaning}
-use Rattle.bmp_specs.specs.Query.{QueryValue, quit}
+use Rattle.bmp_specs.specs.Query.{quit}
 use Rattle.bmp_specs.specs.Values.{EntryValue}
 use Rattle.cut_publisher.specs.Cuts.{AreLanes, total}
 use Rattle.cut_publisher.specs.declared.history.Event.{Event as Joined}
 use Rattle.cut_publisher.specs.declared.history.Event.TheVariants.{Of, Finish as Mark}
 use Rattle.cut_publisher.specs.History.{part, IsWithin, IsUnmarked}
-use Rattle.query_eval.specs.Replies.{IsReplyOn, PutsReply}
+use Rattle.query_eval.specs.Replies.{IsAskReplyOn, PutsReply}
 use Rattle.rib_model.specs.declared.entry.Entry.{Entry}
 use Rattle.rib_model.specs.Entries.{entry_value, entry_values}
 use Rattle.router_tables.specs.Tables.{TablesValue, StandsFor}
@@ -91,18 +92,18 @@ ShowsLane lanes number old new = ((number < length lanes) × ShowsAt lanes numbe
 abbrev pub TellsOn : List (TablesValue × ℕ) → ℕ → ℕ → List ℕ → List ℕ → Type 0
 TellsOn shown asker rev old new = ((asker < length old) × (new ≡ slice_set old asker (min (max (slice_index old asker) rev) (total shown)))) ⊎ ((length old ≤ asker) × (new ≡ old))
 
--- what was written is the reply of the query on each history whose lanes these tables stand for, or a front of it
-abbrev pub PutsOn : {O : Type 0} → (O → ℕ) → (O → Option (List ℕ)) → (O → Aside) → List (TablesValue × ℕ) → QueryValue → O → Result (Unit {0}) WriteFailed → O → Type 0
-PutsOn faults told aside shown query old result new = (history : List (Joined Entry)) → IsWithin (length shown) history → AreLanes (λ tables entries. StandsFor tables (entry_values entries)) shown history
-    → PutsReply faults told aside (IsReplyOn query (length shown) history) old result new
+-- what was written is the reply to what is asked, on each history whose lanes these tables stand for, or a front of it
+abbrev pub PutsOn : {O : Type 0} → (O → ℕ) → (O → Option (List ℕ)) → (O → Aside) → List (TablesValue × ℕ) → AskValue → O → Result (Unit {0}) WriteFailed → O → Type 0
+PutsOn faults told aside shown ask old result new = (history : List (Joined Entry)) → IsWithin (length shown) history → AreLanes (λ tables entries. StandsFor tables (entry_values entries)) shown history
+    → PutsReply faults told aside (IsAskReplyOn ask (length shown) history) old result new
 
--- an asker asks a query
-abbrev pub AsksOn : {O : Type 0} → (O → ℕ) → (O → Option (List ℕ)) → (O → Aside) → List (TablesValue × ℕ) → ℕ → QueryValue → List ℕ → List ℕ → O → O → Result (Unit {0}) ScheduleFault → Type 0
-AsksOn faults told aside shown asker query seen seen' old new (Ok done) =
-    ((asker < length seen) × (query ≢ quit) × PutsOn faults told aside shown query old (Ok tt) new × (seen' ≡ slice_set seen asker (total shown)))
-    ⊎ (((length seen ≤ asker) ⊎ (query ≡ quit)) × (new ≡ old) × (seen' ≡ seen))
-AsksOn faults told aside shown asker query seen seen' old new (Err Failed) = (asker < length seen) × (query ≢ quit) × (failed : WriteFailed) × PutsOn faults told aside shown query old (Err failed) new
-AsksOn faults told aside shown asker query seen seen' old new (Err NoMemory) = new ≡ old
+-- an asker asks this
+abbrev pub AsksOn : {O : Type 0} → (O → ℕ) → (O → Option (List ℕ)) → (O → Aside) → List (TablesValue × ℕ) → ℕ → AskValue → List ℕ → List ℕ → O → O → Result (Unit {0}) ScheduleFault → Type 0
+AsksOn faults told aside shown asker ask seen seen' old new (Ok done) =
+    ((asker < length seen) × (ask ≢ plain quit) × PutsOn faults told aside shown ask old (Ok tt) new × (seen' ≡ slice_set seen asker (total shown)))
+    ⊎ (((length seen ≤ asker) ⊎ (ask ≡ plain quit)) × (new ≡ old) × (seen' ≡ seen))
+AsksOn faults told aside shown asker ask seen seen' old new (Err Failed) = (asker < length seen) × (ask ≢ plain quit) × (failed : WriteFailed) × PutsOn faults told aside shown ask old (Err failed) new
+AsksOn faults told aside shown asker ask seen seen' old new (Err NoMemory) = new ≡ old
 
 -- what running out of memory is in a schedule
 abbrev pub as_fault : Result (Unit {0}) OutOfMemory → Result (Unit {0}) ScheduleFault

@@ -1,6 +1,6 @@
 //! Events of the machine.
 
-use query_lang::Query;
+use query_lang::Ask;
 use wire_io::ByteList;
 
 /// One event of the machine of lanes and askers.
@@ -22,8 +22,8 @@ pub enum Event {
     /// The asker is told that the history has come so far.
     Tell { asker: u32, rev: u64 },
 
-    /// The asker asks a query, which is answered on the whole history.
-    Ask { asker: u32, query: Query },
+    /// The asker asks this, which is answered on the whole history.
+    Ask { asker: u32, ask: Ask },
 
     /// The history ends.
     Finish,

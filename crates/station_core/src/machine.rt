@@ -1,10 +1,11 @@
 //! The machine: lanes, the published tables of each, and askers.
 ghost use Rattle.std.specs.Prelude.{◌≡◌, ◌↔◌, ◌<◌, ◌≤◌, ◌^◌, [], IfOk, IsTrue, OnOk, length, replicate, take, slice_index_or, All};
 ghost use Rattle.std.specs.List.{position_or_len};
+ghost use Rattle.ask_specs.specs.Asking.{plain};
 ghost use Rattle.bmp_specs.specs.Query.{quit};
 ghost use Rattle.cut_publisher.specs.Cuts.{total};
 ghost use Rattle.cut_publisher.specs.History.{revision};
-ghost use Rattle.query_lang.specs.Queries.{query_value};
+ghost use Rattle.query_lang.specs.Asks.{ask_value};
 ghost use Rattle.rib_model.specs.Entries.{entry_value, entry_values};
 ghost use Rattle.station_core.specs.Machine.{Begins, ComesTo, MachineValue, with_end, with_piece, is_closing as closes, next_of};
 ghost use Rattle.router_tables.specs.Tables.{StandsFor, TablesValue};
@@ -18,7 +19,7 @@ use crate::schedule::ScheduleFault;
 use bmp_message::BodyReading;
 use cut_publisher::{Cut, CutLane};
 use query_eval::answer;
-use query_lang::Query;
+use query_lang::{Ask, Query};
 use rib_model::Entry;
 use router_tables::RouterTables;
 use std::alloc::Global;
@@ -168,41 +169,41 @@ fn tell_on(shown: &[CutLane<RouterTables>], seen: &mut [u64], asker: u32, rev: u
     }
 }
 
-fn is_quit(query: &Query) -> bool
-    ensures { IsTrue result ↔ (query_value query.now ≡ quit) }
+fn is_quit(ask: &Ask) -> bool
+    ensures { IsTrue result ↔ (ask_value ask.now ≡ plain quit) }
 {
-    match query {
-        Query::Quit => true,
+    match ask {
+        Ask::Query(Query::Quit) => true,
         _ => false,
     }
 }
 
-// Answers a query of an asker.
+// Answers what an asker asks.
 fn ask_on<O: Sink>(
     alloc: Global,
     shown: &[CutLane<RouterTables>],
     seen: &mut [u64],
     asker: u32,
-    query: &Query,
+    ask: &Ask,
     out: &mut O,
 ) -> Result<(), ScheduleFault>
     requires some { 0 < length shown.now }
     requires lanes { length shown.now ≤ most_lanes }
     requires counts { All (λ x. x.1 ≤ 2 ^ 57) shown.now }
-    ensures { AsksOn O.faults O.told O.aside shown.now asker (query_value query.now) seen.old seen.new out.old out.new result }
+    ensures { AsksOn O.faults O.told O.aside shown.now asker (ask_value ask.now) seen.old seen.new out.old out.new result }
 {
     let at = asker as usize;
     if at >= seen.len() {
         return Ok(());
     }
-    if is_quit(query) {
+    if is_quit(ask) {
         return Ok(());
     }
     let cut = match Cut::of(alloc, shown) {
         Ok(cut) => cut,
         Err(_) => return Err(ScheduleFault::NoMemory),
     };
-    match answer(&cut, query, out) {
+    match answer(&cut, ask, out) {
         Ok(()) => {
             seen[at] = cut.rev();
             Ok(())
@@ -300,8 +301,8 @@ impl<B: BodyReading + Drop> Machine<B> {
                 tell_on(&self.shown, &mut self.seen, *asker, *rev);
                 Ok(())
             }
-            Event::Ask { asker, query } => {
-                ask_on(alloc, &self.shown, &mut self.seen, *asker, query, out)
+            Event::Ask { asker, ask } => {
+                ask_on(alloc, &self.shown, &mut self.seen, *asker, ask, out)
             }
             Event::Finish => {
                 self.finished = true;

@@ -48,8 +48,8 @@ fn run<B: BodyReading + Drop, O: Sink>(
 }
 
 /// Runs the machine of so many lanes and askers over these events, one after another, on this thread. It writes the
-/// reply of each `Ask`, which is the query's on the whole history, and answers the last revision: how many entries the
-/// history has at the end. Both numbers are from 1 to 64, and at most 4,096 of the events begin a connection of one
+/// reply of each `Ask`, which is of the whole history, and answers the last revision: how many entries the history has
+/// at the end. Both numbers are from 1 to 64, and at most 4,096 of the events begin a connection of one
 /// lane. Bodies are read by the RFCs alone.
 ///
 /// An event changes nothing and gives no reply where it names no lane or asker, begins a connection on a lane that has

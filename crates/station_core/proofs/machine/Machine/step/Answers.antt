@@ -1,7 +1,7 @@
 use Rattle.std.proofs.Common.{◌≡◌, ◌++◌, ℕ, Bool, List, arith, drop, false, length, subst, take, true}
 use Rattle.std.specs.Prelude.{OnOk}
 use Rattle.std.proofs.lemmas.List.{take_at}
-use Rattle.query_lang.specs.Queries.{query_value}
+use Rattle.query_lang.specs.Asks.{ask_value}
 use Rattle.router_tables.specs.Tables.{TablesValue}
 use Rattle.station_core.specs.declared.lane.Lane.{Lane}
 use Rattle.station_core.specs.Machine.{Begins, ComesTo, with_end, with_piece}
@@ -136,12 +136,12 @@ returns-in-Ask g c v s few =
     let new = c.ask_on.new.seen in
     let all = whole new m.seen.items m.seen.len (omega (arith, c.ask_on.auto.seen, c.deref_mut-in-Ask.ensures.len)) in
     let going : Stands meaning state m.lanes.items m.shown.items m.seen.items false v = subst (λ (b : Bool). Stands meaning state m.lanes.items m.shown.items m.seen.items b v) c.if-self.false s in
-    let query = query_value c.in-Ask.query in
-    let asks : AsksOn g.O.Sink.faults g.O.Sink.told g.O.Sink.aside m.shown.items c.in-Ask.asker query m.seen.items new c.args.out.now c.ask_on.new.out c.ask_on.result =
-    subst (λ (xs : List ℕ). AsksOn g.O.Sink.faults g.O.Sink.told g.O.Sink.aside m.shown.items c.in-Ask.asker query xs new c.args.out.now c.ask_on.new.out c.ask_on.result) c.deref_mut-in-Ask.ensures.value
-    (subst (λ (xs : List (TablesValue × ℕ)). AsksOn g.O.Sink.faults g.O.Sink.told g.O.Sink.aside xs c.in-Ask.asker query c.deref_mut-in-Ask.result.now new c.args.out.now c.ask_on.new.out c.ask_on.result) c.deref-in-Ask.ensures.value c.ask_on.ensures) in
+    let ask = ask_value c.in-Ask.ask in
+    let asks : AsksOn g.O.Sink.faults g.O.Sink.told g.O.Sink.aside m.shown.items c.in-Ask.asker ask m.seen.items new c.args.out.now c.ask_on.new.out c.ask_on.result =
+    subst (λ (xs : List ℕ). AsksOn g.O.Sink.faults g.O.Sink.told g.O.Sink.aside m.shown.items c.in-Ask.asker ask xs new c.args.out.now c.ask_on.new.out c.ask_on.result) c.deref_mut-in-Ask.ensures.value
+    (subst (λ (xs : List (TablesValue × ℕ)). AsksOn g.O.Sink.faults g.O.Sink.told g.O.Sink.aside xs c.in-Ask.asker ask c.deref_mut-in-Ask.result.now new c.args.out.now c.ask_on.new.out c.ask_on.result) c.deref-in-Ask.ensures.value c.ask_on.ensures) in
     rw (all, c.in-Ask.is, c.if-self.false)
-    (answered meaning state g.O.Sink.faults g.O.Sink.told g.O.Sink.aside m.lanes.items m.shown.items m.seen.items v going c.args.out.now few c.in-Ask.asker c.in-Ask.query new c.ask_on.new.out c.ask_on.result asks)
+    (answered meaning state g.O.Sink.faults g.O.Sink.told g.O.Sink.aside m.lanes.items m.shown.items m.seen.items v going c.args.out.now few c.in-Ask.asker c.in-Ask.ask new c.ask_on.new.out c.ask_on.result asks)
 
 pub returns-in-Finish : goal.returns-in-Finish
 returns-in-Finish g c v s few =
