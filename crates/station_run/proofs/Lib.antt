@@ -7,4 +7,6 @@ pub mod Decided
 mod Drilled
 pub mod Counting
 pub mod Counted
+pub mod SeenLanes
+pub mod CopiesKept
 mod Refuted

@@ -6,3 +6,5 @@ pub mod Served
 pub mod Serve
 pub mod Drill
 pub mod Counting
+pub mod Seen
+pub mod Copied

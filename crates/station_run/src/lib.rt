@@ -34,7 +34,10 @@ mod works;
 
 pub use drilling::drill;
 pub use ending::FromEnding;
-pub use laws::{revisions_count_connections, revisions_count_lives};
+pub use laws::{
+    clients_keep_copies, lanes_are_served, lanes_are_tellable, revisions_count_connections,
+    revisions_count_lives,
+};
 pub use outcome::Outcome;
 pub use run::serve;
 pub use tasks::{AskWork, LaneWork, Task};
