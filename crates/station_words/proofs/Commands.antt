@@ -5,43 +5,38 @@ use Rattle.std.specs.Prelude.{◌⊎◌}
 use Rattle.std.specs.List.{join_with_byte}
 use Rattle.std.proofs.lemmas.List.{length-map, take_rest}
 use Rattle.bmp_specs.specs.PrefixText.{IsPrefixText}
-use Rattle.bmp_specs.specs.Query.{QueryValue, quit, space, IsQuery}
+use Rattle.bmp_specs.specs.Query.{space}
 use Rattle.bmp_specs.specs.Values.{PrefixValue}
-use Rattle.query_lang.specs.Queries.{query_value}
-use Rattle.query_lang.specs.declared.query.Query.{Query}
-use Rattle.query_lang.specs.declared.query.Query.TheVariants.{Routers, Cut, Peers, Marks, Table, Count, Exact, Longest, Within, Origin, Stats, Changes, Quit}
+use Rattle.ask_specs.specs.Asking.{AskValue, plain as plain_query}
+use Rattle.ask_specs.proofs.OfferLaws.{offers_plain}
+use Rattle.station_words.specs.QueriesBefore.{KeepsQueries}
+use Rattle.ask_specs.specs.Offer.{IsOfferedAsk}
+use Rattle.query_lang.specs.Asks.{ask_value}
+use Rattle.query_lang.specs.declared.ask.Ask.{Ask}
 use Rattle.station_words.specs.DrillWords.{IsDrill}
 use Rattle.station_words.specs.ServeWords.{IsServe}
-use Rattle.station_words.specs.Words.{AsksOf, IsArchive, IsArchiveCall, IsArchiveOf, IsAsking, IsCall, IsCommand, IsPlain, IsRecall, IsRecallCall, IsRecallOf, IsReplay, IsRov, IsRovCall, IsRovOf, NamesFile, file_in}
+use Rattle.station_words.specs.Words.{AsksOf, IsArchive, IsArchiveCall, IsArchiveOf, IsAsking, IsCall, IsCommand, IsPlain, IsRecall, IsRecallCall, IsRecallOf, IsReplay, IsRov, IsRovCall, IsRovOf, NamesFile, file_in, session_end}
 use Rattle.station_words.specs.declared.drill_words.DrillWords.{DrillWords}
 use Rattle.station_words.specs.declared.serve_words.ServeWords.{ServeWords}
 use Rattle.station_words.specs.declared.words.Command.{Command}
 use Rattle.station_words.specs.declared.words.Command.TheVariants.{Replay, Check, Serve, Drill, Relay, Rov, Archive, Recall, Help, Version}
 
--- no other query is the end of a session
-pub not_quit : (query : Query) → ¬ (query ≡ Quit) → query_value query ≢ quit
-not_quit Quit apart = absurd (apart refl)
-not_quit Routers apart = λ is. cc is
-not_quit Cut apart = λ is. cc is
-not_quit (Peers router peer) apart = λ is. cc is
-not_quit (Marks select) apart = λ is. cc is
-not_quit (Table select) apart = λ is. cc is
-not_quit (Count select) apart = λ is. cc is
-not_quit (Exact prefix select) apart = λ is. cc is
-not_quit (Longest address select) apart = λ is. cc is
-not_quit (Within prefix select) apart = λ is. cc is
-not_quit (Origin number select) apart = λ is. cc is
-not_quit (Stats key) apart = λ is. cc is
-not_quit (Changes lane from prefix) apart = λ is. cc is
+-- the line asks one thing at most
+pub asks_reply : (line : List ℕ) (ask : Ask) (found : Option Ask) → IsOfferedAsk line (ask_value ask) → IfSome found (λ a. (a ≡ ask) × (ask_value ask ≢ session_end)) → IfSome found (λ a. IsAsking line (ask_value a))
+asks_reply line ask None is found = tt
+asks_reply line ask (Some a) is (same, goes_on) = rw same (record { is_offered = is; goes_on = goes_on })
 
--- the line is one query at most
-pub asks_reply : (line : List ℕ) (query : Query) (found : Option Query) → IsQuery line (query_value query) → IfSome found (λ q. (q ≡ query) × (query_value query ≢ quit)) → IfSome found (λ q. IsAsking line (query_value q))
-asks_reply line query None is found = tt
-asks_reply line query (Some q) is (same, goes_on) = rw same (record { is_query = is; goes_on = goes_on })
+pub asks_other : (line : List ℕ) (ask : Ask) (found : Option Ask) → ((v : AskValue) → IsOfferedAsk line v → v ≡ ask_value ask) → IfNone found (ask_value ask ≡ session_end) → IfNone found ((v : AskValue) → IsAsking line v → ⊥)
+asks_other line ask None only ends = λ v is. is.goes_on (only v is.is_offered ∙ ends)
+asks_other line ask (Some a) only ends = tt
 
-pub asks_other : (line : List ℕ) (query : Query) (found : Option Query) → ((v : QueryValue) → IsQuery line v → v ≡ query_value query) → IfNone found (query_value query ≡ quit) → IfNone found ((v : QueryValue) → IsAsking line v → ⊥)
-asks_other line query None only ends = λ v is. is.goes_on (only v is.is_query ∙ ends)
-asks_other line query (Some q) only ends = tt
+-- the words of a query ask for that query alone
+pub keeps_queries : KeepsQueries
+keeps_queries line query ask is =
+    let one = offers_plain line query ask is in (
+      λ asks. let same = one.0 asks.is_offered in (same, λ ends. asks.goes_on (same ∙ ap plain_query ends)),
+      λ asked. record { is_offered = one.1 asked.0; goes_on = λ ends. asked.1 (let both : plain_query query ≡ session_end = sym asked.0 ∙ ends in cc both) },
+    )
 
 -- the first of the words, and the others
 pub first_word : {X : Type 0} (text : X → List ℕ) (words : List X) (first : X) → 0 < length words → first ≡ get_or words 0 first → map text words ≡ text first ∷ map text (take (length words - 1) (drop 1 words))
@@ -58,10 +53,10 @@ same_plain true false given plain more is also = absurd (also.1 plain is)
 same_plain false true given plain more is also = absurd (is.1 more also)
 same_plain false false given plain more is also = (is.0 ∙ sym also.0, refl)
 
-pub no_asking : (b : Bool) (given asked : List (List ℕ)) → IsPlain b given asked → ((query : QueryValue) → IsAsking (join_with_byte space asked) query → ⊥) → (query : QueryValue) (d : Bool) → IsReplay query d given → ⊥
-no_asking b given asked is none query d (others, plain, asks) =
+pub no_asking : (b : Bool) (given asked : List (List ℕ)) → IsPlain b given asked → ((ask : AskValue) → IsAsking (join_with_byte space asked) ask → ⊥) → (ask : AskValue) (d : Bool) → IsReplay ask d given → ⊥
+no_asking b given asked is none ask d (others, plain, asks) =
     let same = (same_plain b d given asked others is plain).0 in
-    none query (subst (λ (words : List (List ℕ)). IsAsking (join_with_byte space words) query) (sym same) asks)
+    none ask (subst (λ (words : List (List ℕ)). IsAsking (join_with_byte space words) ask) (sym same) asks)
 
 -- the words are the file and the prefix, however they are taken
 pub no_judged : (b : Bool) (given asked : List (List ℕ)) → IsPlain b given asked → ((file : List ℕ) (prefix : PrefixValue) → NamesFile file prefix asked → ⊥) → (prefix : PrefixValue) (d : Bool) → IsRov prefix d given → ⊥
@@ -104,10 +99,10 @@ rov_call prefix lenient words is =
     found false path given asked plain names = ap (λ (l : List (List ℕ)). get_or l 0 []) (sym plain.0 ∙ names.spelled)
 
 -- the words are a file and those of a query, however they are taken
-pub no_recalled : (b : Bool) (given asked : List (List ℕ)) → IsPlain b given asked → ((file : List ℕ) (query : QueryValue) → AsksOf file query asked → ⊥) → (query : QueryValue) (d : Bool) → IsRecall query d given → ⊥
-no_recalled b given asked is none query d (file, (others, plain, asks)) =
+pub no_recalled : (b : Bool) (given asked : List (List ℕ)) → IsPlain b given asked → ((file : List ℕ) (ask : AskValue) → AsksOf file ask asked → ⊥) → (ask : AskValue) (d : Bool) → IsRecall ask d given → ⊥
+no_recalled b given asked is none ask d (file, (others, plain, asks)) =
     let same = (same_plain b d given asked others is plain).0 in
-    none file query (subst (λ (words : List (List ℕ)). AsksOf file query words) (sym same) asks)
+    none file ask (subst (λ (words : List (List ℕ)). AsksOf file ask words) (sym same) asks)
 
 -- the words are a file, however they are taken
 pub one_file : {X : Type 0} (text : X → List ℕ) (b : Bool) (given : List (List ℕ)) (words : List X) → IsPlain b given (map text words) → length words ≡ 1 → IsArchive b given
@@ -140,25 +135,25 @@ a_file text (word ∷ words) some =
     let rest : take (length (word ∷ words) - 1) (drop 1 (word ∷ words)) ≡ words = take_rest (word ∷ words) 1 in
     (text word, ap (λ others. text word ∷ map text others) (sym rest))
 
-pub asks_of : {E : Type 0} (words asked : List (List ℕ)) (file : List ℕ) → words ≡ file ∷ asked → (found : Result Query E) → IfOk found (λ query. IsAsking (join_with_byte space asked) (query_value query)) → IfOk found (λ query. (named : List ℕ) × AsksOf named (query_value query) words)
-asks_of words asked file split (Ok query) is = (file, record { asked = asked; spelled = split; is_asking = is })
+pub asks_of : {E : Type 0} (words asked : List (List ℕ)) (file : List ℕ) → words ≡ file ∷ asked → (found : Result Ask E) → IfOk found (λ ask. IsAsking (join_with_byte space asked) (ask_value ask)) → IfOk found (λ ask. (named : List ℕ) × AsksOf named (ask_value ask) words)
+asks_of words asked file split (Ok ask) is = (file, record { asked = asked; spelled = split; is_asking = is })
 asks_of words asked file split (Err fault) is = tt
 
-pub asks_none : (words asked : List (List ℕ)) (file : List ℕ) → words ≡ file ∷ asked → ((query : QueryValue) → IsAsking (join_with_byte space asked) query → ⊥) → (named : List ℕ) (query : QueryValue) → AsksOf named query words → ⊥
-asks_none words asked file split none named query asks =
+pub asks_none : (words asked : List (List ℕ)) (file : List ℕ) → words ≡ file ∷ asked → ((ask : AskValue) → IsAsking (join_with_byte space asked) ask → ⊥) → (named : List ℕ) (ask : AskValue) → AsksOf named ask words → ⊥
+asks_none words asked file split none named ask asks =
     let both : file ∷ asked ≡ named ∷ asks.asked = sym split ∙ asks.spelled in
     let same : asked ≡ asks.asked = cc both in
-    none query (subst (λ (l : List (List ℕ)). IsAsking (join_with_byte space l) query) (sym same) asks.is_asking)
+    none ask (subst (λ (l : List (List ℕ)). IsAsking (join_with_byte space l) ask) (sym same) asks.is_asking)
 
 -- The file of a call of `recall`, and that it stands at its place among the words.
-pub recall_call : (query : Query) (lenient : Bool) (words : List (List ℕ)) → IsCall (record { command = Recall query; lenient = lenient }) words → (file : List ℕ) × IsRecallCall file (query_value query) lenient words × (file_in lenient words ≡ file)
-recall_call query lenient words is =
+pub recall_call : (ask : Ask) (lenient : Bool) (words : List (List ℕ)) → IsCall (record { command = Recall ask; lenient = lenient }) words → (file : List ℕ) × IsRecallCall file (ask_value ask) lenient words × (file_in lenient words ≡ file)
+recall_call ask lenient words is =
     let file = is.is_command.1.0 in
-    let recall : IsRecallOf file (query_value query) lenient is.given = is.is_command.1.1 in
+    let recall : IsRecallOf file (ask_value ask) lenient is.given = is.is_command.1.1 in
     let spelled : words ≡ codes "recall" ∷ is.given = is.spelled ∙ ap (λ (l : List ℕ). l ∷ is.given) is.is_command.0 in
     (file, record { given = is.given; spelled = spelled; is_recall = recall }, ap (λ (l : List (List ℕ)). file_in lenient l) spelled ∙ found lenient file is.given recall.0 recall.1 recall.2)
   where
-    found : (b : Bool) (path : List ℕ) (given asked : List (List ℕ)) → IsPlain b given asked → AsksOf path (query_value query) asked → file_in b (codes "recall" ∷ given) ≡ path
+    found : (b : Bool) (path : List ℕ) (given asked : List (List ℕ)) → IsPlain b given asked → AsksOf path (ask_value ask) asked → file_in b (codes "recall" ∷ given) ≡ path
     found true path given asked plain asks = ap (λ (l : List (List ℕ)). get_or l 1 []) (plain ∙ ap (λ (l : List (List ℕ)). codes "--lenient" ∷ l) asks.spelled)
     found false path given asked plain asks = ap (λ (l : List (List ℕ)). get_or l 0 []) (sym plain.0 ∙ asks.spelled)
 
@@ -178,41 +173,41 @@ version_mark first (inl is) = omega (arith, marked first (codes "--version") 163
 version_mark first (inr is) = omega (arith, marked first (codes "-V") 45 is refl)
 
 abbrev pub HasMark : Command → ℕ → Type 0
-HasMark (Replay query) n = n ≡ 226
+HasMark (Replay ask) n = n ≡ 226
 HasMark Check n = n ≡ 200
 HasMark (Serve serve) n = n ≡ 229
 HasMark (Drill drill) n = n ≡ 205
 HasMark Relay n = n ≡ 222
 HasMark (Rov prefix) n = n ≡ 232
 HasMark Archive n = n ≡ 196
-HasMark (Recall query) n = n ≡ 213
+HasMark (Recall ask) n = n ≡ 213
 HasMark Help n = n ≤ 163
 HasMark Version n = n ≤ 163
 
 has_mark : (command : Command) (lenient : Bool) (first : List ℕ) (given : List (List ℕ)) → IsCommand command lenient first given → HasMark command (mark_of first)
-has_mark (Replay query) lenient first given is = marked first (codes "replay") 226 is.0 refl
+has_mark (Replay ask) lenient first given is = marked first (codes "replay") 226 is.0 refl
 has_mark Check lenient first given is = marked first (codes "check") 200 is.0 refl
 has_mark (Serve serve) lenient first given is = marked first (codes "serve") 229 is.0 refl
 has_mark (Drill drill) lenient first given is = marked first (codes "drill") 205 is.0 refl
 has_mark Relay lenient first given is = marked first (codes "relay") 222 is.0 refl
 has_mark (Rov prefix) lenient first given is = marked first (codes "rov") 232 is.0 refl
 has_mark Archive lenient first given is = marked first (codes "archive") 196 is.0 refl
-has_mark (Recall query) lenient first given is = marked first (codes "recall") 213 is.0 refl
+has_mark (Recall ask) lenient first given is = marked first (codes "recall") 213 is.0 refl
 has_mark Help lenient first given is = help_mark first is.0
 has_mark Version lenient first given is = version_mark first is.0
 
 module _ (first : List ℕ) (given : List (List ℕ)) where
-  pub no_replay : first ≡ codes "replay" → ((query : QueryValue) (lenient : Bool) → IsReplay query lenient given → ⊥) → (command : Command) (lenient : Bool) → IsCommand command lenient first given → ⊥
+  pub no_replay : first ≡ codes "replay" → ((ask : AskValue) (lenient : Bool) → IsReplay ask lenient given → ⊥) → (command : Command) (lenient : Bool) → IsCommand command lenient first given → ⊥
   no_replay named none command lenient is = go command is (marked first (codes "replay") 226 named refl) (has_mark command lenient first given is)
     where
       go : (command : Command) → IsCommand command lenient first given → mark_of first ≡ 226 → HasMark command (mark_of first) → ⊥
-      go (Replay query) is one two = none (query_value query) lenient is.1
+      go (Replay ask) is one two = none (ask_value ask) lenient is.1
       go Check is one two = absurd (omega (arith, one, two))
       go (Serve serve) is one two = absurd (omega (arith, one, two))
       go (Drill drill) is one two = absurd (omega (arith, one, two))
       go Relay is one two = absurd (omega (arith, one, two))
       go (Rov prefix) is one two = absurd (omega (arith, one, two))
-      go (Recall query) is one two = absurd (omega (arith, one, two))
+      go (Recall ask) is one two = absurd (omega (arith, one, two))
       go Archive is one two = absurd (omega (arith, one, two))
       go Help is one two = absurd (omega (arith, one, two))
       go Version is one two = absurd (omega (arith, one, two))
@@ -222,12 +217,12 @@ module _ (first : List ℕ) (given : List (List ℕ)) where
     where
       go : (command : Command) → IsCommand command lenient first given → mark_of first ≡ 229 → HasMark command (mark_of first) → ⊥
       go (Serve serve) is one two = none serve lenient is.1
-      go (Replay query) is one two = absurd (omega (arith, one, two))
+      go (Replay ask) is one two = absurd (omega (arith, one, two))
       go Check is one two = absurd (omega (arith, one, two))
       go (Drill drill) is one two = absurd (omega (arith, one, two))
       go Relay is one two = absurd (omega (arith, one, two))
       go (Rov prefix) is one two = absurd (omega (arith, one, two))
-      go (Recall query) is one two = absurd (omega (arith, one, two))
+      go (Recall ask) is one two = absurd (omega (arith, one, two))
       go Archive is one two = absurd (omega (arith, one, two))
       go Help is one two = absurd (omega (arith, one, two))
       go Version is one two = absurd (omega (arith, one, two))
@@ -237,12 +232,12 @@ module _ (first : List ℕ) (given : List (List ℕ)) where
     where
       go : (command : Command) → IsCommand command lenient first given → mark_of first ≡ 200 → HasMark command (mark_of first) → ⊥
       go Check is one two = none lenient is.1
-      go (Replay query) is one two = absurd (omega (arith, one, two))
+      go (Replay ask) is one two = absurd (omega (arith, one, two))
       go (Serve serve) is one two = absurd (omega (arith, one, two))
       go (Drill drill) is one two = absurd (omega (arith, one, two))
       go Relay is one two = absurd (omega (arith, one, two))
       go (Rov prefix) is one two = absurd (omega (arith, one, two))
-      go (Recall query) is one two = absurd (omega (arith, one, two))
+      go (Recall ask) is one two = absurd (omega (arith, one, two))
       go Archive is one two = absurd (omega (arith, one, two))
       go Help is one two = absurd (omega (arith, one, two))
       go Version is one two = absurd (omega (arith, one, two))
@@ -252,12 +247,12 @@ module _ (first : List ℕ) (given : List (List ℕ)) where
     where
       go : (command : Command) → IsCommand command lenient first given → mark_of first ≡ 222 → HasMark command (mark_of first) → ⊥
       go Relay is one two = none lenient is.1
-      go (Replay query) is one two = absurd (omega (arith, one, two))
+      go (Replay ask) is one two = absurd (omega (arith, one, two))
       go Check is one two = absurd (omega (arith, one, two))
       go (Serve serve) is one two = absurd (omega (arith, one, two))
       go (Drill drill) is one two = absurd (omega (arith, one, two))
       go (Rov prefix) is one two = absurd (omega (arith, one, two))
-      go (Recall query) is one two = absurd (omega (arith, one, two))
+      go (Recall ask) is one two = absurd (omega (arith, one, two))
       go Archive is one two = absurd (omega (arith, one, two))
       go Help is one two = absurd (omega (arith, one, two))
       go Version is one two = absurd (omega (arith, one, two))
@@ -267,12 +262,12 @@ module _ (first : List ℕ) (given : List (List ℕ)) where
     where
       go : (command : Command) → IsCommand command lenient first given → mark_of first ≡ 232 → HasMark command (mark_of first) → ⊥
       go (Rov prefix) is one two = none prefix lenient is.1
-      go (Replay query) is one two = absurd (omega (arith, one, two))
+      go (Replay ask) is one two = absurd (omega (arith, one, two))
       go Check is one two = absurd (omega (arith, one, two))
       go (Serve serve) is one two = absurd (omega (arith, one, two))
       go (Drill drill) is one two = absurd (omega (arith, one, two))
       go Relay is one two = absurd (omega (arith, one, two))
-      go (Recall query) is one two = absurd (omega (arith, one, two))
+      go (Recall ask) is one two = absurd (omega (arith, one, two))
       go Archive is one two = absurd (omega (arith, one, two))
       go Help is one two = absurd (omega (arith, one, two))
       go Version is one two = absurd (omega (arith, one, two))
@@ -282,22 +277,22 @@ module _ (first : List ℕ) (given : List (List ℕ)) where
     where
       go : (command : Command) → IsCommand command lenient first given → mark_of first ≡ 196 → HasMark command (mark_of first) → ⊥
       go Archive is one two = none lenient is.1
-      go (Replay query) is one two = absurd (omega (arith, one, two))
+      go (Replay ask) is one two = absurd (omega (arith, one, two))
       go Check is one two = absurd (omega (arith, one, two))
       go (Serve serve) is one two = absurd (omega (arith, one, two))
       go (Drill drill) is one two = absurd (omega (arith, one, two))
       go Relay is one two = absurd (omega (arith, one, two))
       go (Rov prefix) is one two = absurd (omega (arith, one, two))
-      go (Recall query) is one two = absurd (omega (arith, one, two))
+      go (Recall ask) is one two = absurd (omega (arith, one, two))
       go Help is one two = absurd (omega (arith, one, two))
       go Version is one two = absurd (omega (arith, one, two))
 
-  pub no_recall : first ≡ codes "recall" → ((query : QueryValue) (lenient : Bool) → IsRecall query lenient given → ⊥) → (command : Command) (lenient : Bool) → IsCommand command lenient first given → ⊥
+  pub no_recall : first ≡ codes "recall" → ((ask : AskValue) (lenient : Bool) → IsRecall ask lenient given → ⊥) → (command : Command) (lenient : Bool) → IsCommand command lenient first given → ⊥
   no_recall named none command lenient is = go command is (marked first (codes "recall") 213 named refl) (has_mark command lenient first given is)
     where
       go : (command : Command) → IsCommand command lenient first given → mark_of first ≡ 213 → HasMark command (mark_of first) → ⊥
-      go (Recall query) is one two = none (query_value query) lenient is.1
-      go (Replay query) is one two = absurd (omega (arith, one, two))
+      go (Recall ask) is one two = none (ask_value ask) lenient is.1
+      go (Replay ask) is one two = absurd (omega (arith, one, two))
       go Check is one two = absurd (omega (arith, one, two))
       go (Serve serve) is one two = absurd (omega (arith, one, two))
       go (Drill drill) is one two = absurd (omega (arith, one, two))
@@ -312,12 +307,12 @@ module _ (first : List ℕ) (given : List (List ℕ)) where
     where
       go : (command : Command) → IsCommand command lenient first given → mark_of first ≡ 205 → HasMark command (mark_of first) → ⊥
       go (Drill drill) is one two = none drill is.1
-      go (Replay query) is one two = absurd (omega (arith, one, two))
+      go (Replay ask) is one two = absurd (omega (arith, one, two))
       go Check is one two = absurd (omega (arith, one, two))
       go (Serve serve) is one two = absurd (omega (arith, one, two))
       go Relay is one two = absurd (omega (arith, one, two))
       go (Rov prefix) is one two = absurd (omega (arith, one, two))
-      go (Recall query) is one two = absurd (omega (arith, one, two))
+      go (Recall ask) is one two = absurd (omega (arith, one, two))
       go Archive is one two = absurd (omega (arith, one, two))
       go Help is one two = absurd (omega (arith, one, two))
       go Version is one two = absurd (omega (arith, one, two))
@@ -329,14 +324,14 @@ module _ (first : List ℕ) (given : List (List ℕ)) where
       go : (command : Command) → IsCommand command lenient first given → HasMark command (mark_of first) → ⊥
       go Help is two = some is.1
       go Version is two = some is.1
-      go (Replay query) is two = absurd (omega (arith, low, two))
+      go (Replay ask) is two = absurd (omega (arith, low, two))
       go Check is two = absurd (omega (arith, low, two))
       go (Serve serve) is two = absurd (omega (arith, low, two))
       go (Drill drill) is two = absurd (omega (arith, low, two))
       go Relay is two = absurd (omega (arith, low, two))
       go (Rov prefix) is two = absurd (omega (arith, low, two))
       go Archive is two = absurd (omega (arith, low, two))
-      go (Recall query) is two = absurd (omega (arith, low, two))
+      go (Recall ask) is two = absurd (omega (arith, low, two))
 
   pub no_help : (first ≡ codes "--help") ⊎ (first ≡ codes "-h") → given ≢ [] → (command : Command) (lenient : Bool) → IsCommand command lenient first given → ⊥
   no_help named = no_lone (help_mark first named)
@@ -347,13 +342,13 @@ module _ (first : List ℕ) (given : List (List ℕ)) where
   -- no other command is left
   module _ (replay : first ≢ codes "replay") (serve : first ≢ codes "serve") (check : first ≢ codes "check") (drill : first ≢ codes "drill") (relay : first ≢ codes "relay") (rov : first ≢ codes "rov") (archive : first ≢ codes "archive") (recall : first ≢ codes "recall") where
     pub no_other : ((first ≡ codes "--help") ⊎ (first ≡ codes "-h") → ⊥) → ((first ≡ codes "--version") ⊎ (first ≡ codes "-V") → ⊥) → (command : Command) (lenient : Bool) → IsCommand command lenient first given → ⊥
-    no_other help version (Replay query) lenient is = replay is.0
+    no_other help version (Replay ask) lenient is = replay is.0
     no_other help version Check lenient is = check is.0
     no_other help version (Serve words) lenient is = serve is.0
     no_other help version (Drill words) lenient is = drill is.0
     no_other help version Relay lenient is = relay is.0
     no_other help version (Rov prefix) lenient is = rov is.0
     no_other help version Archive lenient is = archive is.0
-    no_other help version (Recall query) lenient is = recall is.0
+    no_other help version (Recall ask) lenient is = recall is.0
     no_other help version Help lenient is = help is.0
     no_other help version Version lenient is = version is.0

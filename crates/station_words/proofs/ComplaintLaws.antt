@@ -5,7 +5,8 @@ use Rattle.std.specs.List.{join_with_byte, position}
 use Rattle.std.specs.Str.{bytes_eq}
 use Rattle.bmp_specs.specs.NumberText.{IsNumberText}
 use Rattle.bmp_specs.specs.PrefixText.{IsPrefixText}
-use Rattle.bmp_specs.specs.Query.{QueryValue, space}
+use Rattle.bmp_specs.specs.Query.{space}
+use Rattle.ask_specs.specs.Asking.{AskValue}
 use Rattle.bmp_specs.specs.Values.{PrefixValue}
 use Rattle.ip_prefix.proofs.PrefixReading.{same_number}
 use Rattle.station_words.specs.Complaints.{AreSound, BeginsSetting, Complains, ComplainsOfNoCall, Follow, HasExtra, IsCommandName, IsDashed, IsGiven, IsMisfit, IsValueOf, LacksValue, LacksWords, OpenAsks, OpenFeeds, ServeComplains, StandInFront, name_of, no_query, no_recalled as lacks_recalled, no_question, no_archive as lacks_archive, no_vrps, no_prefix as lacks_prefix, no_seed, no_lanes, no_messages, after_check, after_relay, after_file, after_prefix, after_numbers, after_text, for_prefix, for_seed, for_lanes, for_messages}
@@ -39,14 +40,14 @@ not_call words first given split none call is =
 
 -- a command begins with its name
 command_named : (command : Command) (lenient : Bool) (first : List ℕ) (given : List (List ℕ)) → IsCommand command lenient first given → IsCommandName first
-command_named (Replay query) lenient first given is = inl (is.0)
+command_named (Replay ask) lenient first given is = inl (is.0)
 command_named Check lenient first given is = inr (inl (is.0))
 command_named (Serve words) lenient first given is = inr (inr (inl (is.0)))
 command_named (Drill words) lenient first given is = inr (inr (inr (inl (is.0))))
 command_named Relay lenient first given is = inr (inr (inr (inr (inl (is.0)))))
 command_named (Rov prefix) lenient first given is = inr (inr (inr (inr (inr (inl (is.0))))))
 command_named Archive lenient first given is = inr (inr (inr (inr (inr (inr (inl (is.0)))))))
-command_named (Recall query) lenient first given is = inr (inr (inr (inr (inr (inr (inr (inl (is.0))))))))
+command_named (Recall ask) lenient first given is = inr (inr (inr (inr (inr (inr (inr (inl (is.0))))))))
 command_named Help lenient first given is = elim is.0 [
   | inl long ↦ inr (inr (inr (inr (inr (inr (inr (inr (inl (long)))))))))
   | inr short ↦ inr (inr (inr (inr (inr (inr (inr (inr (inr (inl (short))))))))))
@@ -75,13 +76,13 @@ pub no_check_call : ChecksAreNoCall
 no_check_call call others is = not_call (codes "--check-options" ∷ others) (codes "--check-options") others refl (λ command lenient named. no_check_name (command_named command lenient (codes "--check-options") others named)) call is
 
 module _ (words : List (List ℕ)) where
-  not_replay : (asked : List (List ℕ)) → Follow (codes "replay") asked words → ((query : QueryValue) → IsAsking (join_with_byte space asked) query → ⊥) → (call : Call) → IsCall call words → ⊥
+  not_replay : (asked : List (List ℕ)) → Follow (codes "replay") asked words → ((ask : AskValue) → IsAsking (join_with_byte space asked) ask → ⊥) → (call : Call) → IsCall call words → ⊥
   not_replay asked (lenient, given, split, plain) none = not_call words (codes "replay") given split (no_replay (codes "replay") given refl (no_asking lenient given asked plain none))
 
-  not_recall : (plain : List (List ℕ)) → Follow (codes "recall") plain words → ((file : List ℕ) (query : QueryValue) → AsksOf file query plain → ⊥) → (call : Call) → IsCall call words → ⊥
+  not_recall : (plain : List (List ℕ)) → Follow (codes "recall") plain words → ((file : List ℕ) (ask : AskValue) → AsksOf file ask plain → ⊥) → (call : Call) → IsCall call words → ⊥
   not_recall plain (lenient, given, split, is) none = not_call words (codes "recall") given split (no_recall (codes "recall") given refl (no_recalled lenient given plain is none))
 
-  not_asked : (asked : List (List ℕ)) → (Follow (codes "replay") asked words) ⊎ ((file : List ℕ) × Follow (codes "recall") (file ∷ asked) words) → ((query : QueryValue) → IsAsking (join_with_byte space asked) query → ⊥) → (call : Call) → IsCall call words → ⊥
+  not_asked : (asked : List (List ℕ)) → (Follow (codes "replay") asked words) ⊎ ((file : List ℕ) × Follow (codes "recall") (file ∷ asked) words) → ((ask : AskValue) → IsAsking (join_with_byte space asked) ask → ⊥) → (call : Call) → IsCall call words → ⊥
   not_asked asked (inl follow) none = not_replay asked follow none
   not_asked asked (inr (file, follow)) none = not_recall (file ∷ asked) follow (asks_none (file ∷ asked) asked file refl none)
 
@@ -98,9 +99,9 @@ module _ (words : List (List ℕ)) where
   not_drill given split none = not_call words (codes "drill") given split (no_drill (codes "drill") given refl none)
 
   lacking : (command : List ℕ) → LacksWords command words → (call : Call) → IsCall call words → ⊥
-  lacking command (no_query named follow) = not_replay [] follow (λ query is. no_line query is.is_query)
-  lacking command (lacks_recalled named follow) = not_recall [] follow (λ file query asks. let split = asks.spelled in cc split)
-  lacking command (no_question named file follow) = not_recall (file ∷ []) follow (asks_none (file ∷ []) [] file refl (λ query is. no_line query is.is_query))
+  lacking command (no_query named follow) = not_replay [] follow (λ ask is. no_line ask is.is_offered)
+  lacking command (lacks_recalled named follow) = not_recall [] follow (λ file ask asks. let split = asks.spelled in cc split)
+  lacking command (no_question named file follow) = not_recall (file ∷ []) follow (asks_none (file ∷ []) [] file refl (λ ask is. no_line ask is.is_offered))
   lacking command (lacks_archive named follow) = not_archive [] follow (λ file same. cc same)
   lacking command (no_vrps named follow) = not_rov [] follow (λ file prefix names. let split = names.spelled in cc split)
   lacking command (lacks_prefix named file follow) = not_rov (file ∷ []) follow (λ other prefix names. let split = names.spelled in cc split)
@@ -405,8 +406,8 @@ served complaint words (given, split, complains) = not_call words (codes "serve"
 pub of_no_call : ComplainsOfNoCall
 of_no_call NoWords words none = λ call is. let h = sym none ∙ is.spelled in cc h
 of_no_call (NoCommand word) words (given, split, none) = not_call words word.now given split (λ command lenient is. none (command_named command lenient word.now given is))
-of_no_call (NoQuery asked good) words (are, none, beginning) = not_asked words _ are (λ query is. none query is.is_query)
-of_no_call Quit words (asked, are, is_quit, only) = not_asked words asked are (λ query is. is.goes_on (only query is.is_query))
+of_no_call (NoQuery asked good) words (are, none, beginning) = not_asked words _ are (λ ask is. none ask is.is_offered)
+of_no_call Quit words (asked, are, is_quit, only) = not_asked words asked are (λ ask is. is.goes_on (only ask is.is_offered))
 of_no_call (Needs command needs) words lacks = lacking words command.now lacks
 of_no_call (Extra command word) words has = extra words command.now word.now has
 of_no_call (NotA word wanted) words is = misfit words word.now is

@@ -1,7 +1,11 @@
--- A line without letters is no query.
-use Rattle.std.proofs.Common.{◌≡◌, ◌<◌, ℕ, List, [], ◌∷◌, ◌∙◌, length, codes, ap, arith}
+-- A line without letters asks nothing.
+use Rattle.std.proofs.Common.{◌≡◌, ◌<◌, ℕ, List, [], ◌∷◌, ◌∙◌, length, codes, refl, ap, arith}
 use Rattle.std.specs.List.{join_with_byte}
 use Rattle.bmp_specs.specs.Query.{QueryValue, IsQuery, AreQueryWords, routers, cut, peers, marks, table, count, exact, longest, within, origin, stats, changes, quit, space}
+use Rattle.ask_specs.specs.Asking.{AskValue}
+use Rattle.ask_specs.specs.Offer.{IsOfferedAsk}
+use Rattle.query_lang.specs.Reading.{words_of}
+use Rattle.query_lang.proofs.AskWords.{asks_nothing}
 
 joined_some : (name : List ℕ) (others : List (List ℕ)) → 0 < length name → [] ≡ join_with_byte space (name ∷ others) → ⊥
 joined_some [] others some none = absurd (omega (arith, some))
@@ -27,5 +31,9 @@ module _ (words : List (List ℕ)) (none : [] ≡ join_with_byte space words) wh
   no_words (changes lane from prefix) is = begins (codes "changes") (is.lane_text ∷ is.from_text ∷ is.prefix_text ∷ []) (omega arith) is.spelled
   no_words quit is = begins (codes "quit") [] (omega arith) is
 
-pub no_line : (query : QueryValue) → IsQuery [] query → ⊥
-no_line query is = no_words is.words is.joined query is.asks
+no_query_line : (query : QueryValue) → IsQuery [] query → ⊥
+no_query_line query is = no_words is.words is.joined query is.asks
+
+pub no_line : (ask : AskValue) → IsOfferedAsk [] ask → ⊥
+unfolding words_of
+no_line = asks_nothing [] [] [] refl no_query_line (λ same. absurd (cc same)) (λ same. absurd (cc same))

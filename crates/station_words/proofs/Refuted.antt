@@ -8,6 +8,8 @@ use Rattle.bmp_specs.specs.Query.{cut}
 use Rattle.bmp_specs.specs.Values.{PrefixValue}
 use Rattle.ip_prefix.proofs.Decimals.{all_digits}
 use Rattle.query_lang.specs.Reading.{words_of}
+use Rattle.ask_specs.specs.Asking.{plain as plain_query}
+use Rattle.ask_specs.proofs.OfferLaws.{offers_plain}
 use Rattle.query_lang.proofs.LineWords.{is_query}
 use Rattle.station_doors.specs.Doors.{most_places}
 use Rattle.station_doors.specs.declared.listening.Log.TheVariants.{Routers, Clients}
@@ -181,12 +183,17 @@ a_wrong_seed_comes_before_what_is_missing (no_messages named seed lanes split is
 -- an empty word is no beginning of a query
 an_empty_word_is_no_good_beginning : IsGoodBeginning 1 ([] ∷ []) → ⊥
 an_empty_word_is_no_good_beginning (inl is) = absurd (cc is)
-an_empty_word_is_no_good_beginning (inr (query, asking)) = no_line query asking.is_query
+an_empty_word_is_no_good_beginning (inr (inl same)) = absurd (cc same)
+an_empty_word_is_no_good_beginning (inr (inr (ask, asking))) = no_line ask asking.is_offered
 
 -- of words that begin with a query the query is told
 a_query_in_front_is_told : IsBestBeginning 0 2 (codes "cut" ∷ codes "x" ∷ []) → ⊥
 unfolding words_of
-a_query_in_front_is_told (is, none) = none 1 (omega arith) (omega arith) cut (record { is_query = is_query (codes "cut") cut refl; goes_on = λ same. cc same })
+a_query_in_front_is_told (is, none) = none 1 (omega arith) (omega arith) (inr (plain_query cut, record { is_offered = (offers_plain (codes "cut") cut (plain_query cut) (is_query (codes "cut") cut refl)).1 refl; goes_on = λ same. cc same }))
+
+-- and `steps` in front of words that are none
+steps_in_front_is_told : IsBestBeginning 0 2 (codes "steps" ∷ codes "peers" ∷ []) → ⊥
+steps_in_front_is_told (is, none) = none 1 (omega arith) (omega arith) (inl refl)
 
 -- ports that begin where the others end don't meet
 ports_side_by_side_do_not_meet : (feed feeds askers : ℕ) (given : List (List ℕ)) → ServeComplains (Meet feed feeds (feed + feeds) askers) given → ⊥

@@ -5,12 +5,14 @@ use Rattle.std.specs.String.{string_bytes}
 use Rattle.bmp_specs.specs.AddressText.{IsAddressText}
 use Rattle.bmp_specs.specs.NumberText.{IsNumberText}
 use Rattle.bmp_specs.specs.PrefixText.{IsPrefixText}
-use Rattle.bmp_specs.specs.Query.{QueryValue, IsQuery, quit, space}
+use Rattle.bmp_specs.specs.Query.{space}
 use Rattle.bmp_specs.specs.Values.{AddressValue, PrefixValue}
+use Rattle.ask_specs.specs.Asking.{AskValue}
+use Rattle.ask_specs.specs.Offer.{IsOfferedAsk}
 use Rattle.station_doors.specs.Doors.{most_places}
 use Rattle.station_doors.specs.declared.listening.Log.{Log}
 use Rattle.station_words.specs.ServeWords.{Setting, ArePorts, Gives, Has, IsAllowed, IsInFront, IsLog, IsOption, IsPorts, IsRounds, IsSeconds, IsServe, MayGive, equals_sign, flag, ports_for, values_of}
-use Rattle.station_words.specs.Words.{IsAsking, IsCall, IsPlain}
+use Rattle.station_words.specs.Words.{IsAsking, IsCall, IsPlain, session_end}
 use Rattle.station_words.specs.declared.complaint.Complaint.{Complaint}
 use Rattle.station_words.specs.declared.complaint.Complaint.TheVariants.{NoWords, NoCommand, NoQuery, Quit, Needs, Extra, NotA, NoOption, NoValue, Twice, HasValue, BadValue, PastEnd, Meet}
 use Rattle.station_words.specs.declared.serve_options.ServeOption.{ServeOption}
@@ -227,22 +229,26 @@ JoinsWords first = (first ≡ codes "replay") ⊎ (first ≡ codes "recall")
 abbrev pub JoinWords : List (List ℕ) → Type 0
 JoinWords words = (first : List ℕ) × (given : List (List ℕ)) × (words ≡ first ∷ given) × JoinsWords first
 
--- that many of the first words are a query, or 0
-abbrev pub IsGoodBeginning : ℕ → List (List ℕ) → Type 0
-IsGoodBeginning good asked = (good ≡ 0) ⊎ ((query : QueryValue) × IsAsking (join_with_byte space (take good asked)) query)
+-- that many of the first words ask something, or are `steps` alone, behind which a query can stand
+abbrev pub IsBeginning : ℕ → List (List ℕ) → Type 0
+IsBeginning count asked = (take count asked ≡ codes "steps" ∷ []) ⊎ ((ask : AskValue) × IsAsking (join_with_byte space (take count asked)) ask)
 
--- the same, and of those below this number no longer beginning is a query
+-- the same, or 0
+abbrev pub IsGoodBeginning : ℕ → List (List ℕ) → Type 0
+IsGoodBeginning good asked = (good ≡ 0) ⊎ IsBeginning good asked
+
+-- the same, and none that is longer, of those below this number
 abbrev pub IsBestBeginning : ℕ → ℕ → List (List ℕ) → Type 0
-IsBestBeginning good end asked = IsGoodBeginning good asked × ((more : ℕ) → more < end → good < more → (query : QueryValue) → IsAsking (join_with_byte space (take more asked)) query → ⊥)
+IsBestBeginning good end asked = IsGoodBeginning good asked × ((more : ℕ) → more < end → good < more → IsBeginning more asked → ⊥)
 
 -- what is wrong with the words
 abbrev pub Complains : Complaint → List (List ℕ) → Type 0
 Complains NoWords words = words ≡ []
 Complains (NoCommand word) words = (given : List (List ℕ)) × (words ≡ word.now ∷ given) × (IsCommandName word.now → ⊥)
 Complains (NoQuery asked good) words =
-    AreAsked (map string_bytes asked.now) words × ((query : QueryValue) → IsQuery (join_with_byte space (map string_bytes asked.now)) query → ⊥)
+    AreAsked (map string_bytes asked.now) words × ((ask : AskValue) → IsOfferedAsk (join_with_byte space (map string_bytes asked.now)) ask → ⊥)
     × IsBestBeginning good (length asked.now) (map string_bytes asked.now)
-Complains Quit words = (asked : List (List ℕ)) × AreAsked asked words × IsQuery (join_with_byte space asked) quit × ((query : QueryValue) → IsQuery (join_with_byte space asked) query → query ≡ quit)
+Complains Quit words = (asked : List (List ℕ)) × AreAsked asked words × IsOfferedAsk (join_with_byte space asked) session_end × ((ask : AskValue) → IsOfferedAsk (join_with_byte space asked) ask → ask ≡ session_end)
 Complains (Needs command needs) words = LacksWords command.now words
 Complains (Extra command word) words = HasExtra command.now word.now words
 Complains (NotA word wanted) words = IsMisfit word.now words

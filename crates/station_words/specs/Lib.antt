@@ -2,6 +2,7 @@ pub mod Words
 pub mod ServeWords
 pub mod AllowedTexts
 pub mod ServeBefore
+pub mod QueriesBefore
 pub mod ServeOptions
 pub mod DrillWords
 pub mod Complaints

@@ -2,29 +2,35 @@
 use Rattle.std.specs.Prelude.{◌≡◌, ◌≢◌, ◌⊎◌, ℕ, Bool, true, false, List, [], ◌∷◌, get_or, codes}
 use Rattle.std.specs.List.{join_with_byte}
 use Rattle.bmp_specs.specs.PrefixText.{IsPrefixText}
-use Rattle.bmp_specs.specs.Query.{QueryValue, quit, space, IsQuery}
+use Rattle.bmp_specs.specs.Query.{quit, space}
 use Rattle.bmp_specs.specs.Values.{PrefixValue}
-use Rattle.query_lang.specs.Queries.{query_value}
+use Rattle.ask_specs.specs.Asking.{AskValue, plain as plain_query}
+use Rattle.ask_specs.specs.Offer.{IsOfferedAsk}
+use Rattle.query_lang.specs.Asks.{ask_value}
 use Rattle.station_words.specs.DrillWords.{IsDrill}
 use Rattle.station_words.specs.ServeWords.{IsServe}
 use Rattle.station_words.specs.declared.words.Call.{Call}
 use Rattle.station_words.specs.declared.words.Command.{Command}
 use Rattle.station_words.specs.declared.words.Command.TheVariants.{Replay, Check, Serve, Drill, Relay, Rov, Archive, Recall, Help, Version}
 
--- the line is this query, which isn't the end of a session
-pub record IsAsking (line : List ℕ) (query : QueryValue) : Type 0 where
-  pub is_query : IsQuery line query
-  pub goes_on : query ≢ quit
+-- the end of a session
+abbrev pub session_end : AskValue
+session_end = plain_query quit
+
+-- the line asks this, which is offered and isn't the end of a session
+pub record IsAsking (line : List ℕ) (ask : AskValue) : Type 0 where
+  pub is_offered : IsOfferedAsk line ask
+  pub goes_on : ask ≢ session_end
 
 -- Where `--lenient` stands in front of the words, they are that word and these; else they are these.
 abbrev pub IsPlain : Bool → List (List ℕ) → List (List ℕ) → Type 0
 IsPlain true given plain = given ≡ codes "--lenient" ∷ plain
 IsPlain false given plain = (plain ≡ given) × ((more : List (List ℕ)) → given ≢ codes "--lenient" ∷ more)
 
--- The words after `replay`, joined by single spaces, are the query. Only the bytes that are joined count: a word may
+-- The words after `replay`, joined by single spaces, ask this. Only the bytes that are joined count: a word may
 -- itself hold spaces, or be empty.
-abbrev pub IsReplay : QueryValue → Bool → List (List ℕ) → Type 0
-IsReplay query lenient given = (asked : List (List ℕ)) × IsPlain lenient given asked × IsAsking (join_with_byte space asked) query
+abbrev pub IsReplay : AskValue → Bool → List (List ℕ) → Type 0
+IsReplay ask lenient given = (asked : List (List ℕ)) × IsPlain lenient given asked × IsAsking (join_with_byte space asked) ask
 
 -- the words are a file and a prefix
 pub record NamesFile (file : List ℕ) (prefix : PrefixValue) (words : List (List ℕ)) : Type 0 where
@@ -32,11 +38,11 @@ pub record NamesFile (file : List ℕ) (prefix : PrefixValue) (words : List (Lis
   pub spelled : words ≡ file ∷ text ∷ []
   pub is_prefix : IsPrefixText text prefix
 
--- the words are a file and those of a query, which are joined by single spaces
-pub record AsksOf (file : List ℕ) (query : QueryValue) (words : List (List ℕ)) : Type 0 where
+-- the words are a file and those that ask this, which are joined by single spaces
+pub record AsksOf (file : List ℕ) (ask : AskValue) (words : List (List ℕ)) : Type 0 where
   pub asked : List (List ℕ)
   pub spelled : words ≡ file ∷ asked
-  pub is_asking : IsAsking (join_with_byte space asked) query
+  pub is_asking : IsAsking (join_with_byte space asked) ask
 
 -- The words after `rov` are this file and the prefix. Any word is a file by its place: an empty one too, or `--lenient`
 -- after `--lenient`.
@@ -55,25 +61,25 @@ IsArchiveOf file lenient given = IsPlain lenient given (file ∷ [])
 abbrev pub IsArchive : Bool → List (List ℕ) → Type 0
 IsArchive lenient given = (file : List ℕ) × IsArchiveOf file lenient given
 
--- The words after `recall` are this file, and then the query, as after `replay`. Any word is a file by its place.
-abbrev pub IsRecallOf : List ℕ → QueryValue → Bool → List (List ℕ) → Type 0
-IsRecallOf file query lenient given = (asked : List (List ℕ)) × IsPlain lenient given asked × AsksOf file query asked
+-- The words after `recall` are this file, and then what is asked, as after `replay`. Any word is a file by its place.
+abbrev pub IsRecallOf : List ℕ → AskValue → Bool → List (List ℕ) → Type 0
+IsRecallOf file ask lenient given = (asked : List (List ℕ)) × IsPlain lenient given asked × AsksOf file ask asked
 
 -- the same of some file
-abbrev pub IsRecall : QueryValue → Bool → List (List ℕ) → Type 0
-IsRecall query lenient given = (file : List ℕ) × IsRecallOf file query lenient given
+abbrev pub IsRecall : AskValue → Bool → List (List ℕ) → Type 0
+IsRecall ask lenient given = (file : List ℕ) × IsRecallOf file ask lenient given
 
 -- The first of the words and those after it are this command, which is lenient or isn't: `--lenient` stands right after
 -- `replay`, `check`, `relay`, `rov`, `archive` or `recall`, or anywhere among the settings of `serve`.
 abbrev pub IsCommand : Command → Bool → List ℕ → List (List ℕ) → Type 0
-IsCommand (Replay query) lenient first given = (first ≡ codes "replay") × IsReplay (query_value query) lenient given
+IsCommand (Replay ask) lenient first given = (first ≡ codes "replay") × IsReplay (ask_value ask) lenient given
 IsCommand Check lenient first given = (first ≡ codes "check") × IsPlain lenient given []
 IsCommand (Serve serve) lenient first given = (first ≡ codes "serve") × IsServe serve lenient given
 IsCommand (Drill drill) lenient first given = (first ≡ codes "drill") × IsDrill drill given × (lenient ≡ false)
 IsCommand Relay lenient first given = (first ≡ codes "relay") × IsPlain lenient given []
 IsCommand (Rov prefix) lenient first given = (first ≡ codes "rov") × IsRov prefix lenient given
 IsCommand Archive lenient first given = (first ≡ codes "archive") × IsArchive lenient given
-IsCommand (Recall query) lenient first given = (first ≡ codes "recall") × IsRecall (query_value query) lenient given
+IsCommand (Recall ask) lenient first given = (first ≡ codes "recall") × IsRecall (ask_value ask) lenient given
 IsCommand Help lenient first given = ((first ≡ codes "--help") ⊎ (first ≡ codes "-h")) × (given ≡ []) × (lenient ≡ false)
 IsCommand Version lenient first given = ((first ≡ codes "--version") ⊎ (first ≡ codes "-V")) × (given ≡ []) × (lenient ≡ false)
 
@@ -100,11 +106,11 @@ pub record IsArchiveCall (file : List ℕ) (lenient : Bool) (words : List (List 
   pub spelled : words ≡ codes "archive" ∷ given
   pub is_archive : IsArchiveOf file lenient given
 
--- the words are a call of `recall` with this file and this query
-pub record IsRecallCall (file : List ℕ) (query : QueryValue) (lenient : Bool) (words : List (List ℕ)) : Type 0 where
+-- the words are a call of `recall` with this file, and ask this
+pub record IsRecallCall (file : List ℕ) (ask : AskValue) (lenient : Bool) (words : List (List ℕ)) : Type 0 where
   pub given : List (List ℕ)
   pub spelled : words ≡ codes "recall" ∷ given
-  pub is_recall : IsRecallOf file query lenient given
+  pub is_recall : IsRecallOf file ask lenient given
 
 -- the word after the first, or after `--lenient`, where the file of a call stands
 abbrev pub file_in : Bool → List (List ℕ) → List ℕ

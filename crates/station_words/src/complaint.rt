@@ -3,7 +3,7 @@
 //! `why_no_command` is asked where `read_words` found no command. It takes the words apart once more, from the left, and
 //! names the first of them that can't stand where it does. What it says decides nothing: `read_words` does.
 
-ghost use Rattle.std.specs.Prelude.{◌≡◌, ◌+◌, ◌≤◌, ◌⊎◌, ◌∷◌, ℕ, List, IfSome, IfNone, codes, length, map};
+ghost use Rattle.std.specs.Prelude.{◌≡◌, ◌↔◌, ◌+◌, ◌≤◌, ◌⊎◌, [], ◌∷◌, ℕ, List, IsTrue, IfSome, IfNone, codes, length, map};
 ghost use Rattle.std.specs.String.{string_bytes};
 ghost use Rattle.station_words.specs.Complaints.{AreAsked, AreCall, Complains, IsBestBeginning, IsTextName, JoinWords, JoinsWords};
 ghost use Rattle.station_words.specs.Words.{IsCall};
@@ -11,8 +11,10 @@ ghost use Rattle.station_words.specs.declared.words.Call.{Call as AnyCall};
 
 use crate::serve_options::{ServeOption, is_number, words_complaint};
 use crate::serve_ports::ports_complaint;
-use crate::words::{WordsFault, first_of, read_asked, read_prefix, split_lenient};
-use query_lang::{Query, parse};
+use crate::words::{
+    WordsFault, first_of, is_word, read_asked, read_prefix, split_lenient, with_reply,
+};
+use query_lang::parse_ask;
 use std::alloc::Global;
 
 /// Why words are no command.
@@ -24,7 +26,7 @@ pub enum Complaint<'a> {
     /// The first is no command.
     NoCommand(&'a str),
 
-    /// These are no query: the first `good` of them are one, and no longer beginning is.
+    /// These are no query: the first `good` of them are one, or are `steps` alone, and no longer beginning is.
     NoQuery {
         asked: &'a [String],
         good: usize,
@@ -85,22 +87,36 @@ pub enum Complaint<'a> {
     },
 }
 
-// So many words, where the first of these are a query that has a reply, or else as many as before: the most of those seen.
-// None where memory is wanting.
+// Whether the words are `steps` alone, behind which a query can stand.
+fn are_steps(words: &[String]) -> bool
+    ensures { IsTrue result ↔ (map string_bytes words.now ≡ codes "steps" ∷ []) }
+{
+    match words {
+        [word] => is_word(word.as_str(), "steps"),
+        _ => false,
+    }
+}
+
+// So many words, where the first of these are a query that has a reply, or `steps` alone, or else as many as before: the most of
+// those seen. None where memory is wanting.
 fn more_good(alloc: Global, asked: &[String], good: usize, count: usize) -> Option<usize>
     requires within { count ≤ length asked.now }
     requires best { IsBestBeginning good count (map string_bytes asked.now) }
     ensures { IfSome result (λ more. IsBestBeginning more (count + 1) (map string_bytes asked.now)) }
 {
-    match read_asked(alloc, &asked[..count]) {
+    let beginning = &asked[..count];
+    if are_steps(beginning) {
+        return Some(count);
+    }
+    match read_asked(alloc, beginning) {
         Ok(_) => Some(count),
         Err(WordsFault::Usage) => Some(good),
         Err(WordsFault::NoMemory) => None,
     }
 }
 
-// How many of the first words are a query that has a reply: the most that are one, and not all. 0 where none are. None where
-// memory is wanting.
+// How many of the first words are a query that has a reply, or `steps` alone: the most that are so, and not all. 0 where none
+// are. None where memory is wanting.
 fn good_words(alloc: Global, asked: &[String]) -> Option<usize>
     ensures { IfSome result (λ good. IsBestBeginning good (length asked.now) (map string_bytes asked.now)) }
 {
@@ -118,9 +134,11 @@ fn query_complaint<'a>(alloc: Global, asked: &'a [String]) -> Option<Complaint<'
     let Ok(line) = asked.join(alloc, " ") else {
         return None;
     };
-    match parse(line.as_bytes()) {
-        Some(Query::Quit) => Some(Complaint::Quit),
-        Some(_) => None,
+    match parse_ask(line.as_bytes()) {
+        Some(ask) => match with_reply(ask) {
+            Some(_) => None,
+            None => Some(Complaint::Quit),
+        },
         None => match good_words(alloc, asked) {
             Some(good) => Some(Complaint::NoQuery { asked, good }),
             None => None,

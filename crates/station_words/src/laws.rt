@@ -1,5 +1,6 @@
 //! What holds of the words themselves.
 ghost use Rattle.station_words.specs.Complaints.{ComplainsOfNoCall};
+ghost use Rattle.station_words.specs.QueriesBefore.{KeepsQueries};
 ghost use Rattle.station_words.specs.ServeBefore.{KeepsServe};
 ghost use Rattle.station_words.specs.Words.{ChecksAreNoCall};
 
@@ -8,6 +9,11 @@ ghost use Rattle.station_words.specs.Words.{ChecksAreNoCall};
 /// four weren't known.
 pub fn old_words_keep_their_meaning()
     ensures { KeepsServe }
+{}
+
+/// The words of a query behind `replay`, or behind `recall` and a file, ask for that query, and for nothing else.
+pub fn queries_keep_their_meaning()
+    ensures { KeepsQueries }
 {}
 
 /// Words that begin with `--check-options` are no call: whoever asks for a check asks for nothing else.

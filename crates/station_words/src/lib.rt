@@ -12,7 +12,7 @@
 //! file, and each text is the one of `specs/Explain.antt`, byte by byte. What a complaint says of the words is so, and is of
 //! the first fault from the left; no call has one, and words that are no call have one, unless they are to be joined and memory
 //! was wanting; its line is tested alone. Words of `serve` that were a call while five of its options had to be given are the
-//! same call.
+//! same call, and the words of a query ask for that query.
 //! Begin with `specs/Words.antt`, `specs/ServeWords.antt` and `specs/DrillWords.antt`, then `src/words.rt`, and with
 //! `specs/Complaints.antt` for `src/complaint.rt`. What `clap` is told of the options, and what it finds, is in
 //! `src/serve_words.rt` and `specs/ServeOptions.antt`.
@@ -33,7 +33,10 @@ pub use complaint::{Complaint, why_no_command};
 pub use complaint_text::Shown;
 pub use drill_words::DrillWords;
 pub use explain::{help, version};
-pub use laws::{checks_are_no_call, complaints_are_of_no_call, old_words_keep_their_meaning};
+pub use laws::{
+    checks_are_no_call, complaints_are_of_no_call, old_words_keep_their_meaning,
+    queries_keep_their_meaning,
+};
 pub use serve_options::ServeOption;
 pub use serve_words::ServeWords;
 pub use words::{Call, Command, WordsFault, behind_check, file_word, read_words};

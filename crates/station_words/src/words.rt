@@ -2,25 +2,26 @@ ghost use Rattle.std.specs.Prelude.{◌≡◌, ◌≢◌, ◌↔◌, ℕ, List, 
 ghost use Rattle.std.specs.List.{join_with_byte};
 ghost use Rattle.std.specs.String.{string_bytes};
 ghost use Rattle.bmp_specs.specs.PrefixText.{IsPrefixText};
-ghost use Rattle.bmp_specs.specs.Query.{QueryValue, quit, space};
+ghost use Rattle.ask_specs.specs.Asking.{AskValue};
+ghost use Rattle.bmp_specs.specs.Query.{space};
 ghost use Rattle.bmp_specs.specs.Values.{PrefixValue};
-ghost use Rattle.query_lang.specs.Queries.{query_value};
+ghost use Rattle.query_lang.specs.Asks.{ask_value};
 ghost use Rattle.station_words.specs.Reading.{IsLoneReading, IsPlainReading, IsReading};
-ghost use Rattle.station_words.specs.Words.{AsksOf, IsAsking, IsCall, IsPlain, NamesFile, TakeMemory, file_in};
+ghost use Rattle.station_words.specs.Words.{AsksOf, IsAsking, IsCall, IsPlain, NamesFile, TakeMemory, file_in, session_end};
 ghost use Rattle.station_words.specs.declared.words.Call.{Call as AnyCall};
 
 use crate::drill_words::{DrillWords, read_drill};
 use crate::serve_words::{ServeWords, read_serve};
 use ip_prefix::{Prefix, parse_prefix};
-use query_lang::{Query, parse};
+use query_lang::{Ask, Query, parse_ask};
 use std::alloc::Global;
 use thiserror::Error;
 
 /// What is asked for.
 #[derive(Clone, Copy)]
 pub enum Command {
-    /// `replay` and a query other than `quit`: its reply on what the input leaves.
-    Replay(Query),
+    /// `replay` and a query other than `quit`, with the further words that are offered: its reply on what the input leaves.
+    Replay(Ask),
 
     /// `check`: how many messages of each type the input has.
     Check,
@@ -41,9 +42,8 @@ pub enum Command {
     /// `archive` and a file: the input is kept in it. The file stays a word of the call.
     Archive,
 
-    /// `recall`, a file and a query other than `quit`: its reply on what the archive in the file keeps. The file stays a word
-    /// of the call.
-    Recall(Query),
+    /// `recall`, a file and such a query: its reply on what the archive in the file keeps. The file stays a word of the call.
+    Recall(Ask),
 
     /// `--help`: what the commands are.
     Help,
@@ -91,36 +91,36 @@ pub(crate) fn first_of(words: &[String]) -> Option<(&str, &[String])>
     }
 }
 
-// The query, where it has a reply.
-fn with_reply(query: Query) -> Option<Query>
-    ensures some { IfSome result (λ q. (q ≡ query) × (query_value query ≢ quit)) }
-    ensures none { IfNone result (query_value query ≡ quit) }
+// What is asked, where it has a reply.
+pub(crate) fn with_reply(ask: Ask) -> Option<Ask>
+    ensures some { IfSome result (λ a. (a ≡ ask) × (ask_value ask ≢ session_end)) }
+    ensures none { IfNone result (ask_value ask ≡ session_end) }
 {
-    match query {
-        Query::Quit => None,
-        _ => Some(query),
+    match ask {
+        Ask::Query(Query::Quit) => None,
+        _ => Some(ask),
     }
 }
 
-// The query that the line is, where it has a reply. None where it is no such query.
-fn read_query(line: &[u8]) -> Option<Query>
-    ensures some { IfSome result (λ query. IsAsking line.now (query_value query)) }
-    ensures none { IfNone result ((query : QueryValue) → IsAsking line.now query → ⊥) }
+// What the line asks, where it has a reply. None where it asks no such thing.
+fn read_ask(line: &[u8]) -> Option<Ask>
+    ensures some { IfSome result (λ ask. IsAsking line.now (ask_value ask)) }
+    ensures none { IfNone result ((ask : AskValue) → IsAsking line.now ask → ⊥) }
 {
-    match parse(line) {
-        Some(query) => with_reply(query),
+    match parse_ask(line) {
+        Some(ask) => with_reply(ask),
         None => None,
     }
 }
 
 // The same of the words, joined by single spaces.
-pub(crate) fn read_asked(alloc: Global, words: &[String]) -> Result<Query, WordsFault>
-    ensures ok { IfOk result (λ query. IsAsking (join_with_byte space (map string_bytes words.now)) (query_value query)) }
-    ensures usage { result ≡ Err WordsFault.Usage → (query : QueryValue) → IsAsking (join_with_byte space (map string_bytes words.now)) query → ⊥ }
+pub(crate) fn read_asked(alloc: Global, words: &[String]) -> Result<Ask, WordsFault>
+    ensures ok { IfOk result (λ ask. IsAsking (join_with_byte space (map string_bytes words.now)) (ask_value ask)) }
+    ensures usage { result ≡ Err WordsFault.Usage → (ask : AskValue) → IsAsking (join_with_byte space (map string_bytes words.now)) ask → ⊥ }
 {
     match words.join(alloc, " ") {
-        Ok(line) => match read_query(line.as_bytes()) {
-            Some(query) => Ok(query),
+        Ok(line) => match read_ask(line.as_bytes()) {
+            Some(ask) => Ok(ask),
             None => Err(WordsFault::Usage),
         },
         Err(_) => Err(WordsFault::NoMemory),
@@ -143,8 +143,8 @@ fn read_replay(alloc: Global, given: &[String]) -> Result<Call, WordsFault>
 {
     let (lenient, asked) = split_lenient(given);
     match read_asked(alloc, asked) {
-        Ok(query) => Ok(Call {
-            command: Command::Replay(query),
+        Ok(ask) => Ok(Call {
+            command: Command::Replay(ask),
             lenient,
         }),
         Err(fault) => Err(fault),
@@ -225,10 +225,10 @@ fn read_archive(given: &[String]) -> Result<Call, WordsFault>
     }
 }
 
-// The query after the file, where the words are a file and those of a query.
-fn read_kept(alloc: Global, words: &[String]) -> Result<Query, WordsFault>
-    ensures ok { IfOk result (λ query. (file : List ℕ) × AsksOf file (query_value query) (map string_bytes words.now)) }
-    ensures usage { result ≡ Err WordsFault.Usage → (file : List ℕ) (query : QueryValue) → AsksOf file query (map string_bytes words.now) → ⊥ }
+// What is asked after the file, where the words are a file and those of a query.
+fn read_kept(alloc: Global, words: &[String]) -> Result<Ask, WordsFault>
+    ensures ok { IfOk result (λ ask. (file : List ℕ) × AsksOf file (ask_value ask) (map string_bytes words.now)) }
+    ensures usage { result ≡ Err WordsFault.Usage → (file : List ℕ) (ask : AskValue) → AsksOf file ask (map string_bytes words.now) → ⊥ }
 {
     match words {
         [_, asked @ ..] => read_asked(alloc, asked),
@@ -242,8 +242,8 @@ fn read_recall(alloc: Global, given: &[String]) -> Result<Call, WordsFault>
 {
     let (lenient, asked) = split_lenient(given);
     match read_kept(alloc, asked) {
-        Ok(query) => Ok(Call {
-            command: Command::Recall(query),
+        Ok(ask) => Ok(Call {
+            command: Command::Recall(ask),
             lenient,
         }),
         Err(fault) => Err(fault),

@@ -7,7 +7,7 @@ use Rattle.station_words.proofs.words.read_replay.Goals as goal
 
 pub returns-in-Ok : goal.returns-in-Ok
 returns-in-Ok c =
-    reads_call (codes "replay") (map string_bytes c.args.given.now) (record { command = Replay c.in-Ok.query; lenient = c.split_lenient-lenient.result.0 })
+    reads_call (codes "replay") (map string_bytes c.args.given.now) (record { command = Replay c.in-Ok.ask; lenient = c.split_lenient-lenient.result.0 })
     (refl, (_, c.split_lenient-lenient.ensures, c.in-Ok.ensures.ok))
 
 pub returns-in-Err : goal.returns-in-Err
