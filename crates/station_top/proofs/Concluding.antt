@@ -156,7 +156,7 @@ answers_called Serves call words old new number calls told0 told1 status is c = 
     takes command same one counted k = rw counted (replied_to k.meant k.text (called call k.meant k.text is (subst TakesOneInput (sym same) one) (subst (λ (m : Command). Runs (meaning_of call.lenient) (IsReplyTo m) old new number k.meant k.text) (sym same) k.runs)) k.written)
 
     go : (command : Command) → call.command ≡ command → CallConcludes (Serves (meaning_of call.lenient)) command (file_in call.lenient words) (meaning_of call.lenient) old new number calls told0 told1 status → Answers Serves words old new number calls told0 told1 status
-    go (Replay query) same (counted, k) = takes (Replay query) same tt counted k
+    go (Replay ask) same (counted, k) = takes (Replay ask) same tt counted k
     go Check same (counted, k) = takes Check same tt counted k
     go Relay same (counted, k) = relayed_to call.lenient (subst (λ (m : Command). IsCall (record { command = m; lenient = call.lenient }) words) same is) counted k
     go (Rov prefix) same k =
@@ -165,9 +165,9 @@ answers_called Serves call words old new number calls told0 told1 status is c = 
     go Archive same k =
         let named = archive_call call.lenient words (subst (λ (m : Command). IsCall (record { command = m; lenient = call.lenient }) words) same is) in
         archived_to named.0 call.lenient named.1 (subst (λ (path : List ℕ). ArchiveConcludes (meaning_of call.lenient) path old new number calls told0 told1 status) named.2 k)
-    go (Recall query) same (counted, k) =
-        let named = recall_call query call.lenient words (subst (λ (m : Command). IsCall (record { command = m; lenient = call.lenient }) words) same is) in
-        recalled_from named.0 query call.lenient named.1 counted (subst (λ (path : List ℕ). RecallConcludes (meaning_of call.lenient) (IsReplyTo (Recall query)) path old new number told0 told1 status) named.2 k)
+    go (Recall ask) same (counted, k) =
+        let named = recall_call ask call.lenient words (subst (λ (m : Command). IsCall (record { command = m; lenient = call.lenient }) words) same is) in
+        recalled_from named.0 ask call.lenient named.1 counted (subst (λ (path : List ℕ). RecallConcludes (meaning_of call.lenient) (IsReplyTo (Recall ask)) path old new number told0 told1 status) named.2 k)
     go (Serve serve) same (outcome, comes, ends) = served serve call.lenient outcome (subst (λ (m : Command). IsCall (record { command = m; lenient = call.lenient }) words) same is) comes ends
     go (Drill drill) same (still, uncalled, k) =
         let of_drill : IsCall (record { command = Drill drill; lenient = call.lenient }) words = subst (λ (m : Command). IsCall (record { command = m; lenient = call.lenient }) words) same is in

@@ -29,7 +29,7 @@ as_station Serves words old new number calls told0 told1 status (drilled drill i
 as_station Serves words old new number calls told0 told1 status (relayed_to lenient is counted k) = relayed_to lenient is counted k
 as_station Serves words old new number calls told0 told1 status (judged_by file prefix lenient is k) = judged_by file prefix lenient is k
 as_station Serves words old new number calls told0 told1 status (archived_to file lenient is k) = archived_to file lenient is k
-as_station Serves words old new number calls told0 told1 status (recalled_from file query lenient is counted k) = recalled_from file query lenient is counted k
+as_station Serves words old new number calls told0 told1 status (recalled_from file ask lenient is counted k) = recalled_from file ask lenient is counted k
 as_station Serves words old new number calls told0 told1 status (explained call text is explains still uncalled written) = explained call text is explains still uncalled written
 
 -- a yard that is as it was served nobody

@@ -20,3 +20,4 @@ pub mod InputKept
 mod Refuted
 mod OneCall
 mod Complete
+pub mod Kept

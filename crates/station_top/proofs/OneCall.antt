@@ -1,25 +1,26 @@
 -- Words are one call at most: its command with what it is asked with, and its reading.
-use Rattle.std.proofs.Common.{◌≡◌, ◌≢◌, ℕ, Bool, true, false, cond, List, [], ◌∷◌, ◌++◌, Option, None, Some, codes, inl, inr, refl, sym, ap, ◌∙◌, subst, arith, get_or, append-nil, append_assoc}
+use Rattle.std.proofs.Common.{◌≡◌, ℕ, Bool, true, false, cond, List, [], ◌∷◌, Option, None, Some, codes, inl, inr, refl, sym, ap, ◌∙◌, subst, arith}
 use Rattle.std.specs.List.{join_with_byte}
 use Rattle.std.specs.Str.{bytes_eq}
+use Rattle.ask_specs.specs.Asking.{AskValue, plain as plain_query, rows, steps}
+use Rattle.ask_specs.specs.Offer.{IsOfferedAsk}
+use Rattle.ask_specs.proofs.OfferLaws.{offers_one}
 use Rattle.bmp_specs.specs.AddressText.{IsAddressText}
-use Rattle.bmp_specs.specs.NumberText.{IsNumberText, IsStepText}
-use Rattle.bmp_specs.specs.PeerText.{IsKeyText, IsViewText}
+use Rattle.bmp_specs.specs.NumberText.{IsNumberText}
 use Rattle.bmp_specs.specs.PrefixText.{IsPrefixText}
-use Rattle.bmp_specs.specs.Query.{QueryValue, routers, cut, peers, marks, table, count, exact, longest, within, origin, stats, changes, quit, ArePeerSelectors, AreQueryWords, AreSelectors, IsFamilyText, IsPeersQuery, IsQuery, IsSelection, IsSelector, IsSought, IsStatsQuery, IsChangesQuery, space}
-use Rattle.bmp_specs.specs.Selection.{SelectValue}
-use Rattle.bmp_specs.specs.Values.{AddressValue, KeyValue, PrefixValue}
-use Rattle.bmp_frames.proofs.OneText.{key_one}
+use Rattle.bmp_specs.specs.Query.{QueryValue, routers, cut, peers, marks, table, count, exact, longest, within, origin, stats, changes, quit, space}
+use Rattle.bmp_specs.specs.Selection.{select_all}
+use Rattle.bmp_specs.specs.Values.{AddressValue, PrefixValue}
 use Rattle.ip_prefix.proofs.OneValue.{address_one, prefix_one}
+use Rattle.query_lang.specs.Asks.{ask_value, row_query_value}
 use Rattle.query_lang.specs.Queries.{query_value}
-use Rattle.query_lang.specs.Reading.{Takes, Unnamed, words_of}
-use Rattle.query_lang.specs.Verbs.{verb_of}
+use Rattle.query_lang.specs.declared.ask.Ask.{Ask}
+use Rattle.query_lang.specs.declared.ask.Ask.TheVariants.{Query as Asked, Steps, Changes as AllChanges}
+use Rattle.query_lang.specs.declared.ask.RowQuery.{RowQuery}
+use Rattle.query_lang.specs.declared.ask.RowQuery.TheVariants.{Table as ByTable, Exact as ByExact, Longest as ByLongest, Within as ByWithin, Origin as ByOrigin}
 use Rattle.query_lang.specs.declared.query.Query.{Query}
 use Rattle.query_lang.specs.declared.query.Query.TheVariants.{Routers, Cut, Peers, Marks, Table, Count, Exact, Longest, Within, Origin, Stats, Changes, Quit}
-use Rattle.query_lang.proofs.LineWords.{query_asks}
-use Rattle.query_lang.proofs.OneNumber.{number_one, step_one}
-use Rattle.query_lang.proofs.SelectorLaws.{four_taken, other_front, two_taken, unnamed_none}
-use Rattle.query_lang.proofs.VerbLaws.{begins, same_verb}
+use Rattle.query_lang.proofs.OneNumber.{number_one}
 use Rattle.station_doors.specs.declared.listening.Log.{Log}
 use Rattle.station_doors.specs.declared.listening.Log.TheVariants.{Routers as OfRouters}
 use Rattle.station_words.specs.DrillWords.{IsDrill}
@@ -34,117 +35,8 @@ use Rattle.station_words.proofs.AllowedText.{one_allowed}
 use Rattle.station_words.proofs.Commands.{same_plain}
 use Rattle.station_words.proofs.Settings.{one_log, one_ports, one_rounds, one_time, same_settings}
 
--- ---- selectors
--- a selector, with nothing that names it after it
-taken : {A : Type 0} (word : List ℕ) (IsText : List ℕ → A → Type 0) (value : Option A) (front others words : List (List ℕ)) → IsSelector word IsText value front → Unnamed word others → words ≡ front ++ others → Takes word IsText words value others
-taken word IsText None front others words is none spelled = record { front = front; is_selector = is; spelled = spelled; unnamed = none }
-taken word IsText (Some value) front others words is none spelled = record { front = front; is_selector = is; spelled = spelled; unnamed = tt }
-
--- two words that differ in their first byte
-differ : (a b : List ℕ) → get_or a 0 0 ≢ get_or b 0 0 → a ≢ b
-differ a b other same = other (ap (λ (l : List ℕ). get_or l 0 0) same)
-
--- a selector alone doesn't name another word
-alone : {A : Type 0} (word other : List ℕ) (IsText : List ℕ → A → Type 0) (value : Option A) (front : List (List ℕ)) → other ≢ word → IsSelector other IsText value front → Unnamed word front
-alone word other IsText value front differs is text others e = other_front word other IsText value front [] differs is (unnamed_none word) text others (append-nil front ∙ e)
-
-peers_taken : (r s : Option ℕ) (p q : Option KeyValue) (front words : List (List ℕ)) → ArePeerSelectors r p front → ArePeerSelectors s q words → words ≡ front → (s ≡ r) × (q ≡ p)
-peers_taken r s p q front words are also same =
-    let behind = alone (codes "router") (codes "peer") IsKeyText p are.peer_words (differ (codes "peer") (codes "router") (λ e. omega (arith, e))) are.is_peer in
-    let one = taken (codes "router") IsNumberText r are.router_words are.peer_words front are.is_router behind are.spelled in
-    let two = taken (codes "peer") IsKeyText p are.peer_words [] are.peer_words are.is_peer (unnamed_none (codes "peer")) (sym (append-nil are.peer_words)) in
-    let both = two_taken front are.peer_words [] r p one two s q words [] also (unnamed_none (codes "router")) (unnamed_none (codes "peer")) (sym same ∙ sym (append-nil words)) in
-    (both.0, both.1)
-
-selectors_one : (words : List (List ℕ)) (s t : SelectValue) → AreSelectors s words → AreSelectors t words → t ≡ s
-selectors_one words s t are also =
-    let back = are.view_words ++ are.family_words in
-    let no_view = alone (codes "view") (codes "family") IsFamilyText s.family are.family_words (differ (codes "family") (codes "view") (λ e. omega (arith, e))) are.is_family in
-    let behind : (word : List ℕ) → codes "view" ≢ word → codes "family" ≢ word → Unnamed word back =
-    λ word a b. other_front word (codes "view") IsViewText s.view are.view_words are.family_words a are.is_view (alone word (codes "family") IsFamilyText s.family are.family_words b are.is_family) in
-    let no_peer = behind (codes "peer") (differ (codes "view") (codes "peer") (λ e. omega (arith, e))) (differ (codes "family") (codes "peer") (λ e. omega (arith, e))) in
-    let no_router = other_front (codes "router") (codes "peer") IsKeyText s.peer are.are_peer.peer_words back (differ (codes "peer") (codes "router") (λ e. omega (arith, e))) are.are_peer.is_peer
-    (behind (codes "router") (differ (codes "view") (codes "router") (λ e. omega (arith, e))) (differ (codes "family") (codes "router") (λ e. omega (arith, e)))) in
-    let whole : words ≡ are.are_peer.router_words ++ (are.are_peer.peer_words ++ back) = are.spelled ∙ ap (λ (l : List (List ℕ)). l ++ back) are.are_peer.spelled ∙ append_assoc are.are_peer.router_words are.are_peer.peer_words back in
-    let one = taken (codes "router") IsNumberText s.router are.are_peer.router_words (are.are_peer.peer_words ++ back) words are.are_peer.is_router no_router whole in
-    let two = taken (codes "peer") IsKeyText s.peer are.are_peer.peer_words back (are.are_peer.peer_words ++ back) are.are_peer.is_peer no_peer refl in
-    let three = taken (codes "view") IsViewText s.view are.view_words are.family_words back are.is_view no_view refl in
-    let four = taken (codes "family") IsFamilyText s.family are.family_words [] are.family_words are.is_family (unnamed_none (codes "family")) (sym (append-nil are.family_words)) in
-    (four_taken words (are.are_peer.peer_words ++ back) back are.family_words [] s one two three four t also).0
-
--- ---- queries
-selection_one : (word : List ℕ) (words : List (List ℕ)) (s t : SelectValue) → IsSelection word s words → IsSelection word t words → s ≡ t
-selection_one word words s t p q =
-    let both : word ∷ p.selectors ≡ word ∷ q.selectors = sym p.spelled ∙ q.spelled in
-    let same : p.selectors ≡ q.selectors = cc in
-    sym (selectors_one q.selectors s t (subst (AreSelectors s) same p.are_selectors) q.are_selectors)
-
-peers_one : (words : List (List ℕ)) (r s : Option ℕ) (p q : Option KeyValue) → IsPeersQuery r p words → IsPeersQuery s q words → (s ≡ r) × (q ≡ p)
-peers_one words r s p q a b =
-    let both : codes "peers" ∷ a.selectors ≡ codes "peers" ∷ b.selectors = sym a.spelled ∙ b.spelled in
-    let same : b.selectors ≡ a.selectors = cc in
-    peers_taken r s p q a.selectors b.selectors a.are_selectors b.are_selectors same
-
--- what is sought, and the selectors
-record SoughtSame {A : Type 0} (a b : A) (s t : SelectValue) : Type 0 where
-  value : a ≡ b
-  select : s ≡ t
-
-sought_one : {A : Type 0} (word : List ℕ) (IsText : List ℕ → A → Type 0) → ((text : List ℕ) (a b : A) → IsText text a → IsText text b → a ≡ b) → (words : List (List ℕ)) (a b : A) (s t : SelectValue)
-    → IsSought word IsText a s words → IsSought word IsText b t words → SoughtSame a b s t
-sought_one word IsText one words a b s t p q =
-    let both : word ∷ p.text ∷ p.selectors ≡ word ∷ q.text ∷ q.selectors = sym p.spelled ∙ q.spelled in
-    let text : p.text ≡ q.text = cc in
-    let same : p.selectors ≡ q.selectors = cc in
-    record {
-      value = one q.text a b (subst (λ (l : List ℕ). IsText l a) text p.is_text) q.is_text;
-      select = sym (selectors_one q.selectors s t (subst (AreSelectors s) same p.are_selectors) q.are_selectors);
-    }
-
-stats_one : (words : List (List ℕ)) (a b : KeyValue) → IsStatsQuery a words → IsStatsQuery b words → a ≡ b
-stats_one words a b p q =
-    let both : codes "stats" ∷ p.text ∷ [] ≡ codes "stats" ∷ q.text ∷ [] = sym p.spelled ∙ q.spelled in
-    let text : p.text ≡ q.text = cc in
-    key_one q.text a b (subst (λ (l : List ℕ). IsKeyText l a) text p.is_text) q.is_text
-
-changes_one : (words : List (List ℕ)) (lane from lane' from' : ℕ) (p q : PrefixValue) → IsChangesQuery lane from p words → IsChangesQuery lane' from' q words → changes lane from p ≡ changes lane' from' q
-changes_one words lane from lane' from' p q a b =
-    let both : codes "changes" ∷ a.lane_text ∷ a.from_text ∷ a.prefix_text ∷ [] ≡ codes "changes" ∷ b.lane_text ∷ b.from_text ∷ b.prefix_text ∷ [] = sym a.spelled ∙ b.spelled in
-    let x : a.lane_text ≡ b.lane_text = cc in
-    let y : a.from_text ≡ b.from_text = cc in
-    let z : a.prefix_text ≡ b.prefix_text = cc in
-    let same_lane = number_one b.lane_text lane lane' (subst (λ (l : List ℕ). IsNumberText l lane) x a.is_lane) b.is_lane in
-    let same_from = step_one b.from_text from from' (subst (λ (l : List ℕ). IsStepText l from) y a.is_from) b.is_from in
-    let same_prefix = prefix_one b.prefix_text p q (subst (λ (l : List ℕ). IsPrefixText l p) z a.is_prefix) b.is_prefix in
-    λ i. changes (same_lane i) (same_from i) (same_prefix i)
-
-query_words_one : (q r : QueryValue) (words : List (List ℕ)) → AreQueryWords q words → AreQueryWords r words → verb_of q ≡ verb_of r → q ≡ r
-query_words_one routers routers words p k e = refl
-query_words_one cut cut words p k e = refl
-query_words_one (peers a b) (peers c d) words p k e = let same = peers_one words a c b d p k in λ i. peers (sym same.0 i) (sym same.1 i)
-query_words_one (marks s) (marks t) words p k e = ap (λ (x : SelectValue). marks x) (selection_one (codes "marks") words s t p k)
-query_words_one (table s) (table t) words p k e = ap (λ (x : SelectValue). table x) (selection_one (codes "table") words s t p k)
-query_words_one (count s) (count t) words p k e = ap (λ (x : SelectValue). count x) (selection_one (codes "count") words s t p k)
-query_words_one (exact a s) (exact b t) words p k e = let same = sought_one (codes "prefix") IsPrefixText prefix_one words a b s t p k in λ i. exact (same.value i) (same.select i)
-query_words_one (longest a s) (longest b t) words p k e = let same = sought_one (codes "match") IsAddressText address_one words a b s t p k in λ i. longest (same.value i) (same.select i)
-query_words_one (within a s) (within b t) words p k e = let same = sought_one (codes "within") IsPrefixText prefix_one words a b s t p k in λ i. within (same.value i) (same.select i)
-query_words_one (origin a s) (origin b t) words p k e = let same = sought_one (codes "origin") IsNumberText number_one words a b s t p k in λ i. origin (same.value i) (same.select i)
-query_words_one (stats a) (stats b) words p k e = ap (λ (x : KeyValue). stats x) (stats_one words a b p k)
-query_words_one (changes a b p') (changes c d q') words p k e = changes_one words a b c d p' q' p k
-query_words_one quit quit words p k e = refl
-query_words_one q r words p k e = absurd cc
-
--- a line is one query at most
-query_one : (line : List ℕ) (q r : QueryValue) → IsQuery line q → IsQuery line r → q ≡ r
-query_one line q r p k =
-    let words = words_of line in
-    let a = query_asks line q p in
-    let b = query_asks line r k in
-    let first = begins q words a in
-    let verb : verb_of q ≡ verb_of r = same_verb (verb_of q) r first.0 (subst (AreQueryWords r) first.1 b) in
-    query_words_one q r words a b verb
-
--- and a value is one query
+-- ---- what is asked
+-- A value is one ask at most.
 query_at : QueryValue → Query
 query_at routers = Routers
 query_at cut = Cut
@@ -176,8 +68,36 @@ query_back (Stats key) = refl
 query_back (Changes lane from prefix) = refl
 query_back Quit = refl
 
-same_query : (q r : Query) → query_value q ≡ query_value r → q ≡ r
-same_query q r same = sym (query_back q) ∙ ap query_at same ∙ query_back r
+-- of a query that tells no rows it is any
+rows_at : QueryValue → RowQuery
+rows_at (table select) = ByTable select
+rows_at (exact prefix select) = ByExact prefix select
+rows_at (longest address select) = ByLongest address select
+rows_at (within prefix select) = ByWithin prefix select
+rows_at (origin number select) = ByOrigin number select
+rows_at query = ByTable select_all
+
+rows_back : (q : RowQuery) → rows_at (row_query_value q) ≡ q
+unfolding rows_at
+rows_back (ByTable select) = refl
+rows_back (ByExact prefix select) = refl
+rows_back (ByLongest address select) = refl
+rows_back (ByWithin prefix select) = refl
+rows_back (ByOrigin number select) = refl
+
+ask_at : AskValue → Ask
+ask_at (plain_query query) = Asked (query_at query)
+ask_at (rows with_steps full query traits) = Steps (rows_at query)
+ask_at (steps full lane from prefix) = AllChanges lane from
+
+ask_back : (a : Ask) → ask_at (ask_value a) ≡ a
+unfolding ask_at
+ask_back (Asked query) = ap (λ (q : Query). Asked q) (query_back query)
+ask_back (Steps query) = ap (λ (q : RowQuery). Steps q) (rows_back query)
+ask_back (AllChanges lane from) = refl
+
+same_ask : (a b : Ask) → ask_value a ≡ ask_value b → a ≡ b
+same_ask a b same = sym (ask_back a) ∙ ap ask_at same ∙ ask_back b
 
 -- ---- the settings of `serve`
 gives_one : {A : Type 0} (name : List ℕ) (Is : A → List ℕ → Type 0) → ((value : List ℕ) (a b : A) → Is a value → Is b value → a ≡ b) → (ss : List Setting) (a b : A) → Gives name (Is a) ss → Gives name (Is b) ss → a ≡ b
@@ -248,11 +168,11 @@ drill_one given a b p q =
     let messages = number_one q.messages a.messages b.messages (subst (λ (l : List ℕ). IsNumberText l a.messages) z p.is_messages) q.is_messages in
     λ i. record { seed = seed i; lanes = lanes i; messages = messages i }
 
-replay_one : (given : List (List ℕ)) (a b : QueryValue) (l m : Bool) → IsReplay a l given → IsReplay b m given → (a ≡ b) × (l ≡ m)
+replay_one : (given : List (List ℕ)) (a b : AskValue) (l m : Bool) → IsReplay a l given → IsReplay b m given → (a ≡ b) × (l ≡ m)
 replay_one given a b l m (asked, plain, asks) (more, also, asks') =
     let same = same_plain l m given asked more plain also in
-    let here = subst (λ (words : List (List ℕ)). IsQuery (join_with_byte space words) a) same.0 asks.is_query in
-    (query_one (join_with_byte space more) a b here asks'.is_query, same.1)
+    let here = subst (λ (words : List (List ℕ)). IsOfferedAsk (join_with_byte space words) a) same.0 asks.is_offered in
+    (offers_one (join_with_byte space more) a b here asks'.is_offered, same.1)
 
 rov_one : (given : List (List ℕ)) (a b : PrefixValue) (l m : Bool) → IsRov a l given → IsRov b m given → (a ≡ b) × (l ≡ m)
 rov_one given a b l m (file, (asked, plain, names)) (file', (more, also, names')) =
@@ -264,29 +184,29 @@ rov_one given a b l m (file, (asked, plain, names)) (file', (more, also, names')
 archive_one : (given : List (List ℕ)) (l m : Bool) → IsArchive l given → IsArchive m given → l ≡ m
 archive_one given l m (file, plain) (file', also) = (same_plain l m given (file ∷ []) (file' ∷ []) plain also).1
 
-recall_one : (given : List (List ℕ)) (a b : QueryValue) (l m : Bool) → IsRecall a l given → IsRecall b m given → (a ≡ b) × (l ≡ m)
+recall_one : (given : List (List ℕ)) (a b : AskValue) (l m : Bool) → IsRecall a l given → IsRecall b m given → (a ≡ b) × (l ≡ m)
 recall_one given a b l m (file, (asked, plain, asks)) (file', (more, also, asks')) =
     let same = same_plain l m given asked more plain also in
     let both : file ∷ asks.asked ≡ file' ∷ asks'.asked = sym asks.spelled ∙ same.0 ∙ asks'.spelled in
     let words : asks.asked ≡ asks'.asked = cc both in
-    let here = subst (λ (ws : List (List ℕ)). IsQuery (join_with_byte space ws) a) words asks.is_asking.is_query in
-    (query_one (join_with_byte space asks'.asked) a b here asks'.is_asking.is_query, same.1)
+    let here = subst (λ (ws : List (List ℕ)). IsOfferedAsk (join_with_byte space ws) a) words asks.is_asking.is_offered in
+    (offers_one (join_with_byte space asks'.asked) a b here asks'.is_asking.is_offered, same.1)
 
 -- ---- the first word
-abbrev number_of : Command → ℕ
-number_of (Replay query) = 0
+abbrev pub number_of : Command → ℕ
+number_of (Replay ask) = 0
 number_of Check = 1
 number_of (Serve serve) = 2
 number_of (Drill drill) = 3
 number_of Relay = 4
 number_of (Rov prefix) = 5
 number_of Archive = 6
-number_of (Recall query) = 7
+number_of (Recall ask) = 7
 number_of Help = 8
 number_of Version = 9
 
 -- the number of the command that a first word names
-number_in : List ℕ → ℕ
+pub number_in : List ℕ → ℕ
 number_in first =
     cond (bytes_eq first (codes "replay")) 0
     (cond (bytes_eq first (codes "check")) 1
@@ -299,31 +219,39 @@ number_in first =
     (cond (bytes_eq first (codes "--help")) 8
     (cond (bytes_eq first (codes "-h")) 8 9)))))))))
 
-named : (c : Command) (lenient : Bool) (first : List ℕ) (given : List (List ℕ)) → IsCommand c lenient first given → number_in first ≡ number_of c
+pub named : (c : Command) (lenient : Bool) (first : List ℕ) (given : List (List ℕ)) → IsCommand c lenient first given → number_in first ≡ number_of c
 unfolding number_in
-named (Replay query) lenient first given is = ap number_in is.0
+named (Replay ask) lenient first given is = ap number_in is.0
 named Check lenient first given is = ap number_in is.0
 named (Serve serve) lenient first given is = ap number_in is.0
 named (Drill drill) lenient first given is = ap number_in is.0
 named Relay lenient first given is = ap number_in is.0
 named (Rov prefix) lenient first given is = ap number_in is.0
 named Archive lenient first given is = ap number_in is.0
-named (Recall query) lenient first given is = ap number_in is.0
+named (Recall ask) lenient first given is = ap number_in is.0
 named Help lenient first given (inl first_is, none, strict) = ap number_in first_is
 named Help lenient first given (inr first_is, none, strict) = ap number_in first_is
 named Version lenient first given (inl first_is, none, strict) = ap number_in first_is
 named Version lenient first given (inr first_is, none, strict) = ap number_in first_is
 
+pub replay_is : number_in (codes "replay") ≡ 0
+unfolding number_in
+replay_is = refl
+
+pub recall_is : number_in (codes "recall") ≡ 7
+unfolding number_in
+recall_is = refl
+
 -- ---- the call
 command_one : (a b : Command) (l m : Bool) (first : List ℕ) (given : List (List ℕ)) → number_of a ≡ number_of b → IsCommand a l first given → IsCommand b m first given → (a ≡ b) × (l ≡ m)
-command_one (Replay q) (Replay r) l m first given e p k = let same = replay_one given (query_value q) (query_value r) l m p.1 k.1 in (ap (λ (x : Query). Replay x) (same_query q r same.0), same.1)
+command_one (Replay q) (Replay r) l m first given e p k = let same = replay_one given (ask_value q) (ask_value r) l m p.1 k.1 in (ap (λ (x : Ask). Replay x) (same_ask q r same.0), same.1)
 command_one Check Check l m first given e p k = (refl, (same_plain l m given [] [] p.1 k.1).1)
 command_one (Serve s) (Serve t) l m first given e p k = let same = serve_one given s t l m p.1 k.1 in (ap (λ (x : ServeWords). Serve x) same.0, same.1)
 command_one (Drill s) (Drill t) l m first given e p k = (ap (λ (x : DrillWords). Drill x) (drill_one given s t p.1 k.1), p.2 ∙ sym k.2)
 command_one Relay Relay l m first given e p k = (refl, (same_plain l m given [] [] p.1 k.1).1)
 command_one (Rov s) (Rov t) l m first given e p k = let same = rov_one given s t l m p.1 k.1 in (ap (λ (x : PrefixValue). Rov x) same.0, same.1)
 command_one Archive Archive l m first given e p k = (refl, archive_one given l m p.1 k.1)
-command_one (Recall q) (Recall r) l m first given e p k = let same = recall_one given (query_value q) (query_value r) l m p.1 k.1 in (ap (λ (x : Query). Recall x) (same_query q r same.0), same.1)
+command_one (Recall q) (Recall r) l m first given e p k = let same = recall_one given (ask_value q) (ask_value r) l m p.1 k.1 in (ap (λ (x : Ask). Recall x) (same_ask q r same.0), same.1)
 command_one Help Help l m first given e p k = (refl, p.2 ∙ sym k.2)
 command_one Version Version l m first given e p k = (refl, p.2 ∙ sym k.2)
 command_one a b l m first given e p k = absurd (omega (arith, e))

@@ -1,14 +1,14 @@
 -- The tables of a replay, brought up to date, and the cut that is made of them.
 use Rattle.std.proofs.Common.{◌≡◌, ℕ, zero, suc, List, [], ◌∷◌, ◌++◌, Option, Result, length, refl, sym, ap, ◌∙◌, subst, append-nil, arith}
 use Rattle.std.proofs.lemmas.List.{length-map, map-append}
-use Rattle.bmp_specs.specs.QueryReply.{IsReply}
+use Rattle.ask_specs.specs.AskReply.{IsAskReply}
 use Rattle.bmp_specs.specs.Values.{EntryValue}
 use Rattle.cut_publisher.specs.declared.history.Event.{Event}
 use Rattle.cut_publisher.specs.Cuts.{AreLanes, IsCutOf}
 use Rattle.cut_publisher.specs.History.{batch, part, IsWithin}
-use Rattle.query_lang.specs.Queries.{query_value}
-use Rattle.query_lang.specs.declared.query.Query.{Query}
-use Rattle.query_eval.specs.Replies.{PutsReply, IsReplyOn, StandsForHistory, lanes_of}
+use Rattle.query_lang.specs.Asks.{ask_value}
+use Rattle.query_lang.specs.declared.ask.Ask.{Ask}
+use Rattle.query_eval.specs.Replies.{PutsReply, IsAskReplyOn, StandsForHistory, lanes_of}
 use Rattle.wire_io.specs.declared.sink.Failed.{Failed}
 use Rattle.wire_io.specs.Aside.{Aside}
 use Rattle.rib_model.specs.declared.entry.Entry.{Entry}
@@ -55,12 +55,12 @@ cut_is replay tables revision entries g stands count lane tables_is count_is cut
     lanes taken stands number (suc k) d below = absurd (omega (arith, below))
 
 -- the reply on the cut is that on the entries
-pub replied_on : {O : Type 0} (faults : O → ℕ) (told : O → Option (List ℕ)) (aside : O → Aside) (query : Query) (cut : List (TablesValue × ℕ)) (entries : List EntryValue) (is : IsCutOfEntries cut entries) {a b : O} {r : Result (Unit {0}) Failed}
-    → ((history : List (Event Entry)) → StandsForHistory cut history → PutsReply faults told aside (IsReplyOn (query_value query) (length cut) history) a r b) → PutsReply faults told aside (IsReplyOf query entries) a r b
-replied_on faults told aside query cut entries is answers =
+pub replied_on : {O : Type 0} (faults : O → ℕ) (told : O → Option (List ℕ)) (aside : O → Aside) (ask : Ask) (cut : List (TablesValue × ℕ)) (entries : List EntryValue) (is : IsCutOfEntries cut entries) {a b : O} {r : Result (Unit {0}) Failed}
+    → ((history : List (Event Entry)) → StandsForHistory cut history → PutsReply faults told aside (IsAskReplyOn (ask_value ask) (length cut) history) a r b) → PutsReply faults told aside (IsReplyOf ask entries) a r b
+replied_on faults told aside ask cut entries is answers =
     let put = answers (batch 0 is.taken) is.stands in
     let lanes : lanes_of (length cut) (batch 0 is.taken) ≡ entries ∷ [] = ap (λ (n : ℕ). lanes_of n (batch 0 is.taken)) is.one ∙ ap (λ (es : List Entry). entry_values es ∷ []) (part_all is.taken) ∙ ap (λ (es : List EntryValue). es ∷ []) (sym is.values) in
-    record { text = put.text; is_reply = subst (λ (l : List (List EntryValue)). IsReply (query_value query) l put.text) lanes put.is_reply; written = put.written }
+    record { text = put.text; is_reply = subst (λ (l : List (List EntryValue)). IsAskReply (ask_value ask) l put.text) lanes put.is_reply; written = put.written }
 
 -- the tables in the making take what was gathered
 pub settled_more : (old new : Replay) (given : List Entry) (entries : List EntryValue) → Gathers old entries → given ≡ old.gathered → ((so_far : List EntryValue) → Builds old.builder so_far → Builds new.builder (so_far ++ entry_values given)) → new.gathered ≡ []

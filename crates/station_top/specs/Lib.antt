@@ -11,3 +11,4 @@ pub mod Drill
 pub mod Rov
 pub mod RecallRuns
 pub mod ArchiveRuns
+pub mod Kept

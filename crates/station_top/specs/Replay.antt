@@ -1,13 +1,14 @@
 -- What a replay stands for: the entries that its tables in the making have, and those that are gathered and that they
 -- don't have yet.
 use Rattle.std.specs.Prelude.{◌≡◌, ◌≢◌, ℕ, List, [], ◌∷◌, ◌++◌, length}
+use Rattle.ask_specs.specs.Asking.{plain}
+use Rattle.ask_specs.specs.AskReply.{IsAskReply}
 use Rattle.bmp_specs.specs.Query.{quit}
-use Rattle.bmp_specs.specs.QueryReply.{IsReply}
 use Rattle.bmp_specs.specs.Values.{EntryValue}
 use Rattle.cut_publisher.specs.History.{batch}
 use Rattle.query_eval.specs.Replies.{StandsForHistory}
-use Rattle.query_lang.specs.declared.query.Query.{Query}
-use Rattle.query_lang.specs.Queries.{query_value}
+use Rattle.query_lang.specs.declared.ask.Ask.{Ask}
+use Rattle.query_lang.specs.Asks.{ask_value}
 use Rattle.rib_model.specs.declared.entry.Entry.{Entry}
 use Rattle.rib_model.specs.Entries.{entry_values}
 use Rattle.router_tables.specs.Building.{Builds}
@@ -36,10 +37,10 @@ pub record IsCutOfEntries (cut : List (TablesValue × ℕ)) (entries : List Entr
   pub stands : StandsForHistory cut (batch 0 taken)
   pub one : length cut ≡ 1
 
--- the bytes are the reply of the query on the one lane with these entries
-abbrev pub IsReplyOf : Query → List EntryValue → List ℕ → Type 0
-IsReplyOf query entries bytes = IsReply (query_value query) (entries ∷ []) bytes
+-- the bytes are the reply to what is asked, on the one lane with these entries
+abbrev pub IsReplyOf : Ask → List EntryValue → List ℕ → Type 0
+IsReplyOf ask entries bytes = IsAskReply (ask_value ask) (entries ∷ []) bytes
 
--- the query has a reply
-abbrev pub IsAsked : Query → Type 0
-IsAsked query = query_value query ≢ quit
+-- it has a reply
+abbrev pub IsAsked : Ask → Type 0
+IsAsked ask = ask_value ask ≢ plain quit

@@ -1,6 +1,8 @@
 -- The top call: what it writes, what its status says, and what it asks of the yard.
 use Rattle.std.specs.Prelude.{◌≡◌, ◌≢◌, ℕ, Bool, false, ◌⊎◌, List, [], ◌∷◌, ◌++◌, Option, Some, None, Contains, Result, Ok, Err, codes, length}
 use Rattle.std.specs.Io.KnownBytes.{Appends}
+use Rattle.ask_specs.specs.Asking.{plain}
+use Rattle.ask_specs.specs.AskReply.{IsAskReply}
 use Rattle.bmp_specs.specs.declared.causes.Cause.{Cause}
 use Rattle.bmp_specs.specs.Check.{check_lines}
 use Rattle.bmp_specs.specs.Lines.{line, number_line, stop_line, usage_line}
@@ -8,7 +10,6 @@ use Rattle.bmp_specs.specs.LenientBody.{meaning_of}
 use Rattle.bmp_specs.specs.Life.{IsReadNoFurther, Given, HasCome}
 use Rattle.bmp_specs.specs.Meaning.{Meaning}
 use Rattle.bmp_specs.specs.Query.{quit}
-use Rattle.bmp_specs.specs.QueryReply.{IsReply}
 use Rattle.bmp_specs.specs.Session.{session_effects}
 use Rattle.bmp_specs.specs.Values.{EffectValue, EntryValue, PrefixValue, opened}
 use Rattle.relay_out.specs.Messages.{IsRelayStream, stream_items}
@@ -18,8 +19,8 @@ use Rattle.relay_out.specs.Writable.{AreWritable}
 use Rattle.relay_out.specs.Writing.{IsFront}
 use Rattle.wire_io.specs.Aside.{Aside, Plan}
 use Rattle.wire_io.specs.Faults.{Rose}
-use Rattle.query_lang.specs.declared.query.Query.{Query}
-use Rattle.query_lang.specs.Queries.{query_value}
+use Rattle.query_lang.specs.declared.ask.Ask.{Ask}
+use Rattle.query_lang.specs.Asks.{ask_value}
 use Rattle.rov_reply.specs.RovLines.{IsRovReply}
 use Rattle.rov_table.specs.declared.vrp.Vrp.{Vrp}
 use Rattle.rov_table.specs.VrpFile.{AreVrps, IsFirstBad, file_records}
@@ -49,67 +50,67 @@ use Rattle.station_top.specs.declared.take.Taken.{Taken}
 
 -- the bytes are the reply of a command on these entries
 abbrev pub IsReplyTo : Command → List EntryValue → List ℕ → Type 0
-IsReplyTo (Replay query) entries bytes = IsReply (query_value query) (entries ∷ []) bytes
+IsReplyTo (Replay ask) entries bytes = IsAskReply (ask_value ask) (entries ∷ []) bytes
 IsReplyTo Check entries bytes = bytes ≡ check_lines entries
 IsReplyTo (Serve serve) entries bytes = ⊥
 IsReplyTo (Drill drill) entries bytes = ⊥
 IsReplyTo Relay entries bytes = ⊥
 IsReplyTo (Rov prefix) entries bytes = ⊥
 IsReplyTo Archive entries bytes = ⊥
-IsReplyTo (Recall query) entries bytes = IsReply (query_value query) (entries ∷ []) bytes
+IsReplyTo (Recall ask) entries bytes = IsAskReply (ask_value ask) (entries ∷ []) bytes
 IsReplyTo Help entries bytes = ⊥
 IsReplyTo Version entries bytes = ⊥
 
 -- the text is the one that the command asks for
 abbrev pub Explains : Command → List ℕ → Type 0
-Explains (Replay query) text = ⊥
+Explains (Replay ask) text = ⊥
 Explains Check text = ⊥
 Explains (Serve serve) text = ⊥
 Explains (Drill drill) text = ⊥
 Explains Relay text = ⊥
 Explains (Rov prefix) text = ⊥
 Explains Archive text = ⊥
-Explains (Recall query) text = ⊥
+Explains (Recall ask) text = ⊥
 Explains Help text = text ≡ help_text
 Explains Version text = text ≡ version_line
 
 -- the command is asked with something that has a reply, or with numbers that a station takes
 abbrev pub MayAsk : Command → Type 0
-MayAsk (Replay query) = query_value query ≢ quit
+MayAsk (Replay ask) = ask_value ask ≢ plain quit
 MayAsk Check = Unit {0}
 MayAsk (Serve serve) = MayServe serve
 MayAsk (Drill drill) = MayDrill drill
 MayAsk Relay = Unit {0}
 MayAsk (Rov prefix) = Unit {0}
 MayAsk Archive = Unit {0}
-MayAsk (Recall query) = query_value query ≢ quit
+MayAsk (Recall ask) = ask_value ask ≢ plain quit
 MayAsk Help = Unit {0}
 MayAsk Version = Unit {0}
 
 -- the command takes the one input connection and answers with lines that its words alone ask for; `relay`, `rov` and `archive`
 -- take it too, and have relations of their own, as `recall` has, which takes none
 abbrev pub TakesOneInput : Command → Type 0
-TakesOneInput (Replay query) = Unit {0}
+TakesOneInput (Replay ask) = Unit {0}
 TakesOneInput Check = Unit {0}
 TakesOneInput (Serve serve) = ⊥
 TakesOneInput (Drill drill) = ⊥
 TakesOneInput Relay = ⊥
 TakesOneInput (Rov prefix) = ⊥
 TakesOneInput Archive = ⊥
-TakesOneInput (Recall query) = ⊥
+TakesOneInput (Recall ask) = ⊥
 TakesOneInput Help = ⊥
 TakesOneInput Version = ⊥
 
 -- the command serves routers and clients
 abbrev pub IsServing : Command → Type 0
-IsServing (Replay query) = ⊥
+IsServing (Replay ask) = ⊥
 IsServing Check = ⊥
 IsServing (Serve serve) = Unit {0}
 IsServing (Drill drill) = ⊥
 IsServing Relay = ⊥
 IsServing (Rov prefix) = ⊥
 IsServing Archive = ⊥
-IsServing (Recall query) = ⊥
+IsServing (Recall ask) = ⊥
 IsServing Help = ⊥
 IsServing Version = ⊥
 
@@ -242,14 +243,14 @@ pub record DrillConcludes (drill : DrillWords) (told0 told1 : Option (List ℕ))
 -- one more before it, for the file, as `archive` does for the disk; `recall` makes one, for the disk; of `serve` the relation
 -- says all; `drill` asks the yard for nothing.
 abbrev pub CallConcludes : (ServeWords → Outcome → Type 0) → Command → List ℕ → Meaning → Option YardValue → Option YardValue → ℕ → ℕ → Option (List ℕ) → Option (List ℕ) → Status → Type 0
-CallConcludes Serves (Replay query) file meaning old new number calls told0 told1 status = (calls ≡ one_more number) × Concludes meaning (IsReplyTo (Replay query)) old new number told0 told1 status
+CallConcludes Serves (Replay ask) file meaning old new number calls told0 told1 status = (calls ≡ one_more number) × Concludes meaning (IsReplyTo (Replay ask)) old new number told0 told1 status
 CallConcludes Serves Check file meaning old new number calls told0 told1 status = (calls ≡ one_more number) × Concludes meaning (IsReplyTo Check) old new number told0 told1 status
 CallConcludes Serves (Serve serve) file meaning old new number calls told0 told1 status = (outcome : Outcome) × Serves serve outcome × (status ≡ status_served outcome)
 CallConcludes Serves (Drill drill) file meaning old new number calls told0 told1 status = (new ≡ old) × (calls ≡ number) × DrillConcludes drill told0 told1 status
 CallConcludes Serves Relay file meaning old new number calls told0 told1 status = (calls ≡ one_more number) × RelayConcludes meaning old new number told0 told1 status
 CallConcludes Serves (Rov prefix) file meaning old new number calls told0 told1 status = RovConcludes meaning file prefix old new number calls told0 told1 status
 CallConcludes Serves Archive file meaning old new number calls told0 told1 status = ArchiveConcludes meaning file old new number calls told0 told1 status
-CallConcludes Serves (Recall query) file meaning old new number calls told0 told1 status = (calls ≡ one_more number) × RecallConcludes meaning (IsReplyTo (Recall query)) file old new number told0 told1 status
+CallConcludes Serves (Recall ask) file meaning old new number calls told0 told1 status = (calls ≡ one_more number) × RecallConcludes meaning (IsReplyTo (Recall ask)) file old new number told0 told1 status
 CallConcludes Serves Help file meaning old new number calls told0 told1 status = (new ≡ old) × (calls ≡ number) × IsWritten told0 told1 help_text Done status
 CallConcludes Serves Version file meaning old new number calls told0 told1 status = (new ≡ old) × (calls ≡ number) × IsWritten told0 told1 version_line Done status
 
@@ -268,7 +269,7 @@ pub data Answers (Serves : Meaning → ServeWords → Outcome → Type 0) (words
   -- they are a call of `archive`: the disk that is asked for is the one that they name
   archived_to : (file : List ℕ) (lenient : Bool) → IsArchiveCall file lenient words → ArchiveConcludes (meaning_of lenient) file old new number calls told0 told1 status → Answers Serves words old new number calls told0 told1 status
   -- they are a call of `recall`: the disk that is asked for is the one that they name, and no port is
-  recalled_from : (file : List ℕ) (query : Query) (lenient : Bool) → IsRecallCall file (query_value query) lenient words → calls ≡ one_more number → RecallConcludes (meaning_of lenient) (IsReplyTo (Recall query)) file old new number told0 told1 status → Answers Serves words old new number calls told0 told1 status
+  recalled_from : (file : List ℕ) (ask : Ask) (lenient : Bool) → IsRecallCall file (ask_value ask) lenient words → calls ≡ one_more number → RecallConcludes (meaning_of lenient) (IsReplyTo (Recall ask)) file old new number told0 told1 status → Answers Serves words old new number calls told0 told1 status
   -- they ask for the help text or the version, and the yard is asked for nothing
   explained : (call : Call) (text : List ℕ) → IsCall call words → Explains call.command text → new ≡ old → calls ≡ number → IsWritten told0 told1 text Done status → Answers Serves words old new number calls told0 told1 status
 

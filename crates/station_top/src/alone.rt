@@ -26,7 +26,7 @@ use crate::take::{Taken, take_input};
 use crate::{Status, Waiting};
 use bmp_message::{BodyReading, LenientReading, Reading};
 use bmp_specs::Cause;
-use query_lang::Query;
+use query_lang::{Ask, Query, RowQuery};
 use relay_out::{EmitFault, emit};
 use reply_text::put_stop;
 use station_doors::Yard;
@@ -182,34 +182,35 @@ fn status_relayed_by(relay: Result<(), EmitFault>, cause: Cause) -> Status
     }
 }
 
-// Whether a query reads the index by origin AS.
-fn reads_origins(query: &Query) -> bool {
-    match query {
-        Query::Origin(_, _) => true,
+// Whether the index by origin AS is read for what is asked.
+fn reads_origins(ask: &Ask) -> bool {
+    match ask {
+        Ask::Query(Query::Origin(_, _)) => true,
+        Ask::Steps(RowQuery::Origin(_, _)) => true,
         _ => false,
     }
 }
 
-// Takes the input into tables, with an index by origin where the query reads it, and writes the reply and the stop line.
+// Takes the input into tables, with an index by origin where that is read, and writes the reply and the stop line.
 fn run_replay<Y: Yard, O: Sink>(
     alloc: Global,
     lenient: bool,
-    query: &Query,
+    ask: &Ask,
     yard: &mut Y,
     out: &mut O,
 ) -> Status
-    requires { IsAsked query.now }
-    ensures concludes { Concludes (meaning_of lenient) (IsReplyOf query.now) (Y.seen yard.old).told (Y.seen yard.new).told (Y.seen yard.old).calls (O.told out.old) (O.told out.new) result }
+    requires { IsAsked ask.now }
+    ensures concludes { Concludes (meaning_of lenient) (IsReplyOf ask.now) (Y.seen yard.old).told (Y.seen yard.new).told (Y.seen yard.old).calls (O.told out.old) (O.told out.new) result }
     ensures calls { (Y.seen yard.new).calls ≡ one_more (Y.seen yard.old).calls }
     ensures nobody { ServesNobody (Y.seen yard.old) (Y.seen yard.new) }
     ensures out { AnswersFault (O.faults out.old) (O.faults out.new) result Status.WriteFault }
     ensures yard { AnswersFault (Y.faults yard.old) (Y.faults yard.new) result Status.YardFault }
     ensures aside { O.aside out.new ≡ O.aside out.old }
 {
-    if reads_origins(query) {
-        run_by::<ReplayByOrigin, Y, O>(alloc, lenient, query, yard, out)
+    if reads_origins(ask) {
+        run_by::<ReplayByOrigin, Y, O>(alloc, lenient, ask, yard, out)
     } else {
-        run_by::<Replay, Y, O>(alloc, lenient, query, yard, out)
+        run_by::<Replay, Y, O>(alloc, lenient, ask, yard, out)
     }
 }
 
@@ -218,12 +219,12 @@ fn run_recall_of<Y: Yard, O: Sink>(
     alloc: Global,
     lenient: bool,
     path: &str,
-    query: &Query,
+    ask: &Ask,
     yard: &mut Y,
     out: &mut O,
 ) -> Status
-    requires { IsAsked query.now }
-    ensures concludes { RecallConcludes (meaning_of lenient) (IsReplyOf query.now) path.now
+    requires { IsAsked ask.now }
+    ensures concludes { RecallConcludes (meaning_of lenient) (IsReplyOf ask.now) path.now
         (Y.seen yard.old).told (Y.seen yard.new).told (Y.seen yard.old).calls (O.told out.old) (O.told out.new) result }
     ensures calls { (Y.seen yard.new).calls ≡ one_more (Y.seen yard.old).calls }
     ensures nobody { ServesNobody (Y.seen yard.old) (Y.seen yard.new) }
@@ -231,10 +232,10 @@ fn run_recall_of<Y: Yard, O: Sink>(
     ensures yard { AnswersFault (Y.faults yard.old) (Y.faults yard.new) result Status.YardFault }
     ensures aside { O.aside out.new ≡ O.aside out.old }
 {
-    if reads_origins(query) {
-        run_recall_by::<ReplayByOrigin, Y, O>(alloc, lenient, path, query, yard, out)
+    if reads_origins(ask) {
+        run_recall_by::<ReplayByOrigin, Y, O>(alloc, lenient, path, ask, yard, out)
     } else {
-        run_recall_by::<Replay, Y, O>(alloc, lenient, path, query, yard, out)
+        run_recall_by::<Replay, Y, O>(alloc, lenient, path, ask, yard, out)
     }
 }
 
@@ -314,7 +315,7 @@ fn run_call<Y: Yard, O: Sink>(
     // The file, where the command has one.
     let path = file_word(words, lenient);
     match command {
-        Command::Replay(query) => Ok(run_replay(alloc, lenient, &query, yard, out)),
+        Command::Replay(ask) => Ok(run_replay(alloc, lenient, &ask, yard, out)),
         Command::Check => Ok(run_by::<Counts, Y, O>(alloc, lenient, &(), yard, out)),
         Command::Serve(serve_words) => Err(Waiting::Serve {
             words: serve_words,
@@ -324,7 +325,7 @@ fn run_call<Y: Yard, O: Sink>(
         Command::Relay => Ok(run_relay_by(alloc, lenient, yard, out)),
         Command::Rov(prefix) => Ok(run_rov(alloc, lenient, path, prefix, yard, out)),
         Command::Archive => Ok(run_archive_by(alloc, lenient, path, yard, out)),
-        Command::Recall(query) => Ok(run_recall_of(alloc, lenient, path, &query, yard, out)),
+        Command::Recall(ask) => Ok(run_recall_of(alloc, lenient, path, &ask, yard, out)),
         Command::Help => Ok(write_text(out, help())),
         Command::Version => Ok(write_text(out, version())),
     }

@@ -11,7 +11,7 @@ ghost use Rattle.wire_io.specs.Aside.{laid_over};
 
 use cut_publisher::Cut;
 use query_eval::answer;
-use query_lang::{Query, Select};
+use query_lang::{Ask, Query, Select};
 use router_tables::RouterTables;
 use std::sync::Arc;
 use wire_io::{BufferedSink, Failed, Puts, Sink, through_buffer};
@@ -28,9 +28,9 @@ impl<O: Sink> Puts<O> for DrillReplies<'_> {
 
     fn put(self, buffer: &mut BufferedSink<O>) -> Result<(), Failed> {
         let DrillReplies { cut } = self;
-        answer(cut, &Query::Cut, buffer)?;
-        answer(cut, &Query::Routers, buffer)?;
-        answer(cut, &Query::Count(Select::all()), buffer)
+        answer(cut, &Ask::Query(Query::Cut), buffer)?;
+        answer(cut, &Ask::Query(Query::Routers), buffer)?;
+        answer(cut, &Ask::Query(Query::Count(Select::all())), buffer)
     }
 }
 

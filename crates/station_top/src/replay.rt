@@ -8,7 +8,7 @@ use crate::account::{Account, Replies};
 use bmp_message::Entries;
 use cut_publisher::{Cut, CutLane};
 use query_eval::answer;
-use query_lang::Query;
+use query_lang::Ask;
 use rib_model::Entry;
 use router_tables::{Indexing, RouterTables, TablesBuilder};
 use std::alloc::Global;
@@ -21,7 +21,7 @@ use wire_io::{Failed, List, NoMemory, Sink, Unplaced};
 const BATCH: u64 = 65_536;
 
 /// The tables of the one router in the making, and the entries that were gathered since they took some. As an account
-/// they have no index by origin AS: `ReplayByOrigin` is for the query that reads it.
+/// they have no index by origin AS: `ReplayByOrigin` is for what is asked by it.
 #[derive(Drop)]
 pub struct Replay {
     alloc: Global,
@@ -130,7 +130,7 @@ impl Account for Replay {
     }
 }
 
-/// The same for a query that asks by origin AS: its tables have an index by it.
+/// The same for what is asked by origin AS: its tables have an index by it.
 #[derive(Drop)]
 pub struct ReplayByOrigin {
     replay: Replay,
@@ -162,7 +162,7 @@ impl Account for ReplayByOrigin {
 impl Replies for Cut<RouterTables> {
     ghost use Rattle.station_top.specs.Replay.{IsAsked, IsCutOfEntries, IsReplyOf};
 
-    type Ask = Query;
+    type Ask = Ask;
 
     ghost tells = { IsCutOfEntries };
 
@@ -170,7 +170,7 @@ impl Replies for Cut<RouterTables> {
 
     ghost may_ask = { IsAsked };
 
-    fn put_reply<O: Sink>(&self, out: &mut O, query: &Query) -> Result<(), Failed> {
-        answer(self, query, out)
+    fn put_reply<O: Sink>(&self, out: &mut O, ask: &Ask) -> Result<(), Failed> {
+        answer(self, ask, out)
     }
 }

@@ -79,10 +79,11 @@ fn run_drill<O: Sink, R: Threads + Wait + Sync>(
 /// Runs the command that the words are: takes what it needs from the yard, writes to `out` and tells how it
 /// ended. The words don't hold the program's name.
 ///
-/// `replay` with a query other than `quit` and `check` take the one input connection of the yard's port 0, up to
-/// 2^46 bytes, give the port back, and then write the reply on what the messages of the stream said and the stop
-/// line. The words after `replay`, joined by single spaces, are the query; its reply is on lane 0, on the opening
-/// and the messages, and not on the closing.
+/// `replay` with a line that asks for anything but `quit`, and `check`, take the one input connection of the yard's port
+/// 0, up to 2^46 bytes, give the port back, and then write the reply on what the messages of the stream said and the stop
+/// line. The words after `replay`, joined by single spaces, are the line: a query, `steps` before a query that tells rows,
+/// or `changes` with a lane and the number of a step. Its reply is on lane 0, on the opening and the messages, and not on
+/// the closing.
 ///
 /// `serve` with its options asks the yard to listen, then for the port of each lane and the link of each asker, writes
 /// `ready`, serves routers and clients side by side by the threads of `rt`, gives all back, and writes `done` and the
@@ -108,7 +109,7 @@ fn run_drill<O: Sink, R: Threads + Wait + Sync>(
 /// writes `kept` with the number of bytes that were kept, and the stop line. Where the file has a byte it answers `BadArchive`,
 /// where the disk fails `DiskFault`, and where the archive has no room for a piece `ArchiveFull`.
 ///
-/// `recall` with a file and a query other than `quit` asks the yard for the disk of the file, whose path is the very word that
+/// `recall` with a file and such a line asks the yard for the disk of the file, whose path is the very word that
 /// names it, recovers the archive on it (`feed_archive`), gives the disk back, and writes what `replay` writes for the
 /// archive's content as a connection that ended. It asks for no port, and leaves the file as it was. Where the file is no
 /// archive it answers `BadArchive`: a line that says so is all that is written. Where the disk fails it answers `DiskFault`,

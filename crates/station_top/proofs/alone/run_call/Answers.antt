@@ -20,7 +20,7 @@ returns-in-Rov-clause-concludes g c = rw c.in-Rov.is (subst (λ (path : List ℕ
 
 pub returns-in-Recall-clause-concludes : goal.returns-in-Recall-clause-concludes
 returns-in-Recall-clause-concludes g c =
-    rw c.in-Recall.is (c.run_recall_of.ensures.calls, subst (λ (path : List ℕ). RecallConcludes (meaning_of c.args.call.lenient) (IsReplyTo (Recall c.in-Recall.query)) path (g.Y.Yard.seen c.args.yard.now).told (g.Y.Yard.seen c.run_recall_of.new.yard).told (g.Y.Yard.seen c.args.yard.now).calls (g.O.Sink.told c.args.out.now) (g.O.Sink.told c.run_recall_of.new.out) c.run_recall_of.result) c.file_word-path.ensures c.run_recall_of.ensures.concludes)
+    rw c.in-Recall.is (c.run_recall_of.ensures.calls, subst (λ (path : List ℕ). RecallConcludes (meaning_of c.args.call.lenient) (IsReplyTo (Recall c.in-Recall.ask)) path (g.Y.Yard.seen c.args.yard.now).told (g.Y.Yard.seen c.run_recall_of.new.yard).told (g.Y.Yard.seen c.args.yard.now).calls (g.O.Sink.told c.args.out.now) (g.O.Sink.told c.run_recall_of.new.out) c.run_recall_of.result) c.file_word-path.ensures c.run_recall_of.ensures.concludes)
 
 pub returns-in-Archive-clause-concludes : goal.returns-in-Archive-clause-concludes
 returns-in-Archive-clause-concludes g c =
