@@ -1,15 +1,19 @@
 -- What a command comes to where the yard tells what it does and nothing fails: it answers in full, or memory ran out.
-use Rattle.std.proofs.Common.{◌≡◌, ℕ, ◌+◌, ◌<◌, ◌≤◌, List, [], ◌∷◌, ◌++◌, length, take, Option, None, Some, Err, Contains, inl, inr, refl, sym, ap, ◌∙◌, subst, arith}
+use Rattle.std.proofs.Common.{◌≡◌, ℕ, ◌+◌, ◌*◌, ◌<◌, ◌≤◌, List, [], ◌∷◌, ◌++◌, length, take, Option, None, Some, Err, Contains, inl, inr, refl, sym, ap, ◌∙◌, subst, arith}
 use Rattle.std.specs.Prelude.{◌⊎◌}
 use Rattle.std.specs.Io.KnownBytes.{Appends}
 use Rattle.bmp_specs.specs.declared.causes.Cause.{Cause}
-use Rattle.bmp_specs.specs.Life.{gave_none, most_taken, HasCome}
+use Rattle.bmp_specs.specs.Life.{gave_none, most_taken, Given, HasCome}
 use Rattle.bmp_specs.specs.Lines.{stop_line}
 use Rattle.bmp_specs.specs.Meaning.{Meaning}
 use Rattle.bmp_specs.specs.Session.{session_effects}
 use Rattle.bmp_specs.specs.Values.{EntryValue, PrefixValue, opened}
 use Rattle.cut_publisher.specs.History.{Asker, Fed}
-use Rattle.feed_archive.specs.Recovering.{Holds}
+use Rattle.disk_doors.specs.Disk.{IsSound}
+use Rattle.feed_archive.specs.Archive.{HasContent, most_archive}
+use Rattle.feed_archive.specs.Recovering.{Holds, HasOnly}
+use Rattle.feed_archive.specs.declared.fault.AppendFault.TheVariants as append
+use Rattle.feed_archive.specs.declared.fault.CreateFault.TheVariants as create
 use Rattle.feed_archive.specs.declared.fault.RecoverFault.{RecoverFault}
 use Rattle.feed_archive.specs.declared.fault.RecoverFault.TheVariants as recover
 use Rattle.relay_out.specs.Messages.{IsRelayStream}
@@ -35,11 +39,14 @@ use Rattle.station_words.specs.declared.drill_words.DrillWords.{DrillWords}
 use Rattle.station_words.specs.declared.serve_words.ServeWords.{ServeWords}
 use Rattle.station_words.specs.declared.words.Command.TheVariants.{Help, Version}
 use Rattle.wire_io.specs.Aside.{Aside, Plan}
+use Rattle.station_top.specs.ArchiveRuns.{ArchiveConcludes, IsKept, KeepsFor, KeepsInput, LendsBoth, LendsBothWhereTold, OnArchive, diskless as no_disk_lent, handed, kept_line, portless, status_kept, text_kept}
 use Rattle.station_top.specs.Drill.{IsDrillText}
 use Rattle.station_top.specs.RecallRuns.{RecallConcludes, RecallMeans, HasRecovered, answered, diskless, recalled, status_unread, text_unread, unread, unrecalled}
 use Rattle.station_top.specs.Station.{CallConcludes, Concludes, DrillConcludes, DrillMeans, Lends, RelayConcludes, Relayed, RovConcludes, Runs, badfile_line, bad_file, broken_off, cut, drill_starved, drilled_whole, file_starved, judged, long_file, no_file, refused, relayed, replied, starved, unlent, unready, unsettled, untaken, unwritable, wrote}
 use Rattle.station_top.specs.Status.{status_of}
 use Rattle.station_top.specs.Written.{IsWritten}
+use Rattle.station_top.specs.declared.archive.Kept.{Kept}
+use Rattle.station_top.specs.declared.archive.Kept.TheVariants as kept
 use Rattle.station_top.specs.declared.status.Status.{Status}
 use Rattle.station_top.specs.declared.status.Status.TheVariants.{BadFile, Done, NoMemory, Unwritable, WriteFault}
 
@@ -205,6 +212,109 @@ recall_whole meaning Replies path yard new number content there told0 told1 stat
     by : Holds there.shown.value.now.file found → (status ≡ NoMemory) ⊎ IsReplied meaning Replies found told0 told1 status → (status ≡ NoMemory) ⊎ IsRecalledWhole meaning Replies there.shown.value.now.file told0 told1 status
     by holds (inl none) = inl none
     by holds (inr whole) = inr (record { content = found; holds = holds; replied_to = whole })
+
+-- ---- `archive`
+-- an empty disk of the path stands there, which fails no call and has room for an archive of these bytes
+record TakesThere (path bytes : List ℕ) (yard : YardValue) : Type 0 where
+  shown : DiskShown
+  stands : disk_at path yard.disks ≡ Some (Some shown)
+  is_empty : length shown.value.now.file ≡ 0
+  sound : IsSound shown.value (6 * length bytes + 1)
+  small : 6 * length bytes + 1 ≤ most_archive
+
+-- The disk that came back is an archive of these bytes, and a crash leaves that.
+abbrev HasKept : List ℕ → Plan → Aside → DiskShown → DiskShown → Type 0
+HasKept bytes plan shows lent back = HasContent back.value.now.file bytes × HasOnly back.value.now bytes
+
+-- The connection was kept as far as it was taken, and that many bytes and the stop line were written.
+record IsArchivedWhole (meaning : Meaning) (path bytes : List ℕ) (yard : YardValue) (new : Option YardValue) (number : ℕ) (told0 told1 : Option (List ℕ)) (status : Status) : Type 0 where
+  messages : List EntryValue
+  cause : Cause
+  come : HasEntries meaning bytes messages cause
+  taken : List ℕ
+  rest : List ℕ
+  front : bytes ≡ taken ++ rest
+  lends : LendsBoth (HasKept taken) path yard new number
+  written : Appends told0 told1 (kept_line (length taken) ++ stop_line cause)
+  status_is : status ≡ status_of cause
+
+-- `archive`: all of the connection was kept, or memory ran out
+archive_whole : (meaning : Meaning) (path : List ℕ) (yard : YardValue) (new : Option YardValue) (number calls : ℕ) (plan : Plan) (is : IsSteady yard plan) (there : TakesThere path (first_of plan.connections) yard) (told0 told1 : Option (List ℕ)) (status : Status)
+    → ArchiveConcludes meaning path (Some yard) new number calls told0 told1 status → (status ≡ WriteFault → ⊥) → (status ≡ NoMemory) ⊎ IsArchivedWhole meaning path (first_of plan.connections) yard new number told0 told1 status
+archive_whole meaning path yard new number calls plan is there told0 told1 status (no_disk_lent (inl fails, same) counted is_status none) calm = absurd (none_there number (subst (λ (l : List ℕ). Contains l number) is.calm fails))
+archive_whole meaning path yard new number calls plan is there told0 told1 status (no_disk_lent (inr none_there_now, same) counted is_status none) calm = absurd (none_there_now there.shown there.stands)
+archive_whole meaning path yard new number calls plan is there told0 told1 status (portless refuses counted is_status none) calm = absurd (not_refused meaning yard new (one_more number) plan is refuses.refused)
+archive_whole meaning path yard new number calls plan is there told0 told1 status (handed came is_kept counted written) calm =
+    let all = all_written told0 told1 (text_kept came) (status_kept came) status written calm in
+    by came is_kept all.0 all.1
+  where
+    lent_disk : (Is : Plan → Aside → DiskShown → DiskShown → Type 0) (l : LendsBoth Is path yard new number) → l.lent ≡ there.shown
+    lent_disk Is l = let both : Some (Some l.lent) ≡ Some (Some there.shown) = sym l.stood ∙ there.stands in cc
+
+    lent_plan : (Is : Plan → Aside → DiskShown → DiskShown → Type 0) (l : LendsBoth Is path yard new number) → l.plan ≡ plan
+    lent_plan Is l = let both : l.plan ∷ l.waiting ≡ plan ∷ is.waiting = sym l.first ∙ is.first in cc
+
+    sound_disk : (Is : Plan → Aside → DiskShown → DiskShown → Type 0) (l : LendsBoth Is path yard new number) (n : ℕ) → n ≤ 6 * length (first_of plan.connections) + 1 → IsSound l.lent.value n
+    sound_disk Is l n small = subst (λ (d : DiskShown). IsSound d.value n) (sym (lent_disk Is l)) (record { none = there.sound.none; fits = omega (arith, small, there.sound.fits) })
+
+    -- an append fails only where the disk isn't sound
+    never_failed : (taken : List ℕ) → LendsBoth (OnArchive (KeepsFor append.Failed taken)) path yard new number → ⊥
+    never_failed taken l =
+        let (begun, is_begun, keeps) = l.is in
+        let sound = sound_disk _ l (6 * length (first_of plan.connections) + 1) (omega arith) in
+        let here : IsSound begun.value (6 * length (first_of plan.connections) + 1) = record { none = is_begun.lasts.fails ∙ sound.none; fits = omega (arith, is_begun.lasts.room, sound.fits) } in
+        keeps.refused.2 (subst (λ (p : Plan). IsSound begun.value (6 * length (first_of p.connections) + 1)) (sym (lent_plan _ l)) here)
+
+    -- or the archive has no room for the connection
+    never_full : (taken : List ℕ) → LendsBoth (OnArchive (KeepsFor append.Full taken)) path yard new number → ⊥
+    never_full taken l =
+        let (begun, is_begun, keeps) = l.is in
+        let full : most_archive < 6 * length (first_of plan.connections) + 1 = subst (λ (p : Plan). most_archive < 6 * length (first_of p.connections) + 1) (lent_plan _ l) keeps.refused.1 in
+        omega (arith, full, there.small)
+
+    whole : (count : ℕ) (cause : Cause) (input : Given) (messages : List EntryValue) → count ≡ length input.bytes → LendsBoth (OnArchive (KeepsInput meaning input messages cause)) path yard new number
+        → status ≡ status_of cause → Appends told0 told1 (kept_line count ++ stop_line cause) → IsArchivedWhole meaning path (first_of plan.connections) yard new number told0 told1 status
+    whole count cause input messages is_count l same told =
+        let (begun, is_begun, keeps) = l.is in
+        let here = lent_plan _ l in
+        let steady = keeps.comes.steady (ap (λ (p : Plan). p.fails) here ∙ is.steady) in
+        let entries : HasEntries meaning (first_of l.plan.connections) messages cause = record { come = steady } in
+        record {
+          messages = messages;
+          cause = cause;
+          come = subst (λ (p : Plan). HasEntries meaning (first_of p.connections) messages cause) here entries;
+          taken = input.bytes;
+          rest = keeps.comes.rest;
+          front = subst (λ (p : Plan). first_of p.connections ≡ input.bytes ++ keeps.comes.rest) here keeps.comes.front;
+          lends = record {
+            planned = l.planned;
+            lent = l.lent;
+            stood = l.stood;
+            port_planned = l.port_planned;
+            plan = l.plan;
+            waiting = l.waiting;
+            first = l.first;
+            shows = l.shows;
+            back = l.back;
+            given_back = l.given_back;
+            is = (keeps.holds, keeps.only);
+          };
+          written = subst (λ (n : ℕ). Appends told0 told1 (kept_line n ++ stop_line cause)) is_count told;
+          status_is = same;
+        }
+
+    by : (k : Kept) → IsKept meaning (λ Is. LendsBothWhereTold Is path (Some yard) new number) k → status ≡ status_kept k → Appends told0 told1 (text_kept k) → (status ≡ NoMemory) ⊎ IsArchivedWhole meaning path (first_of plan.connections) yard new number told0 told1 status
+    by (kept.Uncreated create.Failed) l same told = absurd (l.is.1.planned (sound_disk _ l 1 (omega arith)))
+    by (kept.Uncreated create.NotEmpty) l same told = absurd (l.is.1.creates.0 (ap (λ (d : DiskShown). length d.value.now.file) (lent_disk _ l) ∙ there.is_empty))
+    by (kept.Unbegun recover.Failed) l same told = absurd (l.is.1.planned refl (sound_disk _ l 1 (omega arith)))
+    by (kept.Unbegun (recover.Damaged offset)) l same told = absurd l.is.1.plain
+    by (kept.Unbegun recover.TooLong) l same told = absurd l.is.1.plain
+    by (kept.Unbegun recover.NoMemory) l same told = inl same
+    by kept.Starved l same told = inl same
+    by (kept.Whole count cause) (input, messages, come, no_further, is_count, l) same told = inr (whole count cause input messages is_count l same told)
+    by (kept.CutOff count append.Failed) (taken, no_further, is_count, l) same told = absurd (never_failed taken l)
+    by (kept.CutOff count append.Full) (taken, no_further, is_count, l) same told = absurd (never_full taken l)
+    by (kept.CutOff count append.Stopped) impossible same told = absurd impossible
 
 -- ---- the commands that ask the yard for nothing
 -- `drill`: all of its replies, or out of memory
