@@ -2,7 +2,9 @@
 
 ghost use Rattle.std.specs.Prelude.{◌≤◌, ◌≢◌, IfSome};
 ghost use Rattle.std.specs.Bool.{OnFalse};
+ghost use Rattle.ask_specs.specs.Asking.{plain};
 ghost use Rattle.bmp_specs.specs.Query.{quit};
+ghost use Rattle.query_lang.specs.Asks.{ask_value};
 ghost use Rattle.query_lang.specs.Queries.{query_value};
 
 use super::sessions::take_all;
@@ -10,11 +12,11 @@ use super::words::long_at;
 use crate::line::{Line, at, number_at};
 use cut_publisher::{Cut, CutLane};
 use ip_prefix::{Prefix, parse_prefix};
-use query_eval::answer as answer_query;
-use query_lang::{Query, parse};
+use query_eval::answer as answer_ask;
+use query_lang::{Ask, Query, parse_ask};
 use recent_ring::Recent;
 use rib_model::Step;
-use route_watch::{missed, poll};
+use route_watch::{missed, poll, poll_any};
 use router_tables::RouterTables;
 use std::alloc::Global;
 use std::sync::Arc;
@@ -97,38 +99,61 @@ fn is_quit(query: &Query) -> bool
     }
 }
 
-// The reply of a query, and then what the call answers.
-fn put_reply(out: &mut Line, cut: &Cut<RouterTables>, query: &Query, sink: &mut MemSink) {
-    if is_quit(query) {
+// The same of what is asked.
+fn asks_quit(ask: &Ask) -> bool
+    ensures { OnFalse result (ask_value ask.now ≢ plain quit) }
+{
+    match ask {
+        Ask::Query(query) => is_quit(query),
+        Ask::Steps(_) => false,
+        Ask::Changes { .. } => false,
+    }
+}
+
+// The reply to what is asked, and then what the call answers.
+fn put_reply(out: &mut Line, cut: &Cut<RouterTables>, ask: &Ask, sink: &mut MemSink) {
+    if asks_quit(ask) {
         out.put("quit");
     } else {
-        let answered = answer_query(cut, query, sink);
+        let answered = answer_ask(cut, ask, sink);
         out.put_text(sink.taken());
         out.show("", &answered);
     }
 }
 
-fn reply(out: &mut Line, cut: &Cut<RouterTables>, query: &Query, fails: &[u64]) {
+fn reply(out: &mut Line, cut: &Cut<RouterTables>, ask: &Ask, fails: &[u64]) {
     match MemSink::new(out.alloc, 4096, fails) {
-        Ok(mut sink) => put_reply(out, cut, query, &mut sink),
+        Ok(mut sink) => put_reply(out, cut, ask, &mut sink),
         Err(_) => out.fail(),
     }
 }
 
 // What is answered to a line, where the writes with these numbers fail.
 pub(crate) fn ask(out: &mut Line, cut: &Option<Cut<RouterTables>>, line: &str, fails: &[u64]) {
-    match (cut, parse(line.as_bytes())) {
-        (Some(cut), Some(query)) => reply(out, cut, &query, fails),
+    match (cut, parse_ask(line.as_bytes())) {
+        (Some(cut), Some(ask)) => reply(out, cut, &ask, fails),
         _ => out.put("-"),
     }
 }
 
-// How many steps are missed from a number on, and the numbers of the first changes of a prefix.
-fn put_changes(out: &mut Line, recent: &Recent<Step>, from: u64, prefix: &Prefix) {
+// The first step that is kept, from a number on, or the first change of a prefix.
+fn next_step<'a>(
+    recent: &'a Recent<Step>,
+    from: u64,
+    prefix: &Option<Prefix>,
+) -> Option<(u64, &'a Step)> {
+    match prefix {
+        Some(prefix) => poll(recent, from, prefix),
+        None => poll_any(recent, from),
+    }
+}
+
+// How many steps are missed from a number on, and the numbers of the first steps or of the first changes of a prefix.
+fn put_changes(out: &mut Line, recent: &Recent<Step>, from: u64, prefix: &Option<Prefix>) {
     out.show("", &missed(recent, from));
     let mut next = from;
     for _ in 0..6 {
-        if let Some((number, _)) = poll(recent, next, prefix) {
+        if let Some((number, _)) = next_step(recent, next, prefix) {
             out.show(" ", &number);
             next = number.saturating_add(1);
         } else {
@@ -137,7 +162,12 @@ fn put_changes(out: &mut Line, recent: &Recent<Step>, from: u64, prefix: &Prefix
     }
 }
 
-fn put_changes_of(out: &mut Line, cut: &Cut<RouterTables>, words: &[&str], prefix: &Prefix) {
+fn put_changes_of(
+    out: &mut Line,
+    cut: &Cut<RouterTables>,
+    words: &[&str],
+    prefix: &Option<Prefix>,
+) {
     let lane = number_at(words, 1);
     if lane < cut.lanes() {
         put_changes(out, cut.value(lane).recent(), long_at(words, 2), prefix);
@@ -148,7 +178,14 @@ fn put_changes_of(out: &mut Line, cut: &Cut<RouterTables>, words: &[&str], prefi
 
 pub(crate) fn poll_changes(out: &mut Line, cut: &Option<Cut<RouterTables>>, words: &[&str]) {
     match (cut, parse_prefix(at(words, 3).as_bytes())) {
-        (Some(cut), Some(prefix)) => put_changes_of(out, cut, words, &prefix),
+        (Some(cut), Some(prefix)) => put_changes_of(out, cut, words, &Some(prefix)),
         _ => out.put("-"),
+    }
+}
+
+pub(crate) fn poll_steps(out: &mut Line, cut: &Option<Cut<RouterTables>>, words: &[&str]) {
+    match cut {
+        Some(cut) => put_changes_of(out, cut, words, &None),
+        None => out.put("-"),
     }
 }

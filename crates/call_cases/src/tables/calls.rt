@@ -11,6 +11,7 @@ enum Call {
     Ask,
     AskFailing,
     Poll,
+    PollAny,
     Versions,
     Peers,
     Statistics,
@@ -24,14 +25,16 @@ enum Call {
     Query,
     QueryHex,
     QueryRoom,
+    Asked,
     Line,
 }
 
-const CALLS: [(&str, Call); 18] = [
+const CALLS: [(&str, Call); 20] = [
     ("lanes", Call::Lanes),
     ("ask", Call::Ask),
     ("ask-failing", Call::AskFailing),
     ("poll", Call::Poll),
+    ("poll-any", Call::PollAny),
     ("versions", Call::Versions),
     ("peers", Call::Peers),
     ("statistics", Call::Statistics),
@@ -45,6 +48,7 @@ const CALLS: [(&str, Call); 18] = [
     ("query", Call::Query),
     ("query-hex", Call::QueryHex),
     ("query-room", Call::QueryRoom),
+    ("asked", Call::Asked),
     ("line", Call::Line),
 ];
 
@@ -85,6 +89,7 @@ fn on_cuts(
         Call::Ask => asks::ask(line, cut, rest_of(case), &[]),
         Call::AskFailing => asks::ask(line, cut, rest_of(case), &[0]),
         Call::Poll => asks::poll_changes(line, cut, words),
+        Call::PollAny => asks::poll_steps(line, cut, words),
         Call::Versions => sessions::versions(line, rest_of(case)),
         _ => on_tables(line, call, case, words),
     }
@@ -110,6 +115,7 @@ fn on_lines(line: &mut Line, call: Call, case: &str, words: &[&str]) {
         Call::Query => queries::query(line, rest_of(case).as_bytes()),
         Call::QueryHex => queries::query_hex(line, words),
         Call::QueryRoom => queries::query_room(line, case, words),
+        Call::Asked => queries::asked(line, rest_of(case).as_bytes()),
         _ => lines::line(line, words),
     }
 }

@@ -2,7 +2,7 @@
 use super::routes::bytes_at;
 use super::words::rest_of;
 use crate::line::{Line, number_at};
-use query_lang::{Query, parse};
+use query_lang::{Query, parse, parse_ask};
 use wire_io::MemSink;
 
 // Writes the line of a query, or as much of it as there is room for, and what the call answers.
@@ -42,6 +42,14 @@ pub(crate) fn query_hex(out: &mut Line, words: &[&str]) {
 pub(crate) fn query_room(out: &mut Line, case: &str, words: &[&str]) {
     match parse(rest_of(rest_of(case)).as_bytes()) {
         Some(query) => put_in(out, &query, number_at(words, 1)),
+        None => out.put("none"),
+    }
+}
+
+// What a line asks for, with the further words that are offered.
+pub(crate) fn asked(out: &mut Line, line: &[u8]) {
+    match parse_ask(line) {
+        Some(ask) => out.show("", &ask),
         None => out.put("none"),
     }
 }
