@@ -5,7 +5,7 @@ mod drills;
 mod orders;
 mod schedules;
 
-use query_lang::parse;
+use query_lang::parse_ask;
 use station_core::{Event, ScheduleFault, run_schedule};
 use std::alloc::Global;
 use wire_io::{ByteList, MemSink};
@@ -52,10 +52,10 @@ pub(crate) fn take(alloc: Global, lane: u32, bytes: &[u8]) -> Option<Event> {
     Some(Event::Take { lane, piece })
 }
 
-// The asker's query of this line.
+// What the asker asks by this line.
 pub(crate) fn ask(asker: u32, line: &[u8]) -> Option<Event> {
-    match parse(line) {
-        Some(query) => Some(Event::Ask { asker, query }),
+    match parse_ask(line) {
+        Some(ask) => Some(Event::Ask { asker, ask }),
         None => None,
     }
 }
