@@ -7,7 +7,8 @@ import re
 import tempfile
 
 import harness
-from harness import CONTRIB, EXAMPLES, HOSTILE, Serving, Stub, bmpq, initiation, loc_rib_up, replay, reply, run, same, test
+from harness import CONTRIB, EXAMPLES, HOSTILE, Serving, Stub, bmpq, loc_rib_up, replay, reply, run, same, test
+from bmp import initiation
 import bmprov
 
 KEY = "0-0000000000000000-10.0.0.11"

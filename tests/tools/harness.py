@@ -18,6 +18,7 @@ SECONDS = 60
 sys.path.insert(0, str(CONTRIB))
 sys.dont_write_bytecode = True
 import bmplines
+from bmp import message, tlv
 
 TESTS = []
 
@@ -232,18 +233,6 @@ class LookingGlass:
 
 
 # Streams.
-
-
-def message(kind, body):
-    return bytes([3]) + (6 + len(body)).to_bytes(4, "big") + bytes([kind]) + body
-
-
-def tlv(kind, value):
-    return kind.to_bytes(2, "big") + len(value).to_bytes(2, "big") + value
-
-
-def initiation(name, descr):
-    return message(4, tlv(2, name) + tlv(1, descr))
 
 
 OPEN = b"\xff" * 16 + bytes([0, 29, 1, 4, 0xFB, 0xF0, 0, 180, 192, 0, 2, 254, 0])

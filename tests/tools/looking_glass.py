@@ -12,8 +12,9 @@ import time
 import urllib.parse
 
 import harness
-from harness import (CONTRIB, EXAMPLES, SECONDS, TOP, LookingGlass, Serving, Shared, Stub, closed_port, initiation, loc_rib_up,
+from harness import (CONTRIB, EXAMPLES, SECONDS, TOP, LookingGlass, Serving, Shared, Stub, closed_port, loc_rib_up,
                      replay, reply, run, same, test)
+from bmp import initiation
 from texts import text_of
 
 STREAM = EXAMPLES / "frr10-sessions-come-and-go.bmp"
