@@ -409,7 +409,7 @@ def lane_of(name, routers):
 
 def selectors_of(query):
     """The selectors at the end of a query, as text for another one."""
-    words = query.split(" ")
+    words = query.removeprefix("steps ").split(" ")
     found = []
     if words[0] in SELECTED or words[0] == "peers":
         while len(words) >= 3 and words[-2] in SELECTORS:

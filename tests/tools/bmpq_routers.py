@@ -34,8 +34,10 @@ def routers_by_their_names():
                               (("peers", "router", "a b\u00e9"), ["peers router 3"]), (("peers", "router", "a%20b%C3%A9"), ["peers router 3"]),
                               (("count router a%20b%C3%A9 family 4",), ["count router 3 family 4"]), (("count", "router", "router"), ["count router 5"]),
                               (("changes", "a b\u00e9", "0", PREFIX), [f"changes 3 0 {PREFIX}"]), (("changes r1 0 " + PREFIX,), [f"changes 0 0 {PREFIX}"]),
+                              (("changes", "r1", "0"), ["changes 0 0"]), (("steps", "table", "router", "r1"), ["steps table router 0"]),
                               (("--longer-than", "8", "table", "router", "r1"), ["table router 0"]),
                               (("--wait-complete", "table", "router", "r1"), ["marks router 0", "table router 0"]),
+                              (("--wait-complete", "steps", "table", "router", "r1"), ["marks router 0", "steps table router 0"]),
                               (("--policy", KEY, "router", "r1"), [f"marks router 0 peer {KEY}", f"table router 0 peer {KEY}", f"marks router 0 peer {KEY}"]),
                               (("--sql", "--station", "s", "table", "router", "r1"), ["routers", "peers", "marks", "table router 0"])):
             queries.clear()
@@ -50,7 +52,7 @@ def routers_by_their_names():
             same(queries, [" ".join(words)], "a number is a lane")
         for name, wanted in (("twice", "2 connected routers have the name twice: they are at lanes 1 and 4"), ("R1", "no connected router has the name R1"),
                              ("01x", "no connected router has the name 01x"), ("b\u00e9", "no connected router has the name b%C3%A9")):
-            for words in (("count", "router", name), ("changes", name, "0", PREFIX), ("--follow", name, PREFIX), ("--policy", KEY, "router", name),
+            for words in (("count", "router", name), ("changes", name, "0", PREFIX), ("--follow", name, PREFIX), ("--follow", name), ("--policy", KEY, "router", name),
                           ("--sql", "--station", "s", "table", "router", name)):
                 same(failed(stub, *words), (1, f"bmpq: {wanted}"), words)
         done = run([CONTRIB / "bmpq", "--port", stub.port, "routers"])
@@ -109,6 +111,16 @@ def followed(turns, *words, polls):
     with Stub(say) as stub:
         done = run([CONTRIB / "bmpq", "--port", stub.port, "--interval", 0.01, "--polls", polls, *words])
     return done.returncode, done.stdout.splitlines(), asked, done.stderr.decode()
+
+
+@test
+def a_lane_is_followed():
+    """Without a prefix each change is printed, and how many are lost."""
+    lines = [withdraw(3, 10), b"missed 70", change(3, 81, b"down %s" % KEY.encode()), change(3, 82, b"opened")]
+    turns = [reply(b"steps 3 10"), reply(b"steps 3 11", *lines[:1]), reply(b"steps 3 11"), reply(b"steps 3 83", *lines[1:])]
+    status, printed, asked, said = followed(turns, "--follow", 3, polls=4)
+    same((status, printed), (0, lines), said)
+    same(asked, [f"changes 3 {step}" for step in (2**64 - 1, 10, 11, 11)], "queries")
 
 
 @test
