@@ -14,6 +14,8 @@ CONTRIB = TOP / "contrib"
 EXAMPLES = TOP / "examples"
 PROGRAM = None  # the program under test, which the caller sets
 SECONDS = 60
+# The tools run as an operator's do, who hasn't set it: what isn't flushed is kept back.
+os.environ.pop("PYTHONUNBUFFERED", None)
 
 sys.path.insert(0, str(CONTRIB))
 sys.dont_write_bytecode = True
