@@ -1,8 +1,9 @@
 -- What is offered of the wider language keeps the laws of all of it, and there are lines that ask more.
-use Rattle.std.proofs.Common.{◌≡◌, ℕ, true, false, List, [], ◌∷◌, All, Some, None, codes, refl, sym, ap, subst, arith}
+use Rattle.std.proofs.Common.{◌≡◌, ℕ, true, false, List, [], ◌∷◌, All, Some, codes, refl, sym, subst, arith}
 use Rattle.std.specs.Fmt.{digits}
+use Rattle.std.specs.List.{join_with_byte}
 use Rattle.std.proofs.lemmas.List.Elements.{All-nil, All-cons}
-use Rattle.bmp_specs.specs.Query.{QueryValue, table, AreSelectors, AreQueryWords, IsQuery, IsWord}
+use Rattle.bmp_specs.specs.Query.{QueryValue, table, AreSelectors, AreQueryWords, IsQuery, IsWord, space}
 use Rattle.bmp_specs.specs.Selection.{select_all}
 use Rattle.ask_specs.specs.Asking.{AskValue, plain, rows, AreTraits, IsAsk}
 use Rattle.ask_specs.specs.Offer.{AsksMore, IsOffered, IsOfferedAsk, OffersOne, OffersPlain}
@@ -55,21 +56,22 @@ bare_table = record {
 none_named : AreTraits no_traits []
 none_named = record { through_words = []; community_words = []; other_words = []; is_through = refl; is_community = refl; is_other = refl; spelled = refl }
 
-pub full_table : AsksMore (codes "full table")
-full_table = more (codes "full table") (rows false true (table select_all) no_traits)
+-- all rows with all their path attributes, of routes that have these
+full_rows : (line : List ℕ) (traits : TraitsValue) (behind : List (List ℕ)) → AreTraits traits behind → All IsWord (codes "full" ∷ codes "table" ∷ behind) → line ≡ join_with_byte space (codes "full" ∷ codes "table" ∷ behind) → AsksMore line
+full_rows line traits behind are words joined = more line (rows false true (table select_all) traits)
     (record {
-      words = codes "full" ∷ codes "table" ∷ [];
-      are_words = two_words (codes "full") (codes "table") refl refl;
-      joined = refl;
+      words = codes "full" ∷ codes "table" ∷ behind;
+      are_words = words;
+      joined = joined;
       asks = record {
         steps_words = [];
         full_words = codes "full" ∷ [];
         query_words = codes "table" ∷ [];
-        traits_words = [];
+        traits_words = behind;
         is_steps = refl;
         is_full = refl;
         is_query = bare_table;
-        are_traits = none_named;
+        are_traits = are;
         asks = tt;
         told = (λ e. tt, λ e. tt);
         more = tt;
@@ -78,37 +80,24 @@ full_table = more (codes "full table") (rows false true (table select_all) no_tr
     })
     (λ offered. offered)
 
+pub full_table : AsksMore (codes "full table")
+full_table = full_rows (codes "full table") no_traits [] none_named (two_words (codes "full") (codes "table") refl refl) refl
+
 abbrev of_type_35 : TraitsValue
 of_type_35 = record no_traits { other = Some 35 }
 
-pub table_other : AsksMore (codes "table other 35")
+type_35 : AreTraits of_type_35 (codes "other" ∷ codes "35" ∷ [])
 unfolding digits
-table_other = more (codes "table other 35") (rows false false (table select_all) of_type_35)
-    (record {
-      words = codes "table" ∷ codes "other" ∷ codes "35" ∷ [];
-      are_words = All-cons IsWord (codes "table") (codes "other" ∷ codes "35" ∷ []) (word (codes "table") refl) (two_words (codes "other") (codes "35") refl refl);
-      joined = refl;
-      asks = record {
-        steps_words = [];
-        full_words = [];
-        query_words = codes "table" ∷ [];
-        traits_words = codes "other" ∷ codes "35" ∷ [];
-        is_steps = refl;
-        is_full = refl;
-        is_query = bare_table;
-        are_traits = record {
-          through_words = [];
-          community_words = [];
-          other_words = codes "other" ∷ codes "35" ∷ [];
-          is_through = refl;
-          is_community = refl;
-          is_other = (codes "35", record { within = omega arith; spelled = refl }, refl);
-          spelled = refl;
-        };
-        asks = tt;
-        told = (λ e. tt, λ e. tt);
-        more = λ same. let named : Some 35 ≡ None = ap (λ (t : TraitsValue). t.other) same in absurd cc;
-        spelled = refl;
-      };
-    })
-    (λ offered. offered)
+type_35 = record {
+  through_words = [];
+  community_words = [];
+  other_words = codes "other" ∷ codes "35" ∷ [];
+  is_through = refl;
+  is_community = refl;
+  is_other = (codes "35", record { within = omega arith; spelled = refl }, refl);
+  spelled = refl;
+}
+
+pub full_other : AsksMore (codes "full table other 35")
+full_other = full_rows (codes "full table other 35") of_type_35 (codes "other" ∷ codes "35" ∷ []) type_35
+    (All-cons IsWord (codes "full") (codes "table" ∷ codes "other" ∷ codes "35" ∷ []) (word (codes "full") refl) (All-cons IsWord (codes "table") (codes "other" ∷ codes "35" ∷ []) (word (codes "table") refl) (two_words (codes "other") (codes "35") refl refl))) refl

@@ -1,13 +1,12 @@
--- The part of the wider language that the station offers: plain queries, `steps` before a plain query that tells rows, and
--- all changes of a lane. A line with `full`, or with selectors of path attributes, asks nothing that is offered.
-use Rattle.std.specs.Prelude.{◌≡◌, ◌↔◌, ℕ, true, false, List, None}
+-- The part of the wider language that the station offers: plain queries, queries for rows with `steps` in front or with
+-- selectors of path attributes behind, and all changes of a lane. A line with `full` asks nothing that is offered.
+use Rattle.std.specs.Prelude.{◌≡◌, ◌↔◌, ℕ, false, List, None}
 use Rattle.bmp_specs.specs.Query.{QueryValue, IsQuery}
 use Rattle.ask_specs.specs.Asking.{AskValue, plain, rows, steps, IsAsk}
-use Rattle.ask_specs.specs.Traits.{no_traits}
 
 abbrev pub IsOffered : AskValue → Type 0
 IsOffered (plain query) = Unit {0}
-IsOffered (rows true false query traits) = traits ≡ no_traits
+IsOffered (rows with_steps false query traits) = Unit {0}
 IsOffered (steps false lane from None) = Unit {0}
 IsOffered _ = ⊥
 

@@ -8,9 +8,9 @@ pub fn another_order_asks_nothing()
     ensures { AsksNothing (codes "full steps table") × AsksNothing (codes "table other 35 through 64500") }
 {}
 
-/// Full lines, and selectors of path attributes, are asked by lines that nothing is offered to.
+/// Full lines are asked by lines that nothing is offered to, with selectors of path attributes too.
 pub fn some_lines_ask_more()
-    ensures { AsksMore (codes "full table") × AsksMore (codes "table other 35") }
+    ensures { AsksMore (codes "full table") × AsksMore (codes "full table other 35") }
 {}
 
 /// A community of an AS of four octets has no number of more than two.
