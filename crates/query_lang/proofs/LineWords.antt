@@ -1,6 +1,7 @@
 -- The words of a line are one list, and a query is one of these words.
 use Rattle.std.proofs.Common.{◌≡◌, ℕ, ◌+◌, ◌<◌, ◌==◌, Bool, true, false, cond, List, [], ◌∷◌, ◌++◌, Option, None, Some, All, Contains, length, get_or, take, drop, refl, sym, ap, subst, ◌∙◌, arith, nat_lt, ne_eqb, length-take, take-append-drop}
-use Rattle.std.specs.Prelude.{IfSome, IfNone}
+use Rattle.std.specs.Cmp.Lexicographic.{pointwise, same_text, other_text}
+use Rattle.std.specs.Prelude.{nat_eq, IfSome, IfNone}
 use Rattle.std.specs.List.{slice_split, onto_first, join_with_byte, position, position_or_len}
 use Rattle.std.proofs.lemmas.Bool.{eqb-true, eqb-false, ltb-false, true≢false}
 use Rattle.std.proofs.lemmas.List.{drop_more, get_or-take}
@@ -16,13 +17,13 @@ use Rattle.query_lang.specs.declared.query.Query.{Query}
 use Rattle.query_lang.specs.declared.verb.Verb.{Verb}
 use Rattle.query_lang.proofs.VerbLaws.{begins}
 
-abbrev is_space : ℕ → Bool
+abbrev pub is_space : ℕ → Bool
 is_space b = b == space
 
-abbrev Free : List ℕ → Type 0
+abbrev pub Free : List ℕ → Type 0
 Free word = All (λ b. is_space b ≡ false) word
 
-free_word : (word : List ℕ) → IsWord word → Free word
+pub free_word : (word : List ℕ) → IsWord word → Free word
 free_word word is = λ k d h. ne_eqb (get_or word k d) space (λ e. is (subst (Contains word) e (Contains-get_or word k d h)))
 
 pub word_free : (word : List ℕ) → All (λ b. (b == space) ≡ false) word → IsWord word
@@ -128,3 +129,10 @@ no_verb line word others split none q is =
     let whole : word ∷ others ≡ verb_text (verb_of q) ∷ b.0 = sym split ∙ b.1 in
     let head : word ≡ verb_text (verb_of q) = cc in
     none (verb_of q) head
+
+-- what a test of a word has told
+pub is_this : (word said text : List ℕ) (t : Bool) → said ≡ text → t ≡ pointwise nat_eq word said → t ≡ true → word ≡ text
+is_this word said text t same told e = same_text word said (sym e ∙ told) ∙ same
+
+pub is_other : (word said text : List ℕ) (t : Bool) → said ≡ text → t ≡ pointwise nat_eq word said → t ≡ false → word ≡ text → ⊥
+is_other word said text t same told e is = other_text word said (sym e ∙ told) (is ∙ sym same)

@@ -1,6 +1,8 @@
 -- What a wrong reader would take a line for, and that it isn't what the contract asks for.
-use Rattle.std.proofs.Common.{◌≡◌, ℕ, false, List, [], ◌∷◌, ◌++◌, Some, None, get_or, length, drop, refl, sym, ap, subst, arith, codes}
+use Rattle.std.proofs.Common.{◌≡◌, ℕ, false, List, [], ◌∷◌, ◌++◌, All, Some, None, get_or, length, drop, refl, sym, ap, subst, ◌∙◌, arith, codes}
+use Rattle.std.specs.Fmt.{digits}
 use Rattle.std.proofs.lemmas.Bool.{eqb-false}
+use Rattle.std.proofs.lemmas.List.Elements.{All-from_recursion}
 use Rattle.bmp_specs.specs.declared.peers.View.TheVariants.{Loc}
 use Rattle.bmp_specs.specs.NumberText.{IsNumberText}
 use Rattle.bmp_specs.specs.PeerText.{IsKeyText, IsViewText}
@@ -10,15 +12,21 @@ use Rattle.bmp_specs.specs.Selection.{SelectValue, select_all}
 use Rattle.bmp_specs.specs.Values.{PrefixValue}
 use Rattle.ask_specs.specs.Asking.{AskValue, plain, steps, TellsRows}
 use Rattle.ask_specs.specs.Offer.{IsOfferedAsk}
-use Rattle.ask_specs.proofs.PlainWords.{plain_front, query_plain}
-use Rattle.query_lang.specs.Reading.{words_of, Takes}
+use Rattle.ask_specs.specs.Traits.{CommunityValue, TraitsValue}
+use Rattle.ask_specs.specs.TraitText.{IsCommunityText, IsThroughText}
+use Rattle.ask_specs.proofs.NoCommunity.{names_none}
+use Rattle.ask_specs.proofs.PlainWords.{by_one, plain_bare, plain_front, query_plain}
+use Rattle.ask_specs.proofs.TraitOne.{Small}
+use Rattle.ask_specs.proofs.WrongLaws.{other_through}
+use Rattle.query_lang.specs.Reading.{words_of, AsksWith, Takes}
 use Rattle.query_lang.specs.Verbs.{verb_of, verb_text}
 use Rattle.query_lang.specs.declared.verb.Verb.{Verb}
 use Rattle.query_lang.specs.declared.verb.Verb.TheVariants.{Count, Peers, Changes}
 use Rattle.query_lang.proofs.AskWords.{asked_words, asks_nothing, rows_parts, steps_spelled}
+use Rattle.query_lang.proofs.AsnsReading.{left_of}
 use Rattle.query_lang.proofs.LineWords.{query_asks}
 use Rattle.query_lang.proofs.SelectorLaws.{four_taken, takes_named}
-use Rattle.query_lang.proofs.VerbLaws.{same_verb}
+use Rattle.query_lang.proofs.VerbLaws.{begins, same_verb, verb_one}
 
 -- a selector that isn't named
 not_taken : {A : Type 0} (word : List ℕ) (IsText : List ℕ → A → Type 0) (first : List ℕ) (others : List (List ℕ)) → (get_or first 0 0 ≡ get_or word 0 0 → ⊥) → Takes word IsText (first ∷ others) None (first ∷ others)
@@ -69,12 +77,21 @@ the_peer_stands_before_the_view select is =
 steps_no_query : (line : List ℕ) (others : List (List ℕ)) → words_of line ≡ codes "steps" ∷ others → (q : QueryValue) → IsQuery line q → ⊥
 steps_no_query line others split q is = plain_front (words_of line) others (codes "steps") (query_plain q (words_of line) (query_asks line q is)) refl split
 
+-- a query that is asked with further words begins with its verb
+asks_verb : (verb : Verb) (q : QueryValue) (t : TraitsValue) (others : List (List ℕ)) → AsksWith q t (verb_text verb ∷ others) → verb ≡ verb_of q
+asks_verb verb q t others asks =
+    let b = begins q asks.front asks.is_query in
+    let whole : verb_text verb ∷ others ≡ verb_text (verb_of q) ∷ (b.0 ++ asks.back) = asks.spelled ∙ ap (λ (l : List (List ℕ)). l ++ asks.back) b.1 in
+    let head : verb_text verb ≡ verb_text (verb_of q) = cc in
+    verb_one verb (verb_of q) head
+
 -- `steps` before a verb whose queries tell no rows
 no_rows_of : (verb : Verb) (line : List ℕ) (others : List (List ℕ)) → ((q : QueryValue) → TellsRows q → verb ≡ verb_of q → ⊥) → words_of line ≡ codes "steps" ∷ verb_text verb ∷ others → (ask : AskValue) → IsOfferedAsk line ask → ⊥
 no_rows_of verb line others none split =
     asks_nothing line (codes "steps") (verb_text verb ∷ others) split (steps_no_query line (verb_text verb ∷ others) split)
-    (λ _ q are. let (asks, tells) = rows_parts q (verb_text verb ∷ others) are in none q tells (same_verb verb q others asks))
+    (λ _ q t are. let (asks, tells) = rows_parts q t (verb_text verb ∷ others) are in none q tells (asks_verb verb q t others asks))
     (λ e. absurd (omega (arith, ap (λ (w : List ℕ). get_or w 0 0) e)))
+    (λ no_steps _. absurd (no_steps refl))
 
 count_tells_no_rows : (q : QueryValue) → TellsRows q → Count ≡ verb_of q → ⊥
 count_tells_no_rows (table select) tells e = absurd cc
@@ -141,3 +158,31 @@ nothing_follows_the_number =
     no_prefix a.2 (subst (λ (t : List ℕ). IsPrefixText t a.2) last three.is_prefix))
     (λ e. absurd (omega (arith, ap (λ (w : List ℕ). get_or w 0 0) e)))
     (λ _ lane from are. omega (arith, ap length (steps_spelled lane from (codes "changes" ∷ others) are)))
+    (λ _ no_changes. absurd (no_changes refl))
+
+-- ---- selectors of path attributes
+-- They stand in their order.
+the_type_stands_last : (ask : AskValue) → IsOfferedAsk (codes "table other 35 through 64500") ask → ⊥
+the_type_stands_last ask is = other_through ask is.is_ask
+
+-- Who passes over them asks for all rows.
+selectors_are_not_passed_over : (q : QueryValue) → IsOfferedAsk (codes "table other 35") (plain q) → ⊥
+unfolding words_of
+selectors_are_not_passed_over q is =
+    let line = codes "table other 35" in
+    let behind : List (List ℕ) = codes "other" ∷ codes "35" ∷ [] in
+    let none = plain_bare (words_of line) (codes "table" ∷ []) behind (query_plain q (words_of line) (asked_words line (plain q) is.is_ask)) (by_one (codes "table") [] refl refl refl tt) (refl, tt) refl in
+    omega (arith, ap length none)
+
+-- A path is asked for four numbers at most.
+five_numbers_are_too_many : (numbers : List ℕ) → IsThroughText (codes "1,2,3,4,5") numbers → ⊥
+unfolding digits
+five_numbers_are_too_many numbers is =
+    let four : List ℕ = 1 ∷ 2 ∷ 3 ∷ 4 ∷ [] in
+    let small : All Small four = All-from_recursion Small four (omega arith, (omega arith, (omega arith, (omega arith, tt)))) in
+    let left = left_of four (codes "1,2,3,4,5") (codes "5") numbers (record { small = small; spelled = refl }) is in
+    omega (arith, left.size_is)
+
+-- A number that two octets don't hold is none of a route target with an AS of four.
+a_number_too_large_names_none : (c : CommunityValue) → IsCommunityText (codes "rt:65536:65536") c → ⊥
+a_number_too_large_names_none = names_none

@@ -66,7 +66,7 @@ abbrev family : List ℕ
 family = codes "family"
 
 -- two words that differ in a byte
-differ_at : (i : ℕ) (a b : List ℕ) → get_or a i 0 ≢ get_or b i 0 → a ≢ b
+pub differ_at : (i : ℕ) (a b : List ℕ) → get_or a i 0 ≢ get_or b i 0 → a ≢ b
 differ_at i a b other same = other (ap (λ (l : List ℕ). get_or l i 0) same)
 
 -- a selector alone doesn't name another word

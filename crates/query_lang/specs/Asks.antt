@@ -1,13 +1,13 @@
 -- What a line asks for, as a value of the wider language.
-use Rattle.std.specs.Prelude.{true, false, None}
-use Rattle.bmp_specs.specs.Query.{QueryValue, table, exact, longest, within, origin}
+use Rattle.std.specs.Prelude.{false, None}
+use Rattle.bmp_specs.specs.Query.{QueryValue, table, count, exact, longest, within, origin}
 use Rattle.ask_specs.specs.Asking.{AskValue, plain, rows, steps}
-use Rattle.ask_specs.specs.Traits.{no_traits}
 use Rattle.query_lang.specs.declared.ask.Ask.{Ask}
-use Rattle.query_lang.specs.declared.ask.Ask.TheVariants.{Query, Steps, Changes}
+use Rattle.query_lang.specs.declared.ask.Ask.TheVariants.{Query, Rows, Count, Changes}
 use Rattle.query_lang.specs.declared.ask.RowQuery.{RowQuery}
 use Rattle.query_lang.specs.declared.ask.RowQuery.TheVariants.{Table, Exact, Longest, Within, Origin}
 use Rattle.query_lang.specs.Queries.{query_value}
+use Rattle.query_lang.specs.TraitValues.{traits_value}
 
 abbrev pub row_query_value : RowQuery → QueryValue
 row_query_value (Table select) = table select
@@ -18,5 +18,6 @@ row_query_value (Origin number select) = origin number select
 
 abbrev pub ask_value : Ask → AskValue
 ask_value (Query query) = plain (query_value query)
-ask_value (Steps query) = rows true false (row_query_value query) no_traits
+ask_value (Rows ask) = rows ask.steps false (row_query_value ask.query) (traits_value ask.traits)
+ask_value (Count select traits) = rows false false (count select) (traits_value traits)
 ask_value (Changes lane from) = steps false lane from None

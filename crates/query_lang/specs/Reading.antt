@@ -1,7 +1,9 @@
 -- How a line is read word by word.
-use Rattle.std.specs.Prelude.{◌≡◌, ℕ, List, [], ◌∷◌, ◌++◌, Option, ◌==◌, IfNone}
+use Rattle.std.specs.Prelude.{◌≡◌, ℕ, ◌≤◌, List, [], ◌∷◌, ◌++◌, length, Option, ◌==◌, Contains, IfNone}
 use Rattle.std.specs.List.{slice_split}
-use Rattle.bmp_specs.specs.Query.{space, IsSelector}
+use Rattle.bmp_specs.specs.Query.{QueryValue, space, AreQueryWords, IsSelector}
+use Rattle.ask_specs.specs.Asking.{AreTraits, AsksForRows}
+use Rattle.ask_specs.specs.Traits.{TraitsValue}
 
 -- the words of a line, which stand between its spaces
 unfoldable pub words_of : List ℕ → List (List ℕ)
@@ -29,3 +31,48 @@ pub record Breaks {A : Type 0} (word : List ℕ) (IsText : List ℕ → A → Ty
   pub others : List (List ℕ)
   pub spelled : words ≡ word ∷ text ∷ others
   pub no_value : (value : A) → IsText text value → ⊥
+
+-- the text is cut at the first such byte
+pub record CutsFirst (byte : ℕ) (text front back : List ℕ) : Type 0 where
+  pub spelled : text ≡ front ++ byte ∷ back
+  pub first : Contains front byte → ⊥
+
+-- ---- from the end
+-- the text is cut at the last such byte
+pub record CutsLast (byte : ℕ) (text front back : List ℕ) : Type 0 where
+  pub spelled : text ≡ front ++ byte ∷ back
+  pub last : Contains back byte → ⊥
+
+-- the words don't end with this one and another, behind one word at least
+abbrev pub Unended : List ℕ → List (List ℕ) → Type 0
+Unended word words = (front : List (List ℕ)) (text : List ℕ) → 1 ≤ length front → words ≡ front ++ word ∷ text ∷ [] → ⊥
+
+-- the words end with the selector of this value, or it isn't named; others stand before it
+pub record TakesLast {A : Type 0} (word : List ℕ) (IsText : List ℕ → A → Type 0) (words : List (List ℕ)) (value : Option A) (others : List (List ℕ)) : Type 0 where
+  pub back : List (List ℕ)
+  pub is_selector : IsSelector word IsText value back
+  pub spelled : words ≡ others ++ back
+  pub unended : IfNone value (Unended word others)
+
+-- the words end with a selector whose text has no value
+pub record BreaksLast {A : Type 0} (word : List ℕ) (IsText : List ℕ → A → Type 0) (words : List (List ℕ)) : Type 0 where
+  pub text : List ℕ
+  pub others : List (List ℕ)
+  pub some : 1 ≤ length others
+  pub spelled : words ≡ others ++ word ∷ text ∷ []
+  pub no_value : (value : A) → IsText text value → ⊥
+
+-- the words end with selectors of path attributes; others stand before them
+pub record EndsWith (traits : TraitsValue) (words others : List (List ℕ)) : Type 0 where
+  pub back : List (List ℕ)
+  pub are_traits : AreTraits traits back
+  pub spelled : words ≡ others ++ back
+
+-- the words are a query for rows, and selectors of path attributes behind it, or none
+pub record AsksWith (query : QueryValue) (traits : TraitsValue) (words : List (List ℕ)) : Type 0 where
+  pub front : List (List ℕ)
+  pub back : List (List ℕ)
+  pub asks : AsksForRows query
+  pub is_query : AreQueryWords query front
+  pub are_traits : AreTraits traits back
+  pub spelled : words ≡ front ++ back

@@ -5,6 +5,7 @@ ghost use Rattle.query_lang.specs.Queries.{query_value};
 
 use crate::query::Query;
 use crate::select::Select;
+use crate::traits::Traits;
 use ip_prefix::{Addr, Prefix};
 
 /// A query that tells rows, each by a line of its own.
@@ -26,14 +27,28 @@ pub enum RowQuery {
     Origin(u32, Select),
 }
 
-/// What a line asks for: a query, or one of the two further forms that are offered.
+/// A query that tells rows, with further words.
+#[derive(Clone, Copy, Debug, PartialEq, Eq)]
+pub struct RowsAsk {
+    /// `steps`: before the rows of each lane the number of its steps is told.
+    pub steps: bool,
+    /// The query.
+    pub query: RowQuery,
+    /// The selectors of path attributes behind it.
+    pub traits: Traits,
+}
+
+/// What a line asks for: a query, or one of the further forms that are offered.
 #[derive(Clone, Copy, Debug, PartialEq, Eq)]
 pub enum Ask {
     /// A query.
     Query(Query),
 
-    /// `steps`, and a query: the rows, and before those of each lane the number of its steps.
-    Steps(RowQuery),
+    /// A query that tells rows, with `steps` in front of it, selectors of path attributes behind it, or both.
+    Rows(RowsAsk),
+
+    /// `count`, and selectors of path attributes behind it.
+    Count(Select, Traits),
 
     /// `changes N S`: all changes on a lane, from the step of number S on.
     Changes { lane: u32, from: u64 },

@@ -3,7 +3,8 @@
 //! A line is words with exactly one space between two of them: a word for what is asked, what is sought,
 //! and selectors in a fixed order, `router N`, `peer KEY`, `view V` and `family F`. Two further forms ask
 //! for what a copy of a lane's rows needs: `steps` before a query that tells rows, and `changes` without a
-//! prefix. No call takes memory.
+//! prefix. Behind a query for rows stand selectors of path attributes, `through L`, `community C` and
+//! `other T`. No call takes memory.
 //!
 //! Proved: `parse` reads a line exactly where it is a query, and as the one query that it is; `parse_ask`
 //! reads it exactly where it asks something that is offered, and a query as that query;
@@ -20,12 +21,16 @@ mod put;
 mod query;
 mod select;
 mod selectors;
+mod trait_texts;
+mod trait_words;
+mod traits;
 mod verb;
 mod words;
 
-pub use ask::{Ask, RowQuery};
+pub use ask::{Ask, RowQuery, RowsAsk};
 pub use bmp_specs::{Family, View};
 pub use line::{parse, parse_ask};
 pub use query::Query;
 pub use select::Select;
+pub use traits::{Asns, Community, Traits};
 pub use wire_io::{Failed, Sink};

@@ -7,7 +7,7 @@ ghost use Rattle.query_lang.specs.Queries.{query_value};
 
 use crate::ask::Ask;
 use crate::forms::read_form;
-use crate::further::{lane_and_step, row_query};
+use crate::further::{lane_and_step, rows_after_steps, sifted_rows};
 use crate::query::Query;
 use crate::verb::Verb;
 use crate::words::split_word;
@@ -27,9 +27,9 @@ pub fn parse(line: &[u8]) -> Option<Query>
     }
 }
 
-/// Reads a line, without its end, as what it asks for: a query, as `parse` reads it, or `steps` and a
-/// query that tells rows, or `changes` with a lane and the number of a step alone. A line asks one thing
-/// at most. None exactly where the line asks nothing that is offered.
+/// Reads a line, without its end, as what it asks for: a query, as `parse` reads it, or a query for rows with
+/// `steps` in front of it or selectors of path attributes behind it, or `changes` with a lane and the number
+/// of a step alone. A line asks one thing at most. None exactly where the line asks nothing that is offered.
 pub fn parse_ask(line: &[u8]) -> Option<Ask>
     ensures some { IfSome result (λ a. IsOfferedAsk line.now (ask_value a)) }
     ensures only { IfSome result (λ a. (v : AskValue) → IsOfferedAsk line.now v → v ≡ ask_value a) }
@@ -41,8 +41,8 @@ pub fn parse_ask(line: &[u8]) -> Option<Ask>
     }
     let (word, rest) = split_word(line);
     if word == b"steps".as_slice() {
-        return match row_query(rest) {
-            Some(rows) => Some(Ask::Steps(rows)),
+        return match rows_after_steps(rest) {
+            Some(rows) => Some(Ask::Rows(rows)),
             None => None,
         };
     }
@@ -52,5 +52,5 @@ pub fn parse_ask(line: &[u8]) -> Option<Ask>
             None => None,
         };
     }
-    None
+    sifted_rows(line)
 }

@@ -1,6 +1,6 @@
-ghost use Rattle.std.specs.Prelude.{◌≡◌, ℕ, List, [], ◌∷◌, ◌==◌, position, IfSome, IfNone, MatchOption};
+ghost use Rattle.std.specs.Prelude.{◌≡◌, ℕ, List, [], ◌∷◌, ◌++◌, ◌==◌, position, Contains, IfSome, IfNone, MatchOption};
 ghost use Rattle.bmp_specs.specs.Query.{space};
-ghost use Rattle.query_lang.specs.Reading.{words_of, further_words, Unnamed};
+ghost use Rattle.query_lang.specs.Reading.{words_of, further_words, CutsFirst, CutsLast, Unended, Unnamed};
 
 // Where the first space of a text is.
 fn first_space(text: &[u8]) -> Option<usize>
@@ -42,4 +42,44 @@ pub(crate) fn take_selector<'a>(word: &[u8], rest: &'a [u8]) -> Option<(&'a [u8]
         return None;
     }
     next_word(behind)
+}
+
+// What stands before the first such byte, and what stands after it.
+pub(crate) fn cut_first(byte: u8, text: &[u8]) -> Option<(&[u8], &[u8])>
+    ensures some { IfSome result (λ cut. CutsFirst byte text.now cut.0.now cut.1.now) }
+    ensures none { IfNone result (Contains text.now byte → ⊥) }
+{
+    match text.iter().position(|b| *b == byte) {
+        Some(at) => Some((&text[..at], &text[at + 1..])),
+        None => None,
+    }
+}
+
+// What stands before the last space, and what stands after it.
+fn cut_last(text: &[u8]) -> Option<(&[u8], &[u8])>
+    ensures some { IfSome result (λ cut. CutsLast space text.now cut.0.now cut.1.now) }
+    ensures none { IfNone result (Contains text.now space → ⊥) }
+{
+    match text.iter().rposition(|b| *b == b' ') {
+        Some(at) => Some((&text[..at], &text[at + 1..])),
+        None => None,
+    }
+}
+
+// The text of a selector at the end of a line, and the words before the selector. None exactly where the line
+// ends with another word, or none stands before the selector.
+pub(crate) fn take_last_selector<'a>(word: &[u8], text: &'a [u8]) -> Option<(&'a [u8], &'a [u8])>
+    ensures some { IfSome result (λ found. words_of text.now ≡ words_of found.1.now ++ word.now ∷ found.0.now ∷ []) }
+    ensures none { IfNone result (Unended word.now (words_of text.now)) }
+{
+    let Some((rest, value)) = cut_last(text) else {
+        return None;
+    };
+    let Some((others, last)) = cut_last(rest) else {
+        return None;
+    };
+    if last != word {
+        return None;
+    }
+    Some((value, others))
 }
