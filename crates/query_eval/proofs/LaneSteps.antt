@@ -1,13 +1,15 @@
 -- The lines of all lanes, lane after lane.
 use Rattle.std.proofs.Common.{◌≡◌, inl, inr, ℕ, zero, suc, ◌+◌, ◌<◌, ◌≤◌, Bool, true, false, List, [], ◌∷◌, ◌++◌, length, drop, Option, Some, Result, Ok, Err, refl, sym, ap, ◌∙◌, subst, arith}
 use mathlib.Core.Bool.{false≢true}
-use Rattle.std.specs.Prelude.{MatchBool, flat_map, slice_index_or, ◌==◌}
+use Rattle.std.specs.Prelude.{MatchBool, flat_map, sum_by, slice_index_or, ◌==◌}
 use Rattle.std.specs.Result.{is_err}
 use Rattle.std.proofs.lemmas.Bool.{eq-eqb}
 use Rattle.std.proofs.lemmas.Bool.Decides.{eqb_tells}
+use Rattle.std.proofs.lemmas.List.Sums.{sum_by-cons}
 use Rattle.std.proofs.lemmas.List.{at_drop_more, drop_all, length-append}
 use Rattle.ask_specs.specs.Asking.{steps}
 use Rattle.ask_specs.specs.AskReply.{AreAskedChangeLines, AreAskedLaneLines}
+use Rattle.ask_specs.specs.Traits.{TraitsValue}
 use Rattle.bmp_specs.specs.Listed.{AreParallel}
 use Rattle.bmp_specs.specs.Query.{QueryValue, changes}
 use Rattle.bmp_specs.specs.QueryReply.{AreChangeLines, AreLaneLines}
@@ -18,7 +20,7 @@ use Rattle.router_tables.specs.Tables.{TablesValue, StandsFor}
 use Rattle.wire_io.specs.declared.sink.Failed.{Failed}
 use Rattle.wire_io.specs.Aside.{Aside}
 use Rattle.wire_io.specs.Faults.{HasCause}
-use Rattle.query_eval.specs.Puts.{WritesLines, PutsLines, AreAskedRows, CountsRows}
+use Rattle.query_eval.specs.Puts.{WritesLines, PutsLines, AreKeptRows, CountsKeptRows}
 use Rattle.query_eval.specs.Replies.{StandsForLane, StandForLanes, AreLanes, CountsAllRows}
 use Rattle.query_eval.proofs.Leading.{LeadsTo, leads_begin, leads_on, leads_failed, leads_end, lines_as, puts_own, no_lines}
 
@@ -154,20 +156,25 @@ module _ {O : Type 0} {faults : O → ℕ} {told : O → Option (List ℕ)} {asi
     cause = record { later = let e = so_far.calm in omega (arith, e); failed = tt; fine = so_far.calm };
   }
 
+-- parts have as many in all as they have together
+pub length_of_parts : {X : Type 0} (parts : List (List X)) → length (flat_map (λ (p : List X). p) parts) ≡ sum_by length parts
+length_of_parts [] = refl
+length_of_parts (p ∷ parts) = length-append p (flat_map (λ q. q) parts) ∙ ap (λ (n : ℕ). length p + n) (length_of_parts parts) ∙ sym (sum_by-cons length p parts)
+
 -- The rows of the first lanes were counted, whichever their entries are.
-pub record CountsSoFar (cut : List (TablesValue × ℕ)) (query : QueryValue) (lane count : ℕ) : Type 0 where
-  pub counted : (lanes : List (List EntryValue)) (parts : List (List RowValue)) → StandForLanes cut lanes → AreParallel (AreAskedRows query) lanes parts
+pub record CountsSoFar (cut : List (TablesValue × ℕ)) (query : QueryValue) (traits : TraitsValue) (lane count : ℕ) : Type 0 where
+  pub counted : (lanes : List (List EntryValue)) (parts : List (List RowValue)) → StandForLanes cut lanes → AreParallel (AreKeptRows query traits) lanes parts
       → told_count (count + length (flat_map (λ p. p) (drop lane parts))) ≡ told_count (length (flat_map (λ p. p) parts))
   pub within : told_count count ≡ count
 
-module _ (cut : List (TablesValue × ℕ)) (query : QueryValue) where
-  pub counts_begin : CountsSoFar cut query 0 0
+module _ (cut : List (TablesValue × ℕ)) (query : QueryValue) (traits : TraitsValue) where
+  pub counts_begin : CountsSoFar cut query traits 0 0
   counts_begin = record {
     counted = λ lanes parts stand are. omega arith;
     within = omega arith;
   }
 
-  pub counts_on : (lane n k m : ℕ) (tables : TablesValue) → lane < length cut → ((d : TablesValue × ℕ) → tables ≡ (slice_index_or cut lane d).0) → CountsSoFar cut query lane n → CountsRows (StandsFor tables) query lane k → m ≡ told_count (n + k) → CountsSoFar cut query (lane + 1) m
+  pub counts_on : (lane n k m : ℕ) (tables : TablesValue) → lane < length cut → ((d : TablesValue × ℕ) → tables ≡ (slice_index_or cut lane d).0) → CountsSoFar cut query traits lane n → CountsKeptRows (StandsFor tables) query traits lane k → m ≡ told_count (n + k) → CountsSoFar cut query traits (lane + 1) m
   counts_on lane n k m tables small tables_are so_far rows more_is = record {
     counted = λ lanes parts stand are.
         let here = slice_index_or parts lane [] in
@@ -184,12 +191,12 @@ module _ (cut : List (TablesValue × ℕ)) (query : QueryValue) where
           let x : TablesValue × ℕ = (tables, 0) in
           subst (λ (t : TablesValue). StandsFor t (slice_index_or lanes lane d)) (sym (tables_are x)) (stand.each lane x d small).tables
 
-  pub counts_end : (lane n : ℕ) → length cut ≤ lane → CountsSoFar cut query lane n → CountsAllRows (StandForLanes cut) query n
+  pub counts_end : (lane n : ℕ) → length cut ≤ lane → CountsSoFar cut query traits lane n → CountsAllRows (StandForLanes cut) query traits n
   counts_end lane n over so_far = record {
-    counts = λ lanes rows stand are.
-        let before = so_far.counted lanes are.parts stand are.each in
-        let none : length (flat_map (λ p. p) (drop lane are.parts)) ≡ 0 = ap length (parts_over are.parts lane (let m = stand.count in let k = are.each.count in omega (arith, m, k, over))) in
-        let all : length rows ≡ length (flat_map (λ p. p) are.parts) = ap length are.all in
+    counts = λ lanes parts stand are.
+        let before = so_far.counted lanes parts stand are in
+        let none : length (flat_map (λ p. p) (drop lane parts)) ≡ 0 = ap length (parts_over parts lane (let m = stand.count in let k = are.count in omega (arith, m, k, over))) in
+        let all : length (flat_map (λ (p : List RowValue). p) parts) ≡ sum_by length parts = length_of_parts parts in
         let within = so_far.within in
         omega (arith, before, none, all, within);
   }

@@ -26,4 +26,6 @@ pub mod LinesThere
 pub mod RepliesThere
 pub mod Batches
 pub mod HistoryLanes
+pub mod TraitLaws
+pub mod KeptPairs
 mod Refuted

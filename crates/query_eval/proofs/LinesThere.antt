@@ -3,6 +3,7 @@ use Rattle.std.proofs.Common.{◌≡◌, ℕ, Bool, true, false, List, [], ◌�
 use Rattle.std.specs.Prelude.{MatchBool, ◌==◌}
 use Rattle.ask_specs.specs.Asking.{steps}
 use Rattle.ask_specs.specs.AskReply.{AreAskedChangeLines, AreAskedLaneLines}
+use Rattle.ask_specs.specs.Traits.{TraitsValue, no_traits}
 use Rattle.bmp_specs.specs.Counts.{counts_of}
 use Rattle.bmp_specs.specs.PeerLines.{idle_line, closed_line, live_line, lane_line}
 use Rattle.bmp_specs.specs.Query.{QueryValue, routers, cut as cut_query, peers, marks, table, count, exact, longest, within, origin, stats, changes, quit}
@@ -20,9 +21,11 @@ use Rattle.std.specs.Map.{keys_of}
 use Rattle.peer_book.specs.Peers.{Peers}
 use Rattle.peer_book.specs.Standing.{StandsForPeers}
 use Rattle.router_tables.specs.Tables.{TablesValue, StandsFor}
-use Rattle.query_eval.specs.Puts.{AreAskedRows}
+use Rattle.query_eval.specs.Puts.{AreKeptRows}
 use Rattle.query_lang.specs.Asks.{ask_value, row_query_value}
-use Rattle.query_lang.specs.declared.ask.Ask.TheVariants.{Steps}
+use Rattle.query_lang.specs.TraitValues.{traits_value}
+use Rattle.query_lang.specs.declared.ask.RowsAsk.{RowsAsk}
+use Rattle.query_lang.specs.declared.ask.Ask.TheVariants.{Rows}
 use Rattle.query_lang.specs.declared.ask.RowQuery.{RowQuery}
 use Rattle.query_lang.specs.declared.ask.RowQuery.TheVariants.{Table, Exact, Longest, Within, Origin}
 use Rattle.query_eval.specs.Replies.{StandsForLane, TellsByLane}
@@ -31,10 +34,10 @@ use Rattle.query_eval.proofs.InOrder.{by_key, by_key_sorted, peers_by_key, table
 use Rattle.query_eval.proofs.MarksTold.{are_mark_lines}
 use Rattle.query_eval.proofs.PeerSteps.{states_ordered}
 use Rattle.query_eval.proofs.PeersTold.{are_peer_lines, all_up}
-use Rattle.query_eval.proofs.RowAnswers.{are_table, are_counted, are_exact, are_longest, are_within, are_origin}
+use Rattle.query_eval.proofs.RowAnswers.{are_table, are_counted, are_exact, are_longest, are_within, are_origin, rows_plain}
 use Rattle.query_eval.proofs.RowChangeLaws.{changes_there}
 use Rattle.query_eval.proofs.StatsTold.{stat_lines_there}
-use Rattle.query_eval.proofs.StepsTold.{steps_there}
+use Rattle.query_eval.proofs.StepsTold.{asked_there}
 
 module _ (lane : ℕ) (tables : TablesValue) (entries : List EntryValue) (stands : StandsFor tables entries) where
   abbrev book : Peers
@@ -78,41 +81,43 @@ module _ (lane : ℕ) (tables : TablesValue) (entries : List EntryValue) (stands
   peers_ordered : IsStrictlySortedBy key_cmp (keys_of book)
   peers_ordered = by_key_sorted key_cmp key_total tables.session.books.peers
 
-  row_lines : (query : QueryValue) (rows : List RowValue) → AreAskedRows query lane entries rows → (lines : List (List ℕ)) × AreRowLines query lane entries lines
-  row_lines query rows are = (map (route_line lane) rows, record { rows = rows; are_rows = are; told = refl })
+  row_lines : (query : QueryValue) (rows : List RowValue) → AreKeptRows query no_traits lane entries rows → (lines : List (List ℕ)) × AreRowLines query lane entries lines
+  row_lines query rows are = (map (route_line lane) rows, record { rows = rows; are_rows = rows_plain query lane entries rows are; told = refl })
 
   lane_lines_there : (query : QueryValue) → TellsByLane query → (lines : List (List ℕ)) × AreLaneLines query lane entries lines
   lane_lines_there routers tells = let h = router_there (state_of entries) in (h.0 ∷ [], (h.0, h.1, refl))
   lane_lines_there cut_query tells = (lane_line lane (length entries) ∷ [], refl)
   lane_lines_there (peers router peer) tells = (state_lines router peer lane (states_in book), are_peer_lines router peer lane entries book ordered book_stands)
   lane_lines_there (marks select) tells = (mark_lines select lane (marks_in book (states_in book)), are_mark_lines select lane entries book ordered book_stands)
-  lane_lines_there (table select) tells = row_lines (table select) _ (are_table select lane in_order entries in_order_stands peers_ordered)
-  lane_lines_there (exact prefix select) tells = row_lines (exact prefix select) _ (are_exact select lane in_order entries in_order_stands peers_ordered prefix)
-  lane_lines_there (longest address select) tells = row_lines (longest address select) _ (are_longest select lane in_order entries in_order_stands peers_ordered address)
-  lane_lines_there (within prefix select) tells = row_lines (within prefix select) _ (are_within select lane in_order entries in_order_stands peers_ordered prefix)
-  lane_lines_there (origin asn select) tells = row_lines (origin asn select) _ (are_origin select lane in_order entries in_order_stands peers_ordered asn)
+  lane_lines_there (table select) tells = row_lines (table select) _ (are_table select no_traits lane in_order entries in_order_stands peers_ordered)
+  lane_lines_there (exact prefix select) tells = row_lines (exact prefix select) _ (are_exact select no_traits lane in_order entries in_order_stands peers_ordered prefix)
+  lane_lines_there (longest address select) tells = row_lines (longest address select) _ (are_longest select no_traits lane in_order entries in_order_stands peers_ordered address)
+  lane_lines_there (within prefix select) tells = row_lines (within prefix select) _ (are_within select no_traits lane in_order entries in_order_stands peers_ordered prefix)
+  lane_lines_there (origin asn select) tells = row_lines (origin asn select) _ (are_origin select no_traits lane in_order entries in_order_stands peers_ordered asn)
   lane_lines_there (stats key) tells = let h = stat_lines_there lane key entries tables.session.books.stats stands.session.books.stats in (h.0, h.1)
   lane_lines_there (changes number from prefix) tells = changes_lines number from prefix
   lane_lines_there (count select) tells = absurd tells
   lane_lines_there quit tells = absurd tells
 
   -- the rows of a query that tells rows
-  query_rows_there : (rows : RowQuery) → (known : List RowValue) × AreAskedRows (row_query_value rows) lane entries known
-  query_rows_there (Table select) = (_, are_table select lane in_order entries in_order_stands peers_ordered)
-  query_rows_there (Exact prefix select) = (_, are_exact select lane in_order entries in_order_stands peers_ordered prefix)
-  query_rows_there (Longest address select) = (_, are_longest select lane in_order entries in_order_stands peers_ordered address)
-  query_rows_there (Within prefix select) = (_, are_within select lane in_order entries in_order_stands peers_ordered prefix)
-  query_rows_there (Origin asn select) = (_, are_origin select lane in_order entries in_order_stands peers_ordered asn)
+  query_rows_there : (rows : RowQuery) (traits : TraitsValue) → (known : List RowValue) × AreKeptRows (row_query_value rows) traits lane entries known
+  query_rows_there (Table select) traits = (_, are_table select traits lane in_order entries in_order_stands peers_ordered)
+  query_rows_there (Exact prefix select) traits = (_, are_exact select traits lane in_order entries in_order_stands peers_ordered prefix)
+  query_rows_there (Longest address select) traits = (_, are_longest select traits lane in_order entries in_order_stands peers_ordered address)
+  query_rows_there (Within prefix select) traits = (_, are_within select traits lane in_order entries in_order_stands peers_ordered prefix)
+  query_rows_there (Origin asn select) traits = (_, are_origin select traits lane in_order entries in_order_stands peers_ordered asn)
 
 pub lines_there : (query : QueryValue) → TellsByLane query → (number : ℕ) (lane : TablesValue × ℕ) (entries : List EntryValue) → StandsForLane lane entries → (lines : List (List ℕ)) × AreLaneLines query number entries lines
 lines_there query tells number lane entries stands = lane_lines_there number lane.0 entries stands.tables query tells
 
-pub steps_lines_there : (rows : RowQuery) (number : ℕ) (lane : TablesValue × ℕ) (entries : List EntryValue) → StandsForLane lane entries → (lines : List (List ℕ)) × AreAskedLaneLines (ask_value (Steps rows)) number entries lines
-steps_lines_there rows number lane entries stands = let known = query_rows_there number lane.0 entries stands.tables rows in steps_there (row_query_value rows) number lane.0 entries stands.tables known.0 known.1
+pub rows_lines_there : (ask : RowsAsk) (number : ℕ) (lane : TablesValue × ℕ) (entries : List EntryValue) → StandsForLane lane entries → (lines : List (List ℕ)) × AreAskedLaneLines (ask_value (Rows ask)) number entries lines
+rows_lines_there ask number lane entries stands =
+    let known = query_rows_there number lane.0 entries stands.tables ask.query (traits_value ask.traits) in
+    asked_there ask.steps (row_query_value ask.query) (traits_value ask.traits) number lane.0 entries stands.tables known.0 known.1
 
 pub changes_lines_there : (asked from : ℕ) (number : ℕ) (lane : TablesValue × ℕ) (entries : List EntryValue) → StandsForLane lane entries → (lines : List (List ℕ)) × AreAskedLaneLines (steps false asked from None) number entries lines
 changes_lines_there asked from number lane entries stands = all_changes_lines number lane.0 entries stands.tables asked from
 
-pub rows_there : (select : SelectValue) (number : ℕ) (lane : TablesValue × ℕ) (entries : List EntryValue) → StandsForLane lane entries → (rows : List RowValue) × AreAskedRows (count select) number entries rows
-rows_there select number lane entries stands =
-    (_, are_counted select number (tables_by_key lane.0) entries (stand_by_key lane.0 entries stands.tables) (by_key_sorted key_cmp key_total lane.0.session.books.peers))
+pub rows_there : (select : SelectValue) (traits : TraitsValue) (number : ℕ) (lane : TablesValue × ℕ) (entries : List EntryValue) → StandsForLane lane entries → (rows : List RowValue) × AreKeptRows (count select) traits number entries rows
+rows_there select traits number lane entries stands =
+    (_, are_counted select traits number (tables_by_key lane.0) entries (stand_by_key lane.0 entries stands.tables) (by_key_sorted key_cmp key_total lane.0.session.books.peers))

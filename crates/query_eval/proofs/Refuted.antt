@@ -1,10 +1,13 @@
 -- Wrong replies, which the clauses of their calls refuse.
-use Rattle.std.proofs.Common.{◌≡◌, ◌<◌, ℕ, zero, suc, true, false, List, [], ◌∷◌, ◌++◌, length, map, flat_map, replicate, slice_index, slice_index_or, codes, None, Some, Err, refl, ap, sym, ◌∙◌, inl, inr, append-nil, arith}
+use Rattle.std.proofs.Common.{◌≡◌, ◌<◌, ℕ, zero, suc, true, false, List, [], ◌∷◌, ◌++◌, length, map, flat_map, replicate, slice_index, slice_index_or, codes, None, Some, Err, refl, ap, sym, ◌∙◌, inl, inr, subst, append-nil, arith}
 use Rattle.std.specs.Fmt.{digits}
+use Rattle.std.specs.Prelude.{IsTrue}
+use Rattle.std.proofs.lemmas.Bool.{false≢true}
+use Rattle.ask_specs.specs.Items.{are_items}
 use Rattle.std.specs.List.{Contains}
 use Rattle.ask_specs.specs.Asking.{rows as rows_asked, steps}
 use Rattle.ask_specs.specs.AskReply.{AsksTraitRow, IsAskReply, told_change}
-use Rattle.ask_specs.specs.Traits.{no_traits}
+use Rattle.ask_specs.specs.Traits.{HasCommunity, StandIn, large, no_traits, plain}
 use Rattle.bmp_specs.specs.declared.peers.View.{View}
 use Rattle.bmp_specs.specs.declared.peers.View.TheVariants.{InPre, InPost}
 use Rattle.bmp_specs.specs.declared.wire.Family.TheVariants.{V4}
@@ -20,10 +23,11 @@ use Rattle.bmp_specs.specs.RouteLine.{route_line}
 use Rattle.bmp_specs.specs.Rows.{RowValue, HasRow}
 use Rattle.bmp_specs.specs.Selection.{SelectValue, IsRowSelected, select_all}
 use Rattle.bmp_specs.specs.TableRows.{AreRows}
-use Rattle.bmp_specs.specs.Values.{AddressValue, AttrsValue, EffectValue, KeyValue, NlriValue, OpenValue, PeerInfoValue, opened, opened_step, up, announce}
-use Rattle.bmp_specs.proofs.ListedOne.{contains_first}
+use Rattle.bmp_specs.specs.Values.{AddressValue, AttrsValue, EffectValue, KeyValue, NlriValue, OpenValue, OtherValue, PeerInfoValue, opened, opened_step, up, announce}
+use Rattle.bmp_specs.proofs.ListedOne.{contains_cases, contains_first}
 use Rattle.bmp_specs.proofs.RowLaws.{none_row, row_from, row_now, row_still, up_now, up_still}
 use Rattle.wire_io.specs.Faults.{HasCause}
+use Rattle.query_eval.proofs.TraitLaws.{stand_decides}
 
 -- the lines of one lane are those of its part
 first_part : (lines : List (List ℕ)) (parts : List (List (List ℕ))) → length parts ≡ 1 → lines ≡ flat_map (λ part. part) parts → lines ≡ slice_index_or parts 0 []
@@ -192,3 +196,44 @@ unfolding digits
 steps_of_the_lane_are_told r =
     let lines : r.lines ≡ [] = first_part r.lines r.are_lines.parts r.are_lines.each.count r.are_lines.all ∙ r.are_lines.each.each 0 [] [] (omega arith) in
     omega (arith, ap (λ (text : List ℕ). slice_index text 5) (r.told ∙ ap (reply 1) lines))
+
+-- ---- rows by path attributes
+-- a route with these communities, and one with this attribute that isn't read
+abbrev with_communities : List ℕ → AttrsValue
+with_communities list = record { origin = None; path = None; hop = None; med = None; pref = None; atomic = false; aggregator = None; communities = list; others = [] }
+
+abbrev with_other : OtherValue → AttrsValue
+with_other other = record { origin = None; path = None; hop = None; med = None; pref = None; atomic = false; aggregator = None; communities = []; others = other ∷ [] }
+
+abbrev at_prefix : NlriValue → AttrsValue → RowValue
+at_prefix nlri set = record { row_key = record { key = peer 1; view = InPre; nlri = nlri }; route = set }
+
+-- one table: the route of the short prefix has the community, that of the long one hasn't
+abbrev with_short : List EffectValue
+with_short = up (peer 1) info ∷ announce (peer 1) InPre short (with_communities (666 ∷ [])) ∷ []
+
+abbrev one_table : List EffectValue
+one_table = with_short ++ announce (peer 1) InPre long (with_communities []) ∷ []
+
+-- Where the route of the longest match lacks the community, `match` tells a shorter prefix whose route has it.
+a_shorter_prefix_takes_its_place : AreRows (AsksTraitRow (longest (address 10 1) select_all) (record { through = None; community = Some (plain 666); other = None }) 0 one_table) one_table (at_prefix short (with_communities (666 ∷ [])) ∷ []) → ⊥
+a_shorter_prefix_takes_its_place rows =
+    let told = (rows.exact (at_prefix short (with_communities (666 ∷ [])))).0 (contains_first (at_prefix short (with_communities (666 ∷ []))) []) in
+    let is_up : IsUp with_short (peer 1) = up_still (up (peer 1) info ∷ []) (announce (peer 1) InPre short (with_communities (666 ∷ []))) (peer 1) (λ n. n) (up_now [] (peer 1) info) in
+    let there : HasRow one_table (at_prefix long (with_communities [])) = row_now with_short (at_prefix long (with_communities [])) is_up in
+    let longer = told.1.0.0.longest_of (at_prefix long (with_communities [])) there refl refl (record { family = refl; agree = refl }) in
+    omega (arith, longer)
+
+-- The large community 1:2:3 is found at the front of a value of 13 octets, which is no list of large communities.
+abbrev malformed : OtherValue
+malformed = record { flags = 192; code = 32; value = 0 ∷ 0 ∷ 0 ∷ 1 ∷ 0 ∷ 0 ∷ 0 ∷ 2 ∷ 0 ∷ 0 ∷ 0 ∷ 3 ∷ 0 ∷ [] }
+
+a_malformed_attribute_has_a_community : HasCommunity (with_other malformed) (large 1 2 3) → ⊥
+a_malformed_attribute_has_a_community h = elim (contains_cases malformed [] h.attribute h.stands) [
+  | inl is ↦ false≢true (subst (λ (other : OtherValue). IsTrue (are_items 12 other.value)) (sym is) h.formed)
+  | inr d ↦ absurd (omega (arith, d.1))
+]
+
+-- The numbers of `through` are found in another order.
+another_order_goes_through : StandIn (64500 ∷ 3356 ∷ []) (3356 ∷ 64500 ∷ []) → ⊥
+another_order_goes_through s = false≢true ((stand_decides (64500 ∷ 3356 ∷ []) (3356 ∷ 64500 ∷ [])).1 s)

@@ -1,18 +1,18 @@
 -- A reply, from its first line to its last, and through a buffer.
-use Rattle.std.proofs.Common.{◌≡◌, ℕ, suc, ◌+◌, Bool, List, [], ◌∷◌, ◌++◌, length, Option, Result, Ok, Err, refl, sym, ap, ◌∙◌, subst, arith}
+use Rattle.std.proofs.Common.{◌≡◌, inl, inr, ℕ, suc, ◌+◌, Bool, List, [], ◌∷◌, ◌++◌, length, Option, Result, Ok, Err, refl, sym, ap, ◌∙◌, subst, arith}
 use mathlib.Core.Bool.{true, false≢true}
-use Rattle.std.specs.Prelude.{sum_by}
+use Rattle.std.specs.Prelude.{sum_by, slice_index_or}
 use Rattle.std.specs.List.{concat}
 use Rattle.std.specs.Result.{is_err}
 use Rattle.std.proofs.lemmas.List.Sums.{sum_by-cons}
 use Rattle.ask_specs.specs.Asking.{AskValue, plain, rows as rows_asked, steps}
-use Rattle.ask_specs.specs.AskReply.{AreAskedLines, IsAskReply}
-use Rattle.ask_specs.specs.Traits.{TraitsValue}
+use Rattle.ask_specs.specs.AskReply.{AreAskedLines, IsAskReply, IsAskedCount}
+use Rattle.ask_specs.specs.Traits.{TraitsValue, no_traits}
 use Rattle.bmp_specs.specs.Lines.{at_line, end_line}
 use Rattle.bmp_specs.specs.Listed.{AreParallel}
 use Rattle.bmp_specs.specs.PeerLines.{count_line}
 use Rattle.bmp_specs.specs.Query.{QueryValue, routers, cut as cut_query, peers, marks, table, count, exact, longest, within, origin, stats, changes, quit}
-use Rattle.bmp_specs.specs.QueryReply.{AreLines, AreReplyLines}
+use Rattle.bmp_specs.specs.QueryReply.{AreLines, IsCountLine}
 use Rattle.bmp_specs.specs.Reply.{reply, told_count}
 use Rattle.bmp_specs.specs.Selection.{SelectValue}
 use Rattle.bmp_specs.specs.Values.{EntryValue}
@@ -25,8 +25,10 @@ use Rattle.wire_io.specs.Faults.{HasCause}
 use Rattle.wire_io.specs.Writes.{Writes}
 use Rattle.wire_io.proofs.Joins.{join, join_failed, more}
 use Rattle.query_eval.specs.Puts.{PutsLines}
-use Rattle.query_eval.specs.Replies.{PutsBuffered, PutsText, StandsForLane, StandForLanes, AreAskLaneLines, AreAskLines, AreLanes, AsksByLane, CountsAllRows}
+use Rattle.query_eval.specs.Replies.{PutsBuffered, PutsText, StandsForLane, StandForLanes, AreAskLaneLines, AreAskLines, AreLanes, AsksByLane, AsksCount, CountsAllRows}
+use Rattle.query_eval.proofs.LaneSteps.{length_of_parts}
 use Rattle.query_eval.proofs.Leading.{one_line, one_line_failed}
+use Rattle.query_eval.proofs.RowAnswers.{rows_kept}
 
 -- the revision of a cut is the number of all entries
 pub revision_is : (cut : List (TablesValue × ℕ)) (lanes : List (List EntryValue)) → StandForLanes cut lanes → total cut ≡ sum_by length lanes
@@ -42,8 +44,16 @@ revision_is cut lanes stand = go (λ number lane es. StandsForLane lane es) (λ 
         sum_by-cons (λ (z : TablesValue × ℕ). z.1) x xs ∙ (λ i. first i + rest i) ∙ sym (sum_by-cons length y ys)
 
 -- the one line of the number of rows
-lines_are : (cut : List (TablesValue × ℕ)) (select : SelectValue) (rows : ℕ) → CountsAllRows (StandForLanes cut) (count select) rows → (lanes : List (List EntryValue)) (lines : List (List ℕ)) → StandForLanes cut lanes → AreReplyLines (count select) lanes lines → lines ≡ count_line rows ∷ []
-lines_are cut select rows all lanes lines stand are = are.told ∙ ap (λ (n : ℕ). count_line n ∷ []) (sym (all.counts lanes are.rows stand are.are_rows))
+lines_are : (cut : List (TablesValue × ℕ)) (select : SelectValue) (traits : TraitsValue) (rows : ℕ) → CountsAllRows (StandForLanes cut) (count select) traits rows → (lanes : List (List EntryValue)) (lines : List (List ℕ)) → StandForLanes cut lanes → IsAskedCount select traits lanes lines → lines ≡ count_line rows ∷ []
+lines_are cut select traits rows all lanes lines stand are = are.told ∙ ap (λ (n : ℕ). count_line n ∷ []) (sym (all.counts lanes are.parts stand are.each))
+
+-- that of a query which names no selector of path attributes
+count_told : (select : SelectValue) (lanes : List (List EntryValue)) (lines : List (List ℕ)) → IsCountLine select lanes lines → IsAskedCount select no_traits lanes lines
+count_told select lanes lines c = record {
+  parts = c.are_rows.parts;
+  each = record { count = c.are_rows.each.count; each = λ k entries rows small. rows_kept (count select) k (slice_index_or lanes k entries) (slice_index_or c.are_rows.parts k rows) (c.are_rows.each.each k entries rows small) };
+  told = c.told ∙ ap (λ (n : ℕ). count_line (told_count n) ∷ []) (ap length c.are_rows.all ∙ length_of_parts c.are_rows.parts);
+}
 
 -- a text of lanes is a reply that these lines make
 abbrev pub IsMadeOf : (List (List EntryValue) → List (List ℕ) → Type 0) → (List (List EntryValue) → List ℕ → Type 0) → Type 0
@@ -95,21 +105,30 @@ by_lanes (steps full lane from prefix) tells lanes lines are = record { parts = 
 
 module _ {O : Type 0} {faults : O → ℕ} {told : O → Option (List ℕ)} {aside : O → Aside} where
   -- the number of rows
-  module _ (cut : List (TablesValue × ℕ)) (select : SelectValue) (rows : ℕ) (all : CountsAllRows (StandForLanes cut) (count select) rows) where
-    pub puts_count : (a b : O) → Writes faults told aside a (count_line rows) (Ok tt) b → PutsLines faults told aside (StandForLanes cut) (AreReplyLines (count select)) a (Ok 1) b
+  module _ (cut : List (TablesValue × ℕ)) (select : SelectValue) (traits : TraitsValue) (rows : ℕ) (all : CountsAllRows (StandForLanes cut) (count select) traits rows) where
+    pub puts_count : (a b : O) → Writes faults told aside a (count_line rows) (Ok tt) b → PutsLines faults told aside (StandForLanes cut) (IsAskedCount select traits) a (Ok 1) b
     puts_count a b w = record {
-      puts = λ lanes lines stand are. one_line a b (count_line rows) lines w (lines_are cut select rows all lanes lines stand are);
+      puts = λ lanes lines stand are. one_line a b (count_line rows) lines w (lines_are cut select traits rows all lanes lines stand are);
       kept = w.kept;
       cause = record { later = w.cause.later; failed = tt; fine = w.cause.fine };
     }
 
-    pub puts_count_failed : (a b : O) (d : Failed) (r : Result ℕ Failed) → Writes faults told aside a (count_line rows) (Err d) b → is_err r ≡ true → PutsLines faults told aside (StandForLanes cut) (AreReplyLines (count select)) a r b
+    pub puts_count_failed : (a b : O) (d : Failed) (r : Result ℕ Failed) → Writes faults told aside a (count_line rows) (Err d) b → is_err r ≡ true → PutsLines faults told aside (StandForLanes cut) (IsAskedCount select traits) a r b
     puts_count_failed a b d (Ok n) w h = absurd (false≢true h)
     puts_count_failed a b d (Err d') w h = record {
-      puts = λ lanes lines stand are. one_line_failed a b (count_line rows) lines d (Err d') w h (lines_are cut select rows all lanes lines stand are);
+      puts = λ lanes lines stand are. one_line_failed a b (count_line rows) lines d (Err d') w h (lines_are cut select traits rows all lanes lines stand are);
       kept = w.kept;
       cause = record { later = w.cause.later; failed = w.cause.failed; fine = tt };
     }
+
+  -- as the lines of what is asked
+  pub puts_asked_count : (cut : List (TablesValue × ℕ)) (ask : AskValue) (select : SelectValue) (traits : TraitsValue) → AsksCount ask select traits → (a b : O) (r : Result ℕ Failed)
+      → PutsLines faults told aside (StandForLanes cut) (IsAskedCount select traits) a r b → PutsLines faults told aside (StandForLanes cut) (AreAskLines ask) a r b
+  puts_asked_count cut ask select traits (inl is) a b r p =
+      let none = subst (λ (t : TraitsValue). PutsLines faults told aside (StandForLanes cut) (IsAskedCount select t) a r b) is.1 p in
+      subst (λ (asked : AskValue). PutsLines faults told aside (StandForLanes cut) (AreAskLines asked) a r b) (sym is.0)
+      (record { puts = λ lanes lines stand are. none.puts lanes lines stand (count_told select lanes lines are); kept = none.kept; cause = none.cause })
+  puts_asked_count cut ask select traits (inr is) a b r p = subst (λ (asked : AskValue). PutsLines faults told aside (StandForLanes cut) (AreAskLines asked) a r b) (sym is) p
 
   -- the lines of a reply that tells of each lane apart
   pub puts_by_lanes : (ask : AskValue) → AsksByLane ask → (cut : List (TablesValue × ℕ)) (a b : O) (r : Result ℕ Failed) → PutsLines faults told aside (StandForLanes cut) (AreLanes (AreAskLaneLines ask)) a r b → PutsLines faults told aside (StandForLanes cut) (AreAskLines ask) a r b

@@ -8,3 +8,4 @@ pub mod RowRuns
 pub mod Rows
 pub mod RowChanges
 pub mod RowSteps
+pub mod TraitTests

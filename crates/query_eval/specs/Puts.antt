@@ -1,9 +1,12 @@
 -- What a call leaves that writes the lines of one lane, and what a call answers that counts its rows.
 use Rattle.std.specs.Prelude.{◌≡◌, ℕ, List, length, map, Option, Result, Ok, Err, IfOk}
 use Rattle.std.specs.List.{concat}
+use Rattle.ask_specs.specs.AskReply.{AsksTraitRow}
+use Rattle.ask_specs.specs.Traits.{TraitsValue}
 use Rattle.bmp_specs.specs.Query.{QueryValue}
 use Rattle.bmp_specs.specs.QueryRows.{AsksRow}
 use Rattle.bmp_specs.specs.Reply.{told_count}
+use Rattle.bmp_specs.specs.RouteLine.{route_line}
 use Rattle.bmp_specs.specs.Rows.{RowValue}
 use Rattle.bmp_specs.specs.Session.{session_effects}
 use Rattle.bmp_specs.specs.TableRows.{AreRows}
@@ -35,12 +38,21 @@ pub record PutsLines {O E : Type 0} (faults : O → ℕ) (told : O → Option (L
 abbrev pub AreAskedRows : QueryValue → ℕ → List EntryValue → List RowValue → Type 0
 AreAskedRows query lane entries rows = AreRows (AsksRow query lane (session_effects entries)) (session_effects entries) rows
 
+-- the rows of a lane with these entries that the query asks for and whose routes have what is asked, and their lines
+abbrev pub AreKeptRows : QueryValue → TraitsValue → ℕ → List EntryValue → List RowValue → Type 0
+AreKeptRows query traits lane entries rows = AreRows (AsksTraitRow query traits lane (session_effects entries)) (session_effects entries) rows
+
+pub record AreKeptLines (query : QueryValue) (traits : TraitsValue) (lane : ℕ) (entries : List EntryValue) (lines : List (List ℕ)) : Type 0 where
+  pub rows : List RowValue
+  pub are_rows : AreKeptRows query traits lane entries rows
+  pub told : lines ≡ map (route_line lane) rows
+
 -- For whichever of these lists of entries, there are the rows of them that the query asks for, and the line of each was
 -- written, or a front of these lines where a write failed.
 abbrev pub PutsRows : {O : Type 0} → (O → ℕ) → (O → Option (List ℕ)) → (O → Aside) → (List EntryValue → Type 0) → QueryValue → ℕ → (RowValue → List ℕ) → O → Result ℕ Failed → O → Type 0
 PutsRows faults told aside Of query lane line old result new = (entries : List EntryValue) → Of entries → (rows : List RowValue) × AreAskedRows query lane entries rows × WritesLines faults told aside old (map line rows) result new
 
--- For whichever of these lists of entries, it is the number of the rows that are asked for, at most the greatest of 64
--- bits.
-pub record CountsRows (Of : List EntryValue → Type 0) (query : QueryValue) (lane count : ℕ) : Type 0 where
-  pub counts : (entries : List EntryValue) (rows : List RowValue) → Of entries → AreAskedRows query lane entries rows → count ≡ told_count (length rows)
+-- For whichever of these lists of entries, it is the number of the rows that are asked for and whose routes have what is
+-- asked, at most the greatest of 64 bits.
+pub record CountsKeptRows (Of : List EntryValue → Type 0) (query : QueryValue) (traits : TraitsValue) (lane count : ℕ) : Type 0 where
+  pub counts : (entries : List EntryValue) (rows : List RowValue) → Of entries → AreKeptRows query traits lane entries rows → count ≡ told_count (length rows)

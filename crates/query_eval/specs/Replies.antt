@@ -1,5 +1,5 @@
 -- What a call leaves that writes a reply, and the replies on the histories that a cut stands for.
-use Rattle.std.specs.Prelude.{◌≡◌, ℕ, zero, suc, List, [], ◌∷◌, length, flat_map, Option, Result}
+use Rattle.std.specs.Prelude.{◌≡◌, ◌⊎◌, ℕ, zero, suc, false, List, [], ◌∷◌, length, flat_map, sum_by, Option, Result}
 use Rattle.std.specs.Io.KnownBytes.{append_known}
 use Rattle.cut_publisher.specs.declared.history.Event.{Event}
 use Rattle.cut_publisher.specs.Cuts.{Stands}
@@ -8,11 +8,13 @@ use Rattle.rib_model.specs.declared.entry.Entry.{Entry}
 use Rattle.rib_model.specs.Entries.{entry_values}
 use Rattle.ask_specs.specs.Asking.{AskValue, TellsRows, plain, rows, steps}
 use Rattle.ask_specs.specs.AskReply.{AreAskedLaneLines, AreFurtherLines, IsAskReply}
+use Rattle.ask_specs.specs.Traits.{TraitsValue, no_traits}
 use Rattle.bmp_specs.specs.Listed.{AreParallel}
 use Rattle.bmp_specs.specs.Query.{QueryValue, count, quit}
-use Rattle.bmp_specs.specs.QueryReply.{AreAllRows, AreLaneLines, AreReplyLines}
+use Rattle.bmp_specs.specs.QueryReply.{AreLaneLines, AreReplyLines}
 use Rattle.bmp_specs.specs.Reply.{told_count}
 use Rattle.bmp_specs.specs.Rows.{RowValue}
+use Rattle.bmp_specs.specs.Selection.{SelectValue}
 use Rattle.bmp_specs.specs.Values.{EntryValue}
 use Rattle.router_tables.specs.Tables.{TablesValue, StandsFor}
 use Rattle.wire_io.specs.declared.sink.Failed.{Failed}
@@ -20,6 +22,7 @@ use Rattle.wire_io.specs.Aside.{Aside, laid_over}
 use Rattle.wire_io.specs.Buffer.{BufferValue}
 use Rattle.wire_io.specs.Faults.{HasCause}
 use Rattle.wire_io.specs.Writes.{Writes}
+use Rattle.query_eval.specs.Puts.{AreKeptRows}
 
 -- For whichever entries, this text of them was written, or a front of it where a write failed.
 pub record PutsText {O E : Type 0} (faults : O → ℕ) (told : O → Option (List ℕ)) (aside : O → Aside) (Of : E → Type 0) (IsText : E → List ℕ → Type 0) (old : O) (result : Result (Unit {0}) Failed) (new : O) : Type 0 where
@@ -77,9 +80,14 @@ pub record AreLanes (Fit : ℕ → List EntryValue → List (List ℕ) → Type 
   pub each : AreParallel Fit lanes parts
   pub all : lines ≡ flat_map (λ part. part) parts
 
--- For whichever entries of each lane, it is the number of all rows that are asked for, at most the greatest of 64 bits.
-pub record CountsAllRows (Of : List (List EntryValue) → Type 0) (query : QueryValue) (number : ℕ) : Type 0 where
-  pub counts : (lanes : List (List EntryValue)) (rows : List RowValue) → Of lanes → AreAllRows query lanes rows → number ≡ told_count (length rows)
+-- For whichever entries of each lane, it is the number of all rows that are asked for and whose routes have what is asked, at
+-- most the greatest of 64 bits.
+pub record CountsAllRows (Of : List (List EntryValue) → Type 0) (query : QueryValue) (traits : TraitsValue) (number : ℕ) : Type 0 where
+  pub counts : (lanes : List (List EntryValue)) (parts : List (List RowValue)) → Of lanes → AreParallel (AreKeptRows query traits) lanes parts → number ≡ told_count (sum_by length parts)
+
+-- what is asked is the number of rows of all lanes, by these selectors
+abbrev pub AsksCount : AskValue → SelectValue → TraitsValue → Type 0
+AsksCount ask select traits = ((ask ≡ plain (count select)) × (traits ≡ no_traits)) ⊎ (ask ≡ rows false false (count select) traits)
 
 -- The reply of the query tells of each lane apart: it isn't the number of rows of all lanes, and the query isn't the end
 -- of the session.

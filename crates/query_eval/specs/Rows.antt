@@ -4,6 +4,7 @@ use Rattle.std.specs.List.{filter, flat_map}
 use Rattle.bmp_specs.specs.declared.peers.View.{View}
 use Rattle.bmp_specs.specs.declared.wire.Family.{Family}
 use Rattle.std.specs.Prelude.{Option}
+use Rattle.ask_specs.specs.Traits.{TraitsValue}
 use Rattle.bmp_specs.specs.Orders.{family_cmp}
 use Rattle.bmp_specs.specs.Query.{QueryValue, table, exact, within}
 use Rattle.bmp_specs.specs.RouteLine.{route_line}
@@ -19,6 +20,7 @@ use Rattle.query_eval.specs.declared.run.Run.{Run}
 use Rattle.query_eval.specs.RowRuns.{holds, in_run}
 use Rattle.query_eval.specs.RowTables.{PeerTableValue, lane_tables}
 use Rattle.query_eval.specs.Selecting.{is_named}
+use Rattle.query_eval.specs.TraitTests.{has_traits}
 
 -- which pairs of a table are asked for
 abbrev pub Asking : Type 0
@@ -39,6 +41,13 @@ none_longer a bits (e ∷ es) = (not (holds e.0.prefix a) || leb e.0.prefix.bits
 -- those of a family with the longest prefix that holds the address
 abbrev pub asks_longest : AddressValue → Option Family → Asking
 asks_longest a family pairs e = is_named family_cmp family e.0.prefix.address.family && (holds e.0.prefix a && none_longer a e.0.prefix.bits pairs)
+
+-- whether the route of a pair has what the selectors of path attributes ask, and of the pairs that are asked for those that do
+abbrev pub passes : TraitsValue → NlriValue × AttrsValue → Bool
+passes traits e = has_traits traits e.1
+
+abbrev pub kept : TraitsValue → Asking → Asking
+kept traits asking pairs e = passes traits e && asking pairs e
 
 -- a route of a table at its place
 abbrev pub row_of : KeyValue → View → NlriValue × AttrsValue → RowValue
@@ -68,5 +77,5 @@ part_query Whole select = table select
 part_query (Exact p) select = exact p select
 part_query (Within p) select = within p select
 
-abbrev pub part_rows : Part → SelectValue → ℕ → TablesValue → List RowValue
-part_rows part select lane tables = lane_rows (asks_run (record { family = select.family; part = part })) select lane tables
+abbrev pub part_rows : Part → SelectValue → TraitsValue → ℕ → TablesValue → List RowValue
+part_rows part select traits lane tables = lane_rows (kept traits (asks_run (record { family = select.family; part = part }))) select lane tables

@@ -1,26 +1,29 @@
 ghost use Rattle.std.specs.Prelude.{◌≡◌, length};
 ghost use Rattle.bmp_specs.specs.Query.{count as count_query};
 ghost use Rattle.bmp_specs.specs.Reply.{told_count};
+ghost use Rattle.query_lang.specs.TraitValues.{traits_value};
+ghost use Rattle.route_runs.specs.Nlri.{with_family};
 ghost use Rattle.router_tables.specs.Tables.{StandsFor};
-ghost use Rattle.query_eval.specs.Puts.{CountsRows};
-ghost use Rattle.query_eval.specs.Rows.{asked_of, asks_run};
+ghost use Rattle.query_eval.specs.Puts.{CountsKeptRows};
+ghost use Rattle.query_eval.specs.Rows.{asked_of, asks_run, kept};
 ghost use Rattle.query_eval.specs.RowTables.{table_value};
 
-use crate::front::count_while_in_run;
+use crate::kept::count_kept;
 use crate::run::{Part, Run};
 use crate::tables::{AskedTables, PeerTable};
+use crate::traits::asks_nothing;
 use bmp_specs::Family;
-use query_lang::Select;
+use query_lang::{Select, Traits};
 use router_tables::RouterTables;
 
-// How many routes of a table a walk finds in a run, or 2^64 - 1 where there are more.
-fn count_run(table: &PeerTable<'_>, run: &Run) -> u64
-    ensures { result ≡ told_count (length (asked_of (asks_run run.now) (table_value table.now))) }
+// How many routes of a table are in a run and have what is asked, or 2^64 - 1 where there are more.
+fn count_run(table: &PeerTable<'_>, run: &Run, traits: &Traits) -> u64
+    ensures { result ≡ told_count (length (asked_of (kept (traits_value traits.now) (asks_run run.now)) (table_value table.now))) }
 {
     let routes = table.table;
     // for the proof: the pairs stand in the order of NLRI
     routes.see_order();
-    count_while_in_run(routes.walk(run.begin()), run)
+    count_kept(routes.walk(run.begin()), run, traits)
 }
 
 // How many routes a table has, or 2^64 - 1 where there are more.
@@ -32,31 +35,47 @@ fn count_all(table: &PeerTable<'_>) -> u64
     table.table.count()
 }
 
-// How many of them are of a family, where one is named.
-fn count_table(table: &PeerTable<'_>, family: Option<Family>) -> u64
-    ensures { result ≡ told_count (length (asked_of (asks_run (record { family = family; part = Part.Whole })) (table_value table.now))) }
+// How many of them are of a family.
+fn count_family(table: &PeerTable<'_>, family: Family) -> u64
+    ensures { result ≡ told_count (length (with_family family (table_value table.now).pairs)) }
 {
-    match family {
-        None => count_all(table),
-        Some(_) => count_run(
-            table,
-            &Run {
-                family,
-                part: Part::Whole,
-            },
-        ),
-    }
+    // for the proof: the pairs stand in the order of NLRI
+    table.table.see_order();
+    table.table.count_of(family)
 }
 
-/// How many rows `table` has of one lane with the same selectors, or 2^64 - 1 where there are more. No row is written.
-pub(crate) fn count_rows(lane: u32, tables: &RouterTables, select: &Select) -> u64
-    ensures { CountsRows (StandsFor tables.now) (count_query select.now) lane result }
+// How many of them are of a family, where one is named, and have what is asked.
+fn count_table(table: &PeerTable<'_>, family: Option<Family>, traits: &Traits) -> u64
+    ensures { result ≡ told_count (length (asked_of (kept (traits_value traits.now) (asks_run (record { family = family; part = Part.Whole }))) (table_value table.now))) }
+{
+    if asks_nothing(traits) {
+        return match family {
+            Some(family) => count_family(table, family),
+            None => count_all(table),
+        };
+    }
+    let run = Run {
+        family,
+        part: Part::Whole,
+    };
+    count_run(table, &run, traits)
+}
+
+/// How many rows `table` has of one lane with the same selectors, of which those whose routes have what is asked, or
+/// 2^64 - 1 where there are more. No row is written.
+pub(crate) fn count_kept_rows(
+    lane: u32,
+    tables: &RouterTables,
+    select: &Select,
+    traits: &Traits,
+) -> u64
+    ensures { CountsKeptRows (StandsFor tables.now) (count_query select.now) (traits_value traits.now) lane result }
 {
     let family = select.family;
     let mut count: u64 = 0;
     let mut asked = AskedTables::new(lane, tables, select);
     while let Some(table) = asked.next() {
-        count = count.saturating_add(count_table(&table, family));
+        count = count.saturating_add(count_table(&table, family, traits));
     }
     count
 }

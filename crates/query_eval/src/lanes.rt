@@ -6,12 +6,13 @@ ghost use Rattle.bmp_specs.specs.Query.{count, cut};
 ghost use Rattle.bmp_specs.specs.QueryReply.{AreLaneLines};
 ghost use Rattle.query_lang.specs.Asks.{ask_value};
 ghost use Rattle.query_lang.specs.Queries.{query_value};
+ghost use Rattle.query_lang.specs.TraitValues.{traits_value};
 ghost use Rattle.router_tables.specs.Tables.{StandsFor};
 ghost use Rattle.query_eval.specs.Puts.{PutsLines};
 ghost use Rattle.query_eval.specs.Replies.{StandsForLane, StandForLanes, AreAskLaneLines, AreLanes, AsksByLane, TellsByLane, CountsAllRows};
 
 use crate::changes::put_changes;
-use crate::count::count_rows;
+use crate::count::count_kept_rows;
 use crate::longest::put_longest;
 use crate::marks::put_marks;
 use crate::origin::put_origin;
@@ -20,10 +21,10 @@ use crate::peers::put_peers;
 use crate::routers::put_routers;
 use crate::run::Part;
 use crate::stats::put_stats;
-use crate::steps::put_steps_rows;
+use crate::steps::put_asked_rows;
 use cut_publisher::Cut;
 use ip_prefix::Prefix;
-use query_lang::{Ask, Query, Select};
+use query_lang::{Ask, Query, Select, Traits};
 use reply_text::put_lane;
 use router_tables::RouterTables;
 use wire_io::{Failed, Sink};
@@ -104,10 +105,12 @@ fn put_ask_lines<O: Sink>(
 {
     match ask {
         Ask::Query(query) => put_lane_lines(out, query, lane, tables, entries),
-        Ask::Steps(rows) => put_steps_rows(out, lane, tables, rows),
+        Ask::Rows(rows) => put_asked_rows(out, lane, tables, rows),
         Ask::Changes { lane: number, from } => {
             put_lane_changes(out, lane, tables, *number, *from, &None)
         }
+        // excluded by the premise: rows are counted over all lanes together
+        Ask::Count(_, _) => unreachable!(),
     }
 }
 
@@ -128,13 +131,13 @@ pub(crate) fn put_lanes<O: Sink>(
     Ok(count)
 }
 
-// How many rows all lanes have that are selected, at most 2^64 - 1.
-pub(crate) fn count_all(cut: &Cut<RouterTables>, select: &Select) -> u64
-    ensures { CountsAllRows (StandForLanes cut.now) (count select.now) result }
+// How many rows all lanes have that are selected and whose routes have what is asked, at most 2^64 - 1.
+pub(crate) fn count_all(cut: &Cut<RouterTables>, select: &Select, traits: &Traits) -> u64
+    ensures { CountsAllRows (StandForLanes cut.now) (count select.now) (traits_value traits.now) result }
 {
     let mut count: u64 = 0;
     for lane in 0..cut.lanes() {
-        count = count.saturating_add(count_rows(lane, cut.value(lane), select));
+        count = count.saturating_add(count_kept_rows(lane, cut.value(lane), select, traits));
     }
     count
 }

@@ -1,9 +1,9 @@
 //! Replies: what our query language is answered on a cut of all lanes.
 //!
 //! A query asks for rows of the tables of the routers (`query_lang`), and its reply is the revision of the
-//! cut, a line for each row, lane after lane, and the number of rows. Before the rows of each lane the number
-//! of its steps may be asked for, and all steps that a lane keeps may be asked for too. A reply takes no
-//! memory and no lock.
+//! cut, a line for each row, lane after lane, and the number of rows. Rows may be asked for by what the path
+//! attributes of their routes have. Before the rows of each lane the number of its steps may be asked for, and
+//! all steps that a lane keeps may be asked for too. A reply takes no memory and no lock.
 //!
 //! Proved: `answer` writes the reply on every history that the cut stands for, or a front of it where a
 //! write failed. `put_told_within` writes the rows that `within P` asks of a lane, each by a line of the
@@ -17,6 +17,7 @@ mod batch;
 mod changes;
 mod count;
 mod front;
+mod kept;
 mod lanes;
 mod longest;
 mod marks;
@@ -33,6 +34,7 @@ mod stats;
 mod steps;
 mod tables;
 mod tells;
+mod traits;
 
 pub use parts::put_told_within;
 pub use reply::answer;

@@ -2,9 +2,10 @@ ghost use Rattle.std.specs.Prelude.{◌≡◌, ◌<◌};
 ghost use Rattle.bmp_specs.specs.Query.{longest as longest_query};
 ghost use Rattle.bmp_specs.specs.QueryReply.{AreLaneLines};
 ghost use Rattle.route_runs.specs.Longest.{IsLongest};
+ghost use Rattle.query_lang.specs.TraitValues.{traits_value};
 ghost use Rattle.router_tables.specs.Tables.{StandsFor};
-ghost use Rattle.query_eval.specs.Puts.{PutsLines, WritesLines};
-ghost use Rattle.query_eval.specs.Rows.{asked_of, asks_longest, lines_of};
+ghost use Rattle.query_eval.specs.Puts.{AreKeptLines, PutsLines, WritesLines};
+ghost use Rattle.query_eval.specs.Rows.{asked_of, asks_longest, kept, lines_of};
 ghost use Rattle.query_eval.specs.RowTables.{table_value};
 
 use crate::asks::{Asks, put_rows};
@@ -15,18 +16,20 @@ use crate::tells::AsRoutes;
 use bmp_specs::Family;
 use ip_prefix::{Addr, Prefix};
 use prefix_trie::Steps;
-use query_lang::Select;
+use query_lang::{Select, Traits};
 use route_runs::RouteTable;
 use router_tables::RouterTables;
 use std::marker::Brand;
 use std::sync::ledger::{Blank, Ledger};
 use wire_io::{Failed, Sink};
 
-/// The routes of a family, where one is named, whose prefix is the longest of their table that holds an address.
+/// The routes of a family, where one is named, whose prefix is the longest of all their table that holds an address, of which
+/// those that have what is asked.
 #[derive(Drop)]
-pub(crate) struct LongestRows {
+pub(crate) struct LongestRows<'a> {
     address: Addr,
     family: Option<Family>,
+    traits: &'a Traits,
 }
 
 // The longest prefix of a table that holds the address.
@@ -52,11 +55,11 @@ fn put_found<O: Sink>(
     out: &mut O,
     lane: u32,
     table: &PeerTable<'_>,
-    asks: &LongestRows,
+    asks: &LongestRows<'_>,
     found: Option<Prefix>,
 ) -> Result<u64, Failed>
     requires { IsLongest asks.now.address table.now.table.now found }
-    ensures { WritesLines O.faults O.told O.aside out.old (lines_of lane (asked_of (asks_longest asks.now.address asks.now.family) (table_value table.now))) result out.new }
+    ensures { WritesLines O.faults O.told O.aside out.old (lines_of lane (asked_of (kept (traits_value asks.now.traits.now) (asks_longest asks.now.address asks.now.family)) (table_value table.now))) result out.new }
 {
     // for the proof: the pairs stand in the order of NLRI
     table.table.see_order();
@@ -66,14 +69,14 @@ fn put_found<O: Sink>(
                 family: asks.family,
                 part: Part::Exact(prefix),
             };
-            put_run(out, lane, table, &run, &AsRoutes)
+            put_run(out, lane, table, &run, asks.traits, &AsRoutes)
         }
         None => Ok(0),
     }
 }
 
-impl Asks for LongestRows {
-    ghost asking = { λ asks. asks_longest asks.address asks.family };
+impl<'a> Asks for LongestRows<'a> {
+    ghost asking = { λ asks. kept (traits_value asks.traits.now) (asks_longest asks.address asks.family) };
 
     fn put_asked<O: Sink>(
         &self,
@@ -86,8 +89,28 @@ impl Asks for LongestRows {
     }
 }
 
-/// Writes the lines of `match A` of one lane, and answers how many. A table is searched for the longest prefix, and
-/// the rows of that very prefix are told.
+/// Writes the lines of `match A` of one lane, of which those whose routes have what is asked, and answers how many. A table
+/// is searched for the longest prefix of all its rows, and rows of that very prefix are told: where they lack what is asked
+/// none is told, and no shorter one in its place.
+pub(crate) fn put_kept_longest<O: Sink>(
+    out: &mut O,
+    lane: u32,
+    tables: &RouterTables,
+    address: &Addr,
+    select: &Select,
+    traits: &Traits,
+) -> Result<u64, Failed>
+    ensures { PutsLines O.faults O.told O.aside (StandsFor tables.now) (AreKeptLines (longest_query address.now select.now) (traits_value traits.now) lane) out.old result out.new }
+{
+    let rows = LongestRows {
+        address: *address,
+        family: select.family,
+        traits,
+    };
+    put_rows(out, lane, tables, select, &rows)
+}
+
+/// Writes the lines of `match A` of one lane, and answers how many.
 pub(crate) fn put_longest<O: Sink>(
     out: &mut O,
     lane: u32,
@@ -97,9 +120,6 @@ pub(crate) fn put_longest<O: Sink>(
 ) -> Result<u64, Failed>
     ensures { PutsLines O.faults O.told O.aside (StandsFor tables.now) (AreLaneLines (longest_query address.now select.now) lane) out.old result out.new }
 {
-    let rows = LongestRows {
-        address: *address,
-        family: select.family,
-    };
-    put_rows(out, lane, tables, select, &rows)
+    let traits = Traits::none();
+    put_kept_longest(out, lane, tables, address, select, &traits)
 }

@@ -1,28 +1,31 @@
 ghost use Rattle.bmp_specs.specs.Query.{origin as origin_query};
 ghost use Rattle.bmp_specs.specs.QueryReply.{AreLaneLines};
+ghost use Rattle.query_lang.specs.TraitValues.{traits_value};
 ghost use Rattle.router_tables.specs.Tables.{StandsFor};
-ghost use Rattle.query_eval.specs.Puts.{PutsLines};
-ghost use Rattle.query_eval.specs.Rows.{asks_origin};
+ghost use Rattle.query_eval.specs.Puts.{AreKeptLines, PutsLines};
+ghost use Rattle.query_eval.specs.Rows.{asks_origin, kept};
 
 use crate::asks::{Asks, put_rows};
-use crate::front::put_while_in_run;
+use crate::kept::put_kept;
 use crate::run::{Part, Run};
 use crate::tables::PeerTable;
 use crate::tells::AsRoutes;
 use bmp_specs::Family;
-use query_lang::Select;
+use query_lang::{Select, Traits};
 use router_tables::RouterTables;
 use wire_io::{Failed, Sink};
 
-/// The routes of a family, where one is named, whose path has an origin AS (RFC 6811, section 2).
+/// The routes of a family, where one is named, whose path has an origin AS (RFC 6811, section 2), of which those that have
+/// what is asked.
 #[derive(Drop)]
-pub(crate) struct OriginRows {
+pub(crate) struct OriginRows<'a> {
     asn: u32,
     family: Option<Family>,
+    traits: &'a Traits,
 }
 
-impl Asks for OriginRows {
-    ghost asking = { λ asks. asks_origin asks.asn asks.family };
+impl<'a> Asks for OriginRows<'a> {
+    ghost asking = { λ asks. kept (traits_value asks.traits.now) (asks_origin asks.asn asks.family) };
 
     fn put_asked<O: Sink>(
         &self,
@@ -37,18 +40,39 @@ impl Asks for OriginRows {
         let routes = table.table;
         // for the proof: the pairs stand in the order of NLRI
         routes.see_order();
-        put_while_in_run(
+        put_kept(
             out,
             lane,
             table,
             routes.origin(self.asn, run.begin()),
             &run,
+            self.traits,
             &AsRoutes,
         )
     }
 }
 
-/// Writes the lines of `origin N` of one lane, and answers how many. Each table is read by its index of origins.
+/// Writes the lines of `origin N` of one lane, of which those whose routes have what is asked, and answers how many. Each
+/// table is read by its index of origins.
+pub(crate) fn put_kept_origin<O: Sink>(
+    out: &mut O,
+    lane: u32,
+    tables: &RouterTables,
+    asn: u32,
+    select: &Select,
+    traits: &Traits,
+) -> Result<u64, Failed>
+    ensures { PutsLines O.faults O.told O.aside (StandsFor tables.now) (AreKeptLines (origin_query asn select.now) (traits_value traits.now) lane) out.old result out.new }
+{
+    let rows = OriginRows {
+        asn,
+        family: select.family,
+        traits,
+    };
+    put_rows(out, lane, tables, select, &rows)
+}
+
+/// Writes the lines of `origin N` of one lane, and answers how many.
 pub(crate) fn put_origin<O: Sink>(
     out: &mut O,
     lane: u32,
@@ -58,9 +82,6 @@ pub(crate) fn put_origin<O: Sink>(
 ) -> Result<u64, Failed>
     ensures { PutsLines O.faults O.told O.aside (StandsFor tables.now) (AreLaneLines (origin_query asn select.now) lane) out.old result out.new }
 {
-    let rows = OriginRows {
-        asn,
-        family: select.family,
-    };
-    put_rows(out, lane, tables, select, &rows)
+    let traits = Traits::none();
+    put_kept_origin(out, lane, tables, asn, select, &traits)
 }

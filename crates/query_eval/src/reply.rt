@@ -1,45 +1,47 @@
 //! The reply to what is asked.
 ghost use Rattle.std.specs.Prelude.{◌≡◌, ◌≢◌, [], List, length, OnOk, IfSome, IsNone};
 ghost use Rattle.ask_specs.specs.Asking.{plain};
-ghost use Rattle.ask_specs.specs.AskReply.{IsAskReply};
+ghost use Rattle.ask_specs.specs.AskReply.{IsAskReply, IsAskedCount};
+ghost use Rattle.ask_specs.specs.Traits.{no_traits};
 ghost use Rattle.bmp_specs.specs.Query.{count, quit};
-ghost use Rattle.bmp_specs.specs.QueryReply.{AreReplyLines};
 ghost use Rattle.cut_publisher.specs.declared.history.Event.{Event};
 ghost use Rattle.query_lang.specs.Asks.{ask_value};
 ghost use Rattle.query_lang.specs.Queries.{query_value};
+ghost use Rattle.query_lang.specs.TraitValues.{traits_value};
 ghost use Rattle.rib_model.specs.declared.entry.Entry.{Entry};
 ghost use Rattle.wire_io.specs.Faults.{HasCause};
 ghost use Rattle.query_eval.specs.Puts.{PutsLines};
-ghost use Rattle.query_eval.specs.Replies.{PutsBuffered, PutsText, PutsReply, StandForLanes, StandsForHistory, AreAskLines, AsksByLane, IsAskReplyOn, TellsByLane};
+ghost use Rattle.query_eval.specs.Replies.{PutsBuffered, PutsText, PutsReply, StandForLanes, StandsForHistory, AreAskLines, AsksByLane, AsksCount, IsAskReplyOn, TellsByLane};
 
 use crate::lanes::{count_all, put_lanes};
 use cut_publisher::Cut;
-use query_lang::{Ask, Query, Select};
+use query_lang::{Ask, Query, Select, Traits};
 use reply_text::{put_at, put_count, put_end};
 use router_tables::RouterTables;
 use wire_io::{BufferedSink, Failed, Puts, Sink, through_buffer};
 
-// The selectors of a query that asks for the number of rows alone.
-fn counted(query: &Query) -> Option<Select>
+// The selectors of a query that asks for the number of rows alone; it names none of path attributes.
+fn counted(query: &Query) -> Option<(Select, Traits)>
     requires { query_value query.now ≢ quit }
-    ensures some { IfSome result (λ select. query_value query.now ≡ count select) }
+    ensures some { IfSome result (λ r. (query_value query.now ≡ count r.0) × (traits_value r.1 ≡ no_traits)) }
     ensures none { IsNone result → TellsByLane (query_value query.now) }
 {
     match query {
-        Query::Count(select) => Some(*select),
+        Query::Count(select) => Some((*select, Traits::none())),
         _ => None,
     }
 }
 
 // The same of what is asked.
-fn count_asked(ask: &Ask) -> Option<Select>
+fn count_asked(ask: &Ask) -> Option<(Select, Traits)>
     requires { ask_value ask.now ≢ plain quit }
-    ensures some { IfSome result (λ select. ask_value ask.now ≡ plain (count select)) }
+    ensures some { IfSome result (λ r. AsksCount (ask_value ask.now) r.0 (traits_value r.1)) }
     ensures none { IsNone result → AsksByLane (ask_value ask.now) }
 {
     match ask {
         Ask::Query(query) => counted(query),
-        Ask::Steps(_) => None,
+        Ask::Rows(_) => None,
+        Ask::Count(select, traits) => Some((*select, *traits)),
         Ask::Changes { .. } => None,
     }
 }
@@ -49,10 +51,11 @@ fn put_row_count<O: Sink>(
     out: &mut O,
     cut: &Cut<RouterTables>,
     select: &Select,
+    traits: &Traits,
 ) -> Result<u64, Failed>
-    ensures { PutsLines O.faults O.told O.aside (StandForLanes cut.now) (AreReplyLines (count select.now)) out.old result out.new }
+    ensures { PutsLines O.faults O.told O.aside (StandForLanes cut.now) (IsAskedCount select.now (traits_value traits.now)) out.old result out.new }
 {
-    put_count(out, count_all(cut, select))?;
+    put_count(out, count_all(cut, select, traits))?;
     Ok(1)
 }
 
@@ -62,7 +65,7 @@ fn put_lines<O: Sink>(out: &mut O, cut: &Cut<RouterTables>, ask: &Ask) -> Result
     ensures { PutsLines O.faults O.told O.aside (StandForLanes cut.now) (AreAskLines (ask_value ask.now)) out.old result out.new }
 {
     match count_asked(ask) {
-        Some(select) => put_row_count(out, cut, &select),
+        Some(counted) => put_row_count(out, cut, &counted.0, &counted.1),
         None => put_lanes(out, cut, ask),
     }
 }

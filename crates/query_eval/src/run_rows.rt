@@ -1,41 +1,53 @@
 ghost use Rattle.std.specs.Prelude.{map};
+ghost use Rattle.query_lang.specs.TraitValues.{traits_value};
 ghost use Rattle.query_eval.specs.Puts.{WritesLines};
-ghost use Rattle.query_eval.specs.Rows.{asked_of, asks_run};
+ghost use Rattle.query_eval.specs.Rows.{asked_of, asks_run, kept};
 ghost use Rattle.query_eval.specs.RowTables.{table_value};
 
 use crate::asks::Asks;
-use crate::front::put_while_in_run;
+use crate::kept::put_kept;
 use crate::run::Run;
 use crate::tables::PeerTable;
 use crate::tells::TellsRow;
+use query_lang::Traits;
 use wire_io::{Failed, Sink};
 
-/// Writes the lines of a table's rows that are in a run, and answers how many. It looks at no row but these and the
-/// first after them.
+/// Writes the lines of a table's rows that are in a run and whose routes have what is asked, and answers how many. It looks
+/// at no row but those of the run and the first after them.
 pub(crate) fn put_run<O: Sink, T: TellsRow>(
     out: &mut O,
     lane: u32,
     table: &PeerTable<'_>,
     run: &Run,
+    traits: &Traits,
     tells: &T,
 ) -> Result<u64, Failed>
-    ensures { WritesLines O.faults O.told O.aside out.old (map (T.line tells.now lane) (asked_of (asks_run run.now) (table_value table.now))) result out.new }
+    ensures { WritesLines O.faults O.told O.aside out.old (map (T.line tells.now lane) (asked_of (kept (traits_value traits.now) (asks_run run.now)) (table_value table.now))) result out.new }
 {
     let routes = table.table;
     // for the proof: the pairs stand in the order of NLRI
     routes.see_order();
-    put_while_in_run(out, lane, table, routes.walk(run.begin()), run, tells)
+    put_kept(
+        out,
+        lane,
+        table,
+        routes.walk(run.begin()),
+        run,
+        traits,
+        tells,
+    )
 }
 
-/// The rows of a run, each told in this way.
+/// The rows of a run whose routes have what is asked, each told in this way.
 #[derive(Drop)]
 pub(crate) struct ToldRun<'a, T> {
     pub(crate) run: Run,
+    pub(crate) traits: &'a Traits,
     pub(crate) tells: &'a T,
 }
 
 impl<'a, T: TellsRow> Asks for ToldRun<'a, T> {
-    ghost asking = { λ told. asks_run told.run };
+    ghost asking = { λ told. kept (traits_value told.traits.now) (asks_run told.run) };
 
     ghost line = { λ told. T.line told.tells.now };
 
@@ -45,6 +57,6 @@ impl<'a, T: TellsRow> Asks for ToldRun<'a, T> {
         lane: u32,
         table: &PeerTable<'_>,
     ) -> Result<u64, Failed> {
-        put_run(out, lane, table, &self.run, self.tells)
+        put_run(out, lane, table, &self.run, self.traits, self.tells)
     }
 }

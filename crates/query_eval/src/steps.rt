@@ -1,19 +1,18 @@
-//! The number of a lane's steps before its rows.
-ghost use Rattle.std.specs.Prelude.{◌≡◌, true, false};
+//! The rows that a query with further words asks of a lane, and the number of the lane's steps before them.
+ghost use Rattle.std.specs.Prelude.{◌≡◌, false};
 ghost use Rattle.ask_specs.specs.AskReply.{AreAskedRowLines, selection};
-ghost use Rattle.ask_specs.specs.Traits.{no_traits};
-ghost use Rattle.bmp_specs.specs.QueryReply.{AreRowLines};
 ghost use Rattle.query_lang.specs.Asks.{row_query_value};
+ghost use Rattle.query_lang.specs.TraitValues.{traits_value};
 ghost use Rattle.router_tables.specs.Tables.{StandsFor};
-ghost use Rattle.query_eval.specs.Puts.{PutsLines, WritesLines};
+ghost use Rattle.query_eval.specs.Puts.{AreKeptLines, PutsLines, WritesLines};
 ghost use Rattle.query_eval.specs.RowSteps.{total_lines};
 
-use crate::longest::put_longest;
-use crate::origin::put_origin;
-use crate::parts::put_part;
+use crate::longest::put_kept_longest;
+use crate::origin::put_kept_origin;
+use crate::parts::put_kept_part;
 use crate::run::Part;
 use crate::selection::is_lane_named;
-use query_lang::{RowQuery, Select};
+use query_lang::{RowQuery, RowsAsk, Select, Traits};
 use reply_text::put_steps;
 use router_tables::RouterTables;
 use wire_io::{Failed, Sink};
@@ -36,50 +35,59 @@ fn put_total<O: Sink>(
     out: &mut O,
     lane: u32,
     tables: &RouterTables,
+    with_steps: bool,
     router: Option<u32>,
 ) -> Result<u64, Failed>
-    ensures { WritesLines O.faults O.told O.aside out.old (total_lines router lane tables.now.steps.total) result out.new }
+    ensures { WritesLines O.faults O.told O.aside out.old (total_lines with_steps router lane tables.now.steps.total) result out.new }
 {
-    if !is_lane_named(router, lane) {
+    if !with_steps || !is_lane_named(router, lane) {
         return Ok(0);
     }
     put_steps(out, lane, tables.recent().total())?;
     Ok(1)
 }
 
-// Writes the lines of the rows that are asked for of one lane, and answers how many.
+// Writes the lines of the rows that are asked for of one lane, of which those whose routes have what is asked, and answers
+// how many.
 fn put_query_rows<O: Sink>(
     out: &mut O,
     lane: u32,
     tables: &RouterTables,
     rows: &RowQuery,
+    traits: &Traits,
 ) -> Result<u64, Failed>
-    ensures { PutsLines O.faults O.told O.aside (StandsFor tables.now) (AreRowLines (row_query_value rows.now) lane) out.old result out.new }
+    ensures { PutsLines O.faults O.told O.aside (StandsFor tables.now) (AreKeptLines (row_query_value rows.now) (traits_value traits.now) lane) out.old result out.new }
 {
     match rows {
-        RowQuery::Table(select) => put_part(out, lane, tables, Part::Whole, select),
+        RowQuery::Table(select) => { put_kept_part(out, lane, tables, Part::Whole, select, traits) }
         RowQuery::Exact(prefix, select) => {
-            put_part(out, lane, tables, Part::Exact(*prefix), select)
+            put_kept_part(out, lane, tables, Part::Exact(*prefix), select, traits)
         }
-        RowQuery::Longest(address, select) => put_longest(out, lane, tables, address, select),
+        RowQuery::Longest(address, select) => {
+            put_kept_longest(out, lane, tables, address, select, traits)
+        }
         RowQuery::Within(prefix, select) => {
-            put_part(out, lane, tables, Part::Within(*prefix), select)
+            put_kept_part(out, lane, tables, Part::Within(*prefix), select, traits)
         }
-        RowQuery::Origin(asn, select) => put_origin(out, lane, tables, *asn, select),
+        RowQuery::Origin(asn, select) => {
+            put_kept_origin(out, lane, tables, *asn, select, traits)
+        }
     }
 }
 
-/// Writes the lines of `steps` and a query of one lane: how many steps it made, where the selectors keep the lane, and its
-/// rows; and answers how many lines these are. Steps and rows are of the same tables.
-pub(crate) fn put_steps_rows<O: Sink>(
+/// Writes the lines of a query of one lane, with `steps` in front of it or selectors of path attributes behind it: how many
+/// steps the lane made, where that is asked for and the selectors keep the lane, and its rows; and answers how many lines
+/// these are. Steps and rows are of the same tables.
+pub(crate) fn put_asked_rows<O: Sink>(
     out: &mut O,
     lane: u32,
     tables: &RouterTables,
-    rows: &RowQuery,
+    ask: &RowsAsk,
 ) -> Result<u64, Failed>
-    ensures { PutsLines O.faults O.told O.aside (StandsFor tables.now) (AreAskedRowLines true false (row_query_value rows.now) no_traits lane) out.old result out.new }
+    ensures { PutsLines O.faults O.told O.aside (StandsFor tables.now) (AreAskedRowLines ask.now.steps false (row_query_value ask.now.query) (traits_value ask.now.traits) lane) out.old result out.new }
 {
-    let count = put_total(out, lane, tables, selectors(rows).router)?;
-    let told = put_query_rows(out, lane, tables, rows)?;
+    let router = selectors(&ask.query).router;
+    let count = put_total(out, lane, tables, ask.steps, router)?;
+    let told = put_query_rows(out, lane, tables, &ask.query, &ask.traits)?;
     Ok(count.saturating_add(told))
 }

@@ -1,5 +1,5 @@
-use Rattle.query_eval.proofs.RowAnswers.{puts_part}
+use Rattle.query_eval.proofs.RowAnswers.{part_plain}
 use Rattle.query_eval.proofs.parts.put_part.Goals as goal
 
 pub returns : goal.returns
-returns g c = puts_part c.args.part c.args.select.now c.args.lane c.args.tables.now c.put_told.ensures.ordered c.args.out.now c.put_told.new.out c.put_told.result c.put_told.ensures.writes
+returns g c = part_plain c.args.tables.now c.args.part c.args.select.now c.args.lane _ _ _ (rw c.none-traits.ensures at c.put_kept_part.ensures)
