@@ -103,7 +103,7 @@ steps_table = record {
       spelled = refl;
     };
   };
-  is_offered = refl;
+  is_offered = tt;
 }
 
 steps_table_is_no_error : (lanes : ℕ) (history : History) (heard : Heard) → IsHeard (codes "steps table") heard → IsAnswer lanes history heard error_query → ⊥

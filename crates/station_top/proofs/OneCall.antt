@@ -1,9 +1,11 @@
 -- Words are one call at most: its command with what it is asked with, and its reading.
 use Rattle.std.proofs.Common.{◌≡◌, ℕ, Bool, true, false, cond, List, [], ◌∷◌, Option, None, Some, codes, inl, inr, refl, sym, ap, ◌∙◌, subst, arith}
 use Rattle.std.specs.List.{join_with_byte}
+use Rattle.std.specs.Option.{option_map}
 use Rattle.std.specs.Str.{bytes_eq}
 use Rattle.ask_specs.specs.Asking.{AskValue, plain as plain_query, rows, steps}
 use Rattle.ask_specs.specs.Offer.{IsOfferedAsk}
+use Rattle.ask_specs.specs.Traits.{CommunityValue, TraitsValue, plain as short, large, extended}
 use Rattle.ask_specs.proofs.OfferLaws.{offers_one}
 use Rattle.bmp_specs.specs.AddressText.{IsAddressText}
 use Rattle.bmp_specs.specs.NumberText.{IsNumberText}
@@ -15,11 +17,15 @@ use Rattle.ip_prefix.proofs.OneValue.{address_one, prefix_one}
 use Rattle.query_lang.specs.Asks.{ask_value, row_query_value}
 use Rattle.query_lang.specs.Queries.{query_value}
 use Rattle.query_lang.specs.declared.ask.Ask.{Ask}
-use Rattle.query_lang.specs.declared.ask.Ask.TheVariants.{Query as Asked, Steps, Changes as AllChanges}
+use Rattle.query_lang.specs.declared.ask.Ask.TheVariants.{Query as Asked, Rows as AsRows, Count as AsCount, Changes as AllChanges}
 use Rattle.query_lang.specs.declared.ask.RowQuery.{RowQuery}
 use Rattle.query_lang.specs.declared.ask.RowQuery.TheVariants.{Table as ByTable, Exact as ByExact, Longest as ByLongest, Within as ByWithin, Origin as ByOrigin}
 use Rattle.query_lang.specs.declared.query.Query.{Query}
 use Rattle.query_lang.specs.declared.query.Query.TheVariants.{Routers, Cut, Peers, Marks, Table, Count, Exact, Longest, Within, Origin, Stats, Changes, Quit}
+use Rattle.query_lang.specs.declared.traits.Community.{Community}
+use Rattle.query_lang.specs.declared.traits.Community.TheVariants.{Plain, Large, Extended}
+use Rattle.query_lang.specs.declared.traits.Traits.{Traits}
+use Rattle.query_lang.specs.TraitValues.{community_value, traits_value}
 use Rattle.query_lang.proofs.OneNumber.{number_one}
 use Rattle.station_doors.specs.declared.listening.Log.{Log}
 use Rattle.station_doors.specs.declared.listening.Log.TheVariants.{Routers as OfRouters}
@@ -77,23 +83,47 @@ rows_at (within prefix select) = ByWithin prefix select
 rows_at (origin number select) = ByOrigin number select
 rows_at query = ByTable select_all
 
-rows_back : (q : RowQuery) → rows_at (row_query_value q) ≡ q
-unfolding rows_at
-rows_back (ByTable select) = refl
-rows_back (ByExact prefix select) = refl
-rows_back (ByLongest address select) = refl
-rows_back (ByWithin prefix select) = refl
-rows_back (ByOrigin number select) = refl
+community_at : CommunityValue → Community
+community_at (short number) = Plain number
+community_at (large a b c) = Large a b c
+community_at (extended octets) = Extended octets
+
+community_back : (c : Option Community) → option_map community_at (option_map community_value c) ≡ c
+unfolding community_at
+community_back None = refl
+community_back (Some (Plain number)) = refl
+community_back (Some (Large a b c)) = refl
+community_back (Some (Extended octets)) = refl
+
+traits_at : TraitsValue → Traits
+traits_at t = record { through = t.through; community = option_map community_at t.community; other = t.other }
+
+traits_back : (t : Traits) → traits_at (traits_value t) ≡ t
+unfolding traits_at
+traits_back t = ap (λ (c : Option Community). record { through = t.through; community = c; other = t.other }) (community_back t.community)
+
+rows_ask_at : Bool → RowQuery → TraitsValue → Ask
+rows_ask_at with_steps query traits = AsRows (record { steps = with_steps; query = query; traits = traits_at traits })
 
 ask_at : AskValue → Ask
 ask_at (plain_query query) = Asked (query_at query)
-ask_at (rows with_steps full query traits) = Steps (rows_at query)
+ask_at (rows with_steps full (count select) traits) = AsCount select (traits_at traits)
+ask_at (rows with_steps full query traits) = rows_ask_at with_steps (rows_at query) traits
 ask_at (steps full lane from prefix) = AllChanges lane from
+
+rows_ask_back : (with_steps : Bool) (query : RowQuery) (t : Traits) → ask_at (rows with_steps false (row_query_value query) (traits_value t)) ≡ AsRows (record { steps = with_steps; query = query; traits = t })
+unfolding ask_at rows_ask_at rows_at
+rows_ask_back s (ByTable select) t = ap (λ (u : Traits). AsRows (record { steps = s; query = ByTable select; traits = u })) (traits_back t)
+rows_ask_back s (ByExact prefix select) t = ap (λ (u : Traits). AsRows (record { steps = s; query = ByExact prefix select; traits = u })) (traits_back t)
+rows_ask_back s (ByLongest address select) t = ap (λ (u : Traits). AsRows (record { steps = s; query = ByLongest address select; traits = u })) (traits_back t)
+rows_ask_back s (ByWithin prefix select) t = ap (λ (u : Traits). AsRows (record { steps = s; query = ByWithin prefix select; traits = u })) (traits_back t)
+rows_ask_back s (ByOrigin number select) t = ap (λ (u : Traits). AsRows (record { steps = s; query = ByOrigin number select; traits = u })) (traits_back t)
 
 ask_back : (a : Ask) → ask_at (ask_value a) ≡ a
 unfolding ask_at
 ask_back (Asked query) = ap (λ (q : Query). Asked q) (query_back query)
-ask_back (Steps query) = ap (λ (q : RowQuery). Steps q) (rows_back query)
+ask_back (AsRows ask) = rows_ask_back ask.steps ask.query ask.traits
+ask_back (AsCount select traits) = ap (λ (t : Traits). AsCount select t) (traits_back traits)
 ask_back (AllChanges lane from) = refl
 
 same_ask : (a b : Ask) → ask_value a ≡ ask_value b → a ≡ b

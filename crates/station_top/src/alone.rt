@@ -26,7 +26,7 @@ use crate::take::{Taken, take_input};
 use crate::{Status, Waiting};
 use bmp_message::{BodyReading, LenientReading, Reading};
 use bmp_specs::Cause;
-use query_lang::{Ask, Query, RowQuery};
+use query_lang::{Ask, Query, RowQuery, RowsAsk};
 use relay_out::{EmitFault, emit};
 use reply_text::put_stop;
 use station_doors::Yard;
@@ -186,7 +186,12 @@ fn status_relayed_by(relay: Result<(), EmitFault>, cause: Cause) -> Status
 fn reads_origins(ask: &Ask) -> bool {
     match ask {
         Ask::Query(Query::Origin(_, _)) => true,
-        Ask::Steps(RowQuery::Origin(_, _)) => true,
+        Ask::Rows(
+            RowsAsk {
+                query: RowQuery::Origin(_, _),
+                ..
+            },
+        ) => true,
         _ => false,
     }
 }
