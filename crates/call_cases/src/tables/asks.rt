@@ -105,7 +105,8 @@ fn asks_quit(ask: &Ask) -> bool
 {
     match ask {
         Ask::Query(query) => is_quit(query),
-        Ask::Steps(_) => false,
+        Ask::Rows(_) => false,
+        Ask::Count(_, _) => false,
         Ask::Changes { .. } => false,
     }
 }
