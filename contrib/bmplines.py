@@ -6,12 +6,15 @@ and gives the reply of a query.
 """
 import collections
 import functools
+import ipaddress
 import re
 import socket
 import time
 
 # Of a query, and of a line of a reply: a BGP message of 65,535 bytes can't give as much text.
 MOST_LINE = 1024
+# The greatest AS number, and the greatest part of a large community.
+MOST_NUMBER = 2**32 - 1
 MOST_REPLY_LINE = 1 << 20
 PIECE = 1 << 18
 # How long to wait before a connection is tried for again.
@@ -21,6 +24,8 @@ PAUSE = 1
 SELECTORS = ("router", "peer", "view", "family")
 VIEWS = ("adj-in-pre", "adj-in-post", "adj-out-pre", "adj-out-post", "loc")
 SELECTED = ("marks", "table", "count", "prefix", "match", "within", "origin")
+# The selectors of path attributes, which stand behind these, in their order.
+ATTRIBUTE_SELECTORS = ("through", "community", "other")
 
 ROUTE_FIELDS = ("next", "origin", "path", "med", "pref", "atomic", "agg", "comm", "other")
 SEGMENTS = {"{": ("}", "set"), "(": (")", "confed-sequence"), "[": ("]", "confed-set")}
@@ -114,6 +119,25 @@ def view_of(text):
 def community_of(text):
     high, colon, low = text.partition(":")
     if not colon or max(number(high), number(low)) > 0xFFFF:
+        raise ValueError(text)
+    return text
+
+
+def asked_community(text):
+    """A community of any kind, as a query asks for it (RFC 1997, RFC 8092, RFC 4360)."""
+    if re.fullmatch("[0-9a-f]{16}", text):
+        return text
+    first, *rest = text.split(":")
+    if first in ("rt", "ro") and len(rest) == 2:
+        # Behind an AS of two octets stands a number of four, behind an AS of four or an address one of two.
+        is_address = "." in rest[0]
+        administrator = int(ipaddress.IPv4Address(rest[0])) if is_address else number(rest[0])
+        most = MOST_NUMBER if administrator <= 0xFFFF and not is_address else 0xFFFF
+        fits = administrator <= MOST_NUMBER and number(rest[1]) <= most
+    else:
+        most = MOST_NUMBER if len(rest) == 2 else 0xFFFF
+        fits = len(rest) in (1, 2) and all(number(one) <= most for one in (first, *rest))
+    if not fits:
         raise ValueError(text)
     return text
 
@@ -407,9 +431,26 @@ def lane_of(name, routers):
     raise NoSuchRouter(f"no connected router has the name {name}")
 
 
+def without_attributes(query):
+    """The words of a query without its selectors of path attributes, and these by their names."""
+    words, found = query.split(" "), {}
+    for name in reversed(ATTRIBUTE_SELECTORS):
+        if len(words) >= 3 and words[-2] == name:
+            found[name] = words[-1]
+            words = words[:-2]
+    return words, found
+
+
+def with_attributes(query, wanted):
+    """The query with these selectors of path attributes, by their names, where it has no others of the same name."""
+    words, found = without_attributes(query)
+    found = wanted | found
+    return " ".join([*words, *(word for name in ATTRIBUTE_SELECTORS if name in found for word in (name, found[name]))])
+
+
 def selectors_of(query):
-    """The selectors at the end of a query, as text for another one."""
-    words = query.removeprefix("steps ").split(" ")
+    """The selectors in a query but those of path attributes, as text for another one."""
+    words = without_attributes(query.removeprefix("steps "))[0]
     found = []
     if words[0] in SELECTED or words[0] == "peers":
         while len(words) >= 3 and words[-2] in SELECTORS:

@@ -2,7 +2,7 @@
 import ipaddress
 import socket
 
-from bmplines import UnknownLine
+from bmplines import MOST_NUMBER, UnknownLine, community_of, with_attributes, without_attributes
 
 WIDTHS = {4: 32, 6: 128}
 BITS = {str(bits): bits for bits in range(129)}
@@ -41,18 +41,41 @@ def has_as(path, asn):
     return False
 
 
+def is_told(community):
+    """Whether a route's line tells such communities: those of RFC 1997."""
+    try:
+        return bool(community_of(community))
+    except ValueError:
+        return False
+
+
 class Filter:
-    """Keeps a route that has all of what is asked for."""
+    """Keeps a route that has all of what is asked for. What a query has words for is asked of the station too, which then tells
+    fewer routes: one of the communities, and one AS of the path."""
 
     def __init__(self, communities=(), ases=(), next_hops=(), longer=None):
-        self.communities = set(communities)
+        self.communities = {community for community in communities if is_told(community)}
+        # What no line tells only the station can look for, of one community.
+        self.untold = sorted(set(communities) - self.communities)
         self.ases = ases
         self.next_hops = [str(ipaddress.ip_address(hop)) for hop in next_hops]
         self.longer = longer
 
     @property
     def keeps_all(self):
-        return not (self.communities or self.ases or self.next_hops) and self.longer is None
+        return not (self.communities or self.untold or self.ases or self.next_hops) and self.longer is None
+
+    def can_ask(self, query):
+        """Whether the query has room for what no line tells."""
+        return not self.untold or len(self.untold) == 1 and "community" not in without_attributes(query)[1]
+
+    def asked(self, query):
+        """The query for fewer routes, among which are all that are kept."""
+        # A greater number stands in no path, and in no query.
+        ases = [str(asn) for asn in self.ases if asn <= MOST_NUMBER]
+        communities = [*self.untold, *sorted(self.communities)]
+        wanted = zip(("through", "community"), (ases, communities))
+        return with_attributes(query, {name: values[0] for name, values in wanted if values})
 
     def keeps(self, route):
         if self.longer is not None and prefix_in(route)[2] <= self.longer:

@@ -36,6 +36,8 @@ def routers_by_their_names():
                               (("changes", "a b\u00e9", "0", PREFIX), [f"changes 3 0 {PREFIX}"]), (("changes r1 0 " + PREFIX,), [f"changes 0 0 {PREFIX}"]),
                               (("changes", "r1", "0"), ["changes 0 0"]), (("steps", "table", "router", "r1"), ["steps table router 0"]),
                               (("--longer-than", "8", "table", "router", "r1"), ["table router 0"]),
+                              (("--community", "64500:1", "table", "router", "r1"), ["table router 0 community 64500:1"]),
+                              (("table", "router", "r1", "other", "35"), ["table router 0 other 35"]),
                               (("--wait-complete", "table", "router", "r1"), ["marks router 0", "table router 0"]),
                               (("--wait-complete", "steps", "table", "router", "r1"), ["marks router 0", "steps table router 0"]),
                               (("--policy", KEY, "router", "r1"), [f"marks router 0 peer {KEY}", f"table router 0 peer {KEY}", f"marks router 0 peer {KEY}"]),

@@ -70,8 +70,56 @@ def routes_are_filtered():
                   ("--only", "invalid", "table"), ("--own-as", "1", "table"), ("--longer-than", "8", "--follow", "0", "10.0.0.0/8"),
                   ("--policy", KEY, "view loc"), ("--policy", KEY, "--longer-than", "8"), ("--policy", KEY, "--vrps", "x"),
                   ("--assume-complete", "table"), ("--sql",), ("--station", "a"), ("--sql", "--station", "a'b"),
+                  ("--community", "1:2:3:4", "table"), ("--community", "4294967296:0:0", "table"), ("--community", "rt:65536:65536", "table"),
+                  ("--community", "rt:1.2.3.4:65536", "table"), ("--community", "rt:1.2.3:1", "table"), ("--community", "so:1:1", "table"),
+                  ("--community", "rt:1", "table"), ("--community", "0002FBF400000064", "table"), ("--community", "0:0:", "table"),
+                  ("--community", "1:2:3", "--community", "rt:1:2", "table"), ("--community", "1:2:3", "table", "community", "1:2"),
+                  ("--community", "1:2", "count"), ("--community", "1:2", "steps", "table"),
                   ("--sql", "--station", "a", "peers"), ("--sql", "--station", "a", "--json"), ("--sql", "--station", "x" * 33)):
         bmpq(*words, status=2)
+
+
+@test
+def the_station_filters():
+    """What a query has words for is asked, and of the routes that come those are kept that have the rest."""
+    other = ROUTE.replace(b"comm=-", b"comm=64500:1,64500:2") % (KEY.encode(), b"10.1.0.0/16", b"64500_{3356,174}")
+    rows = [ROUTE % (KEY.encode(), b"10.0.0.0/8", b"64500"), other]
+    queries = []
+
+    def say(query):
+        queries.append(query)
+        return reply(b"mark 0 %s loc 4 complete" % KEY.encode()) if query.startswith("marks") else reply(*(rows if query[:5] in ("table", "match") else []))
+
+    one, two = ("--community", "64500:1"), ("--community", "64500:2")
+    with Stub(say) as stub:
+        for words, wanted, kept in (
+                ((*one, "table"), ["table community 64500:1"], [other]),
+                ((*two, *one, "table"), ["table community 64500:1"], [other]),
+                (("--as-in-path", 3356, "table", "router", "0", "view", "loc"), ["table router 0 view loc through 3356"], [other]),
+                (("--as-in-path", 3356, "--as-in-path", 64500, *one, "table"), ["table through 3356 community 64500:1"], [other]),
+                (("--as-in-path", 3356, "--as-in-path", 64501, "table"), ["table through 3356"], []),
+                (("--as-in-path", 4294967296, "table"), ["table"], []),
+                (("--as-in-path", 4294967296, "--as-in-path", 3356, "table"), ["table through 3356"], []),
+                ((*one, "--community", "64500:1:2", "match", "10.1.0.1"), ["match 10.1.0.1 community 64500:1:2"], [other]),
+                (("--community", "64500:1:2", "table"), ["table community 64500:1:2"], rows),
+                (("--community", "rt:64500:100", "table"), ["table community rt:64500:100"], rows),
+                (("--community", "ro:192.0.2.7:65535", "table"), ["table community ro:192.0.2.7:65535"], rows),
+                (("--community", "rt:65536:65535", "table"), ["table community rt:65536:65535"], rows),
+                (("--community", "0002fbf400000064", "table"), ["table community 0002fbf400000064"], rows),
+                ((*one, "table", "community", "64500:2"), ["table community 64500:2"], [other]),
+                (("--as-in-path", 174, "table", "community", "64500:2", "other", "35"), ["table through 174 community 64500:2 other 35"], [other]),
+                ((*one, "table through 174 other 35"), ["table through 174 community 64500:1 other 35"], [other]),
+                ((*one, "match", "10.1.0.1", "view", "loc"), ["match 10.1.0.1 view loc community 64500:1"], [other]),
+                (("--longer-than", 8, "table"), ["table"], [other]),
+                (("--wait-complete", *one, "table", "family", "4"), ["marks family 4", "table family 4 community 64500:1"], [other]),
+                (("--wait-complete", "table", "family", "4", "through", "1,2", "other", "35"), ["marks family 4", "table family 4 through 1,2 other 35"], rows)):
+            queries.clear()
+            found = bmpq("--port", stub.port, *words).splitlines()
+            same(queries, wanted, words)
+            same(found, [b"at 7", *kept, b"end %d" % len(kept)], words)
+        queries.clear()
+        bmpq("--port", stub.port, "--sql", "--station", "s", *one)
+        same(queries[-1], "table community 64500:1", "--sql")
 
 
 # Origin validation.
