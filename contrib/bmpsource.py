@@ -1,7 +1,22 @@
 """What is asked: a station, or a recorded stream by the program's `replay`. It is no part of what is proved."""
+import re
 import subprocess
 
 from bmplines import Station, StationError, Unreachable, check_reply, parse
+
+SECONDS = 5  # for what the program says of a line
+
+
+def complaint(program, query):
+    """What the program says of a line that is no query: which word isn't understood, and what may stand there. Nothing where
+    there is no such program here, or where it would answer the line, as one that is newer than the station may."""
+    words = [program, "--check-options", "replay", *query.split(" ")]
+    try:
+        said = subprocess.run(words, stdin=subprocess.DEVNULL, capture_output=True, timeout=SECONDS)
+    except (OSError, subprocess.SubprocessError):
+        return ""
+    found = re.search(rb"^bmpstation: (.+)$", said.stderr, re.M)
+    return f": {found[1].decode(errors='replace')}" if said.returncode == 2 and found else ""
 
 
 class Live:
@@ -28,7 +43,10 @@ class Live:
 
     def ask(self, query):
         self.open()
-        yield from self.station.ask(query)
+        try:
+            yield from self.station.ask(query)
+        except StationError as fault:
+            raise StationError(f"{fault}{complaint(self.given.program, query)}") from None
 
 
 class Recorded:

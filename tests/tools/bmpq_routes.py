@@ -385,6 +385,22 @@ def what_a_policy_does_to_attributes_that_are_not_read():
             same(len(bmpq(*words, "--only", "dropped").splitlines()), 4, "others")
 
 
+# A line that is no query.
+
+
+@test
+def bmpq_of_no_query():
+    """The program says which word isn't understood, where there is one that knows the line for none."""
+    with Stub(lambda query: b"error query\n") as stub:
+        for words, program, wanted in (
+                ("steps count", harness.PROGRAM, "error query: count: not understood after `steps` (see bmpstation-query(7))"),
+                ("table view nowhere", harness.PROGRAM, "error query: view nowhere: not understood after `table` (see bmpstation-query(7))"),
+                ("steps count", "no/such/program", "error query"),
+                ("table", harness.PROGRAM, "error query")):
+            done = run([CONTRIB / "bmpq", "--port", stub.port, "--timeout", 5, "--program", program, words])
+            same((done.returncode, done.stderr.decode()), (1, f"bmpq: {wanted}\n"), words)
+
+
 # Faults of the station.
 
 
