@@ -56,6 +56,9 @@ pub further-append : (fields others : List (List ℕ)) → further (fields ++ ot
 further-append [] others = refl
 further-append (field ∷ fields) others = ap (λ (l : List ℕ). 32 ∷ (field ++ l)) (further-append fields others) ∙ sym (append_assoc (32 ∷ field) (spaced fields) (further others))
 
+pub spaced-append : (fields others : List (List ℕ)) → spaced (fields ++ others) ≡ spaced fields ++ spaced others
+spaced-append fields others = flat_map-append (λ (piece : List ℕ). 32 ∷ piece) fields others
+
 -- a line in two parts
 pub line_parts : (word : List ℕ) (fields others : List (List ℕ)) → line word (fields ++ others) ≡ (word ++ spaced fields) ++ further others
 line_parts word fields others = ap (λ (l : List ℕ). word ++ l) (further-append fields others) ∙ sym (append_assoc word (spaced fields) (further others))
@@ -109,7 +112,7 @@ path_split some segments i s h is e =
           ∙ ap (λ (l : List ℕ). more_pieces false front ++ l) (append_assoc (more_pieces some here) (more_pieces (goes_on some here) back) end),
     )
 
-has_piece-append : (ps qs : List (List ℕ)) → has_piece (ps ++ qs) ≡ goes_on (has_piece ps) qs
+pub has_piece-append : (ps qs : List (List ℕ)) → has_piece (ps ++ qs) ≡ goes_on (has_piece ps) qs
 has_piece-append [] qs = refl
 has_piece-append (p ∷ ps) qs = refl
 
@@ -138,3 +141,8 @@ pub route_parts : (row : RowValue) → further (route_fields row) ≡ spaced (ke
 route_parts row =
     let place : List (List ℕ) = key_text row.row_key.key ∷ view_text row.row_key.view ∷ prefix_text row.row_key.nlri.prefix ∷ [] in
     further-append place (attribute_fields row.route ++ id_fields row.row_key.nlri.id) ∙ ap (λ (l : List ℕ). spaced place ++ l) (further-append (attribute_fields row.route) (id_fields row.row_key.nlri.id))
+
+pub open_route_parts : (row : RowValue) → spaced (route_fields row) ≡ spaced (key_text row.row_key.key ∷ view_text row.row_key.view ∷ prefix_text row.row_key.nlri.prefix ∷ []) ++ (spaced (attribute_fields row.route) ++ spaced (id_fields row.row_key.nlri.id))
+open_route_parts row =
+    let place : List (List ℕ) = key_text row.row_key.key ∷ view_text row.row_key.view ∷ prefix_text row.row_key.nlri.prefix ∷ [] in
+    spaced-append place (attribute_fields row.route ++ id_fields row.row_key.nlri.id) ∙ ap (λ (l : List ℕ). spaced place ++ l) (spaced-append (attribute_fields row.route) (id_fields row.row_key.nlri.id))

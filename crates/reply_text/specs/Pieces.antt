@@ -8,7 +8,7 @@ use Rattle.bmp_specs.specs.EscapedText.{escaped_text}
 use Rattle.bmp_specs.specs.NumberText.{number_text}
 use Rattle.bmp_specs.specs.PeerLines.{named_field}
 use Rattle.bmp_specs.specs.PeerText.{key_text}
-use Rattle.bmp_specs.specs.RouteLine.{underscore, text_or_absent, hop_text, origin_text, path_text, yes_or_no, aggregator_text, comma_list, community_text, others_text}
+use Rattle.bmp_specs.specs.RouteLine.{absent, comma, underscore, text_or_absent, hop_text, origin_text, path_text, yes_or_no, aggregator_text, comma_list, community_text, others_text}
 use Rattle.bmp_specs.specs.Values.{AttrsValue, KeyValue, PeerInfoValue}
 
 -- pieces, each after the mark
@@ -43,6 +43,21 @@ empty_word false = codes "empty"
 abbrev pub link_of : Bool → List ℕ
 link_of true = underscore ∷ []
 link_of false = []
+
+-- texts from a place on, after `,` where one stands before them
+abbrev pub more_texts : Bool → List (List ℕ) → List ℕ
+more_texts true texts = behind comma texts
+more_texts false texts = join_with_byte comma texts
+
+-- what stands before a text, where another stands before it or not
+abbrev pub comma_of : Bool → List ℕ
+comma_of true = comma ∷ []
+comma_of false = []
+
+-- what ends a list of texts, which has one or none
+abbrev pub absent_word : Bool → List ℕ
+absent_word true = []
+absent_word false = absent
 
 -- the fields of the next hop, ORIGIN and AS_PATH
 abbrev pub mandatory_text : AttrsValue → List ℕ

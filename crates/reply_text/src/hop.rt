@@ -33,14 +33,14 @@ pub(crate) fn v6_text(bytes: &[u8]) -> ShortText
 }
 
 // The two digits of a byte.
-fn digits_of(byte: u8) -> [u8; 2]
+pub(crate) fn digits_of(byte: u8) -> [u8; 2]
     ensures { result ≡ slice_index hex_digits (byte / 16) ∷ slice_index hex_digits (byte % 16) ∷ [] }
 {
     [DIGITS[(byte / 16) as usize], DIGITS[(byte % 16) as usize]]
 }
 
 // Writes the bytes in hexadecimal.
-fn put_hex<O: Sink>(out: &mut O, bytes: &[u8]) -> Result<(), Failed>
+pub(crate) fn put_hex<O: Sink>(out: &mut O, bytes: &[u8]) -> Result<(), Failed>
     ensures { Writes O.faults O.told O.aside out.old (hex_text bytes.now) result out.new }
 {
     for byte in bytes {

@@ -294,6 +294,22 @@ pub(crate) fn id(line: &mut [u8; ROOM], at: usize, id: Option<u32>) -> usize
     }
 }
 
+// Puts the field of the path identifier, where there is one.
+#[inline(always)]
+fn id_field(line: &mut [u8; ROOM], at: usize, id: Option<u32>) -> usize
+    requires { at + 14 ≤ 1024 }
+    ensures whole { take result line.new ≡ take at line.old ++ spaced (id_fields id) }
+    ensures short { result ≤ at + 14 }
+{
+    match id {
+        None => at,
+        Some(id) => {
+            let next = word(line, at, b" id=");
+            number(line, next, id)
+        }
+    }
+}
+
 // The numbers of a path that is one sequence of at most 24 numbers.
 #[inline(always)]
 pub(crate) fn one_sequence(path: &Option<AsPath>) -> Option<&[u32]>
@@ -448,6 +464,31 @@ pub(crate) fn fields(
     let next = prefix(line, at, &nlri.prefix);
     let next = attributes(line, next, attrs, hop_bytes, numbers);
     id(line, next, nlri.id)
+}
+
+// Puts the prefix, the path attributes and the path identifier of a line.
+#[inline(always)]
+pub(crate) fn open_fields(
+    line: &mut [u8; ROOM],
+    at: usize,
+    nlri: &Nlri,
+    attrs: &Attrs,
+    hop_bytes: &[u8],
+    numbers: &[u32],
+) -> usize
+    requires room { at + 869 ≤ 1024 }
+    requires hop { attrs.now.hop ≡ Some hop_bytes.now }
+    requires one { length hop_bytes.now ≢ 4 → length hop_bytes.now ≡ 16 }
+    requires path { text_or_absent path_text attrs.now.path ≡ join_with_byte 95 (map number_text numbers.now) }
+    requires few { length numbers.now ≤ 24 }
+    requires few_communities { length attrs.now.communities ≤ 16 }
+    requires few_others { length attrs.now.others ≤ 8 }
+    ensures whole { take result line.new ≡ take at line.old ++ (prefix_text nlri.now.prefix ++ (spaced (attribute_fields attrs.now) ++ spaced (id_fields nlri.now.id))) }
+    ensures short { result ≤ 1024 }
+{
+    let next = prefix(line, at, &nlri.prefix);
+    let next = attributes(line, next, attrs, hop_bytes, numbers);
+    id_field(line, next, nlri.id)
 }
 
 // The key of a row of a table.

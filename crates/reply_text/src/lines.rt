@@ -3,6 +3,7 @@ ghost use Rattle.bmp_specs.specs.ChangeLines.{missed_line, steps_line};
 ghost use Rattle.bmp_specs.specs.Lines.{at_line, end_line, further, why_text, cause_fields, stop_line};
 ghost use Rattle.bmp_specs.specs.NumberText.{number_text};
 ghost use Rattle.bmp_specs.specs.PeerLines.{count_line, lane_line};
+ghost use Rattle.reply_text.specs.Pieces.{spaced};
 ghost use Rattle.wire_io.specs.Writes.{Writes};
 
 use bmp_specs::{Cause, Why};
@@ -106,26 +107,34 @@ fn why_word(why: Why) -> &'static [u8]
     }
 }
 
+// Writes the fields of a cause.
+pub(crate) fn put_cause_fields<O: Sink>(out: &mut O, cause: Cause) -> Result<(), Failed>
+    ensures { Writes O.faults O.told O.aside out.old (spaced (cause_fields cause)) result out.new }
+{
+    let mut buffer = Buffer::new();
+    match cause {
+        Cause::Ended => write_all(out, b" ended"),
+        Cause::Terminated => write_all(out, b" terminated"),
+        Cause::CutShort { offset } => {
+            let offset = buffer.format(offset).as_bytes();
+            write_pieces(out, &[b" cutshort ", offset])
+        }
+        Cause::Broken { offset, why } => {
+            let offset = buffer.format(offset).as_bytes();
+            write_pieces(out, &[b" broken ", offset, b" ", why_word(why)])
+        }
+        Cause::ReadFault { offset } => {
+            let offset = buffer.format(offset).as_bytes();
+            write_pieces(out, &[b" readfault ", offset])
+        }
+        Cause::Full => write_all(out, b" full"),
+    }
+}
+
 // Writes the fields of a cause and the end of the line.
 pub(crate) fn put_cause<O: Sink>(out: &mut O, cause: Cause) -> Result<(), Failed>
     ensures { Writes O.faults O.told O.aside out.old (further (cause_fields cause)) result out.new }
 {
-    let mut buffer = Buffer::new();
-    match cause {
-        Cause::Ended => write_all(out, b" ended\n"),
-        Cause::Terminated => write_all(out, b" terminated\n"),
-        Cause::CutShort { offset } => {
-            let offset = buffer.format(offset).as_bytes();
-            write_pieces(out, &[b" cutshort ", offset, b"\n"])
-        }
-        Cause::Broken { offset, why } => {
-            let offset = buffer.format(offset).as_bytes();
-            write_pieces(out, &[b" broken ", offset, b" ", why_word(why), b"\n"])
-        }
-        Cause::ReadFault { offset } => {
-            let offset = buffer.format(offset).as_bytes();
-            write_pieces(out, &[b" readfault ", offset, b"\n"])
-        }
-        Cause::Full => write_all(out, b" full\n"),
-    }
+    put_cause_fields(out, cause)?;
+    write_all(out, b"\n")
 }

@@ -1,14 +1,16 @@
-ghost use Rattle.std.specs.Prelude.{◌≡◌, ◌≤◌, ◌++◌, codes, length, map};
+ghost use Rattle.std.specs.Prelude.{◌≡◌, ◌≤◌, ◌++◌, [], ◌∷◌, codes, length, map};
 ghost use Rattle.std.specs.List.{join_with_byte};
 ghost use Rattle.bmp_specs.specs.NumberText.{number_text};
+ghost use Rattle.bmp_specs.specs.PeerText.{hex_text};
 ghost use Rattle.bmp_specs.specs.RouteLine.{comma, comma_list, community_text, others_text};
-ghost use Rattle.reply_text.specs.Pieces.{behind};
+ghost use Rattle.reply_text.specs.Pieces.{absent_word, behind, comma_of};
 ghost use Rattle.wire_io.specs.Writes.{Writes};
 
+use crate::hop::digits_of;
 use crate::values::put_u32;
 use ip_prefix::ShortText;
 use path_attrs::Other;
-use wire_io::{Failed, Sink, write_all};
+use wire_io::{Failed, Sink, write_all, write_pieces};
 
 // A number after the text before it.
 fn numbered(before: &[u8], number: u32) -> ShortText
@@ -96,7 +98,7 @@ pub(crate) fn put_communities<O: Sink>(out: &mut O, communities: &[u32]) -> Resu
 }
 
 // Writes the type code of an attribute after the text before it.
-fn put_code<O: Sink>(out: &mut O, before: &[u8], other: &Other) -> Result<(), Failed>
+pub(crate) fn put_code<O: Sink>(out: &mut O, before: &[u8], other: &Other) -> Result<(), Failed>
     requires { length before.now ≤ 8 }
     ensures { Writes O.faults O.told O.aside out.old (before.now ++ number_text other.now.code) result out.new }
 {
@@ -124,4 +126,51 @@ pub(crate) fn put_others<O: Sink>(out: &mut O, others: &[Other]) -> Result<(), F
             put_further_others(out, rest)
         }
     }
+}
+
+// Writes the flags of an attribute after the text before them.
+fn put_flag<O: Sink>(out: &mut O, before: &[u8], other: &Other) -> Result<(), Failed>
+    ensures { Writes O.faults O.told O.aside out.old (before.now ++ hex_text (other.now.flags ∷ [])) result out.new }
+{
+    write_pieces(out, &[before, &digits_of(other.flags)])
+}
+
+// Writes the flags of the attributes, each after a comma.
+fn put_further_flags<O: Sink>(out: &mut O, others: &[Other]) -> Result<(), Failed>
+    ensures { Writes O.faults O.told O.aside out.old (behind comma (map (λ other. hex_text (other.flags ∷ [])) others.now)) result out.new }
+{
+    for other in others {
+        put_flag(out, b",", other)?;
+    }
+    Ok(())
+}
+
+// Writes the field of the flags of the attributes that `other=` names, in that order.
+pub(crate) fn put_flags<O: Sink>(out: &mut O, others: &[Other]) -> Result<(), Failed>
+    ensures { Writes O.faults O.told O.aside out.old (codes " flags=" ++ comma_list (map (λ other. hex_text (other.flags ∷ [])) others.now)) result out.new }
+{
+    match others {
+        [] => write_all(out, b" flags=-"),
+        [first, rest @ ..] => {
+            put_flag(out, b" flags=", first)?;
+            put_further_flags(out, rest)
+        }
+    }
+}
+
+// What stands before a text: `,` where another stands before it.
+pub(crate) fn comma(some: bool) -> &'static [u8]
+    ensures { result.now ≡ comma_of some }
+{
+    if some { b"," } else { b"" }
+}
+
+// Writes `-` where no text was written.
+pub(crate) fn put_absent<O: Sink>(out: &mut O, some: bool) -> Result<(), Failed>
+    ensures { Writes O.faults O.told O.aside out.old (absent_word some) result out.new }
+{
+    if some {
+        return Ok(());
+    }
+    write_all(out, b"-")
 }

@@ -96,8 +96,31 @@ pub(crate) fn put_id<O: Sink>(out: &mut O, nlri: &Nlri) -> Result<(), Failed>
     }
 }
 
+// Writes the field of the path identifier, where there is one.
+pub(crate) fn put_id_field<O: Sink>(out: &mut O, nlri: &Nlri) -> Result<(), Failed>
+    ensures { Writes O.faults O.told O.aside out.old (spaced (id_fields nlri.now.id)) result out.new }
+{
+    match nlri.id {
+        None => Ok(()),
+        Some(id) => write_pieces(out, &[b" id=", Buffer::new().format(id).as_bytes()]),
+    }
+}
+
+// Writes the fields of a route from its peer on.
+pub(crate) fn put_open_fields<O: Sink>(
+    out: &mut O,
+    row: &RowKey,
+    attrs: &Attrs,
+) -> Result<(), Failed>
+    ensures { Writes O.faults O.told O.aside out.old (spaced (route_fields (record { row_key = row.now; route = attrs.now }))) result out.new }
+{
+    put_row_key(out, row)?;
+    put_attributes(out, attrs)?;
+    put_id_field(out, &row.nlri)
+}
+
 // Writes the fields of a route from its peer on, and the end of the line.
-pub(crate) fn put_fields<O: Sink>(out: &mut O, row: &RowKey, attrs: &Attrs) -> Result<(), Failed>
+fn put_fields<O: Sink>(out: &mut O, row: &RowKey, attrs: &Attrs) -> Result<(), Failed>
     ensures { Writes O.faults O.told O.aside out.old (further (route_fields (record { row_key = row.now; route = attrs.now }))) result out.new }
 {
     put_row_key(out, row)?;

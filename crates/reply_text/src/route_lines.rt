@@ -1,8 +1,11 @@
-ghost use Rattle.std.specs.Prelude.{◌≡◌, take};
+ghost use Rattle.std.specs.Prelude.{◌≡◌, ◌++◌, take};
+ghost use Rattle.bmp_specs.specs.Lines.{further};
 ghost use Rattle.bmp_specs.specs.RouteLine.{route_line};
+ghost use Rattle.ask_specs.specs.FullLine.{full_line, further_fields};
 ghost use Rattle.wire_io.specs.Writes.{Writes};
 
-use crate::line::{fields, front, row_of, short_parts};
+use crate::full::{put_full_route, put_further};
+use crate::line::{fields, front, open_fields, row_of, short_parts};
 use crate::pen::ROOM;
 use crate::route::put_route;
 use bmp_frames::PeerKey;
@@ -87,4 +90,45 @@ impl RouteLines {
         let end = fields(&mut self.line, self.front, nlri, attrs, hop, numbers);
         write_all(out, &self.line[..end])
     }
+
+    // Writes the line of a route with all its path attributes by its parts.
+    fn put_full_parts<O: Sink>(&self, out: &mut O, nlri: &Nlri, attrs: &Attrs) -> Result<(), Failed>
+        ensures { Writes O.faults O.told O.aside out.old
+            (full_line self.now.lane (record { row_key = record { key = self.now.key; view = self.now.view; nlri = nlri.now }; route = attrs.now })) result out.new }
+    {
+        let row = row_of(self.key, self.view, nlri);
+        put_full_route(out, self.lane, &row, attrs)
+    }
+
+    /// Writes the line of a route with all its path attributes, as `put_full_route` does: what a route line tells in one
+    /// write, and all else in one more where there are no other attributes, if the text of what it tells is short and the
+    /// caller says that it may be. Where a write fails, a front of the line was written.
+    pub fn put_full<O: Sink>(
+        &mut self,
+        out: &mut O,
+        nlri: &Nlri,
+        attrs: &Attrs,
+        short: bool,
+    ) -> Result<(), Failed>
+        ensures same { self.new ≡ self.old }
+        ensures writes { Writes O.faults O.told O.aside out.old
+            (full_line self.old.lane (record { row_key = record { key = self.old.key; view = self.old.view; nlri = nlri.now }; route = attrs.now })) result out.new }
+    {
+        if !short {
+            return self.put_full_parts(out, nlri, attrs);
+        }
+        let Some((hop, numbers)) = short_parts(attrs) else {
+            return self.put_full_parts(out, nlri, attrs);
+        };
+        let end = open_fields(&mut self.line, self.front, nlri, attrs, hop, numbers);
+        put_told(out, &self.line[..end], attrs)
+    }
+}
+
+// Writes the fields that a route line tells, and what it doesn't tell.
+fn put_told<O: Sink>(out: &mut O, told: &[u8], attrs: &Attrs) -> Result<(), Failed>
+    ensures { Writes O.faults O.told O.aside out.old (told.now ++ further (further_fields attrs.now)) result out.new }
+{
+    write_all(out, told)?;
+    put_further(out, attrs)
 }
