@@ -1,5 +1,5 @@
 -- Wrong texts and answers, which the clauses of their calls refuse.
-use Rattle.std.proofs.Common.{◌≡◌, ℕ, false, List, [], ◌∷◌, length, replicate, slice_index, codes, Option, None, Some, Ok, refl, ap, arith}
+use Rattle.std.proofs.Common.{◌≡◌, ℕ, false, true, List, [], ◌∷◌, length, replicate, slice_index, codes, Option, None, Some, Ok, refl, ap, arith}
 use Rattle.std.specs.Fmt.{digits}
 use Rattle.bmp_specs.specs.declared.peers.View.TheVariants.{InPre}
 use Rattle.bmp_specs.specs.declared.wire.Family.TheVariants.{V4}
@@ -7,9 +7,13 @@ use Rattle.bmp_specs.specs.AddressText.{dotted}
 use Rattle.bmp_specs.specs.EscapedText.{escaped_text}
 use Rattle.bmp_specs.specs.NumberText.{number_text}
 use Rattle.bmp_specs.specs.PeerText.{hex_text, distinguisher_text}
-use Rattle.bmp_specs.specs.RouteLine.{route_line}
+use Rattle.bmp_specs.specs.declared.wire.SegmentKind.TheVariants.{Sequence}
+use Rattle.bmp_specs.specs.RouteLine.{comma_list, route_line}
 use Rattle.bmp_specs.specs.Rows.{RowKeyValue}
-use Rattle.bmp_specs.specs.Values.{AddressValue, AttrsValue}
+use Rattle.bmp_specs.specs.Values.{AddressValue, AttrsValue, OtherValue, SegmentValue, opened_step}
+use Rattle.ask_specs.specs.AskReply.{told_change}
+use Rattle.ask_specs.specs.FullLine.{full_line, raw_path}
+use Rattle.ask_specs.specs.TraitText.{extended_text}
 use Rattle.wire_io.specs.Aside.{Aside}
 use Rattle.wire_io.specs.Writes.{Writes}
 use Rattle.reply_text.specs.Rov.{rov_line}
@@ -69,3 +73,56 @@ a_judged_row_tells_its_origin = refl
 an_origin_is_not_told_as_none : rov_line 3 (place None) (Some 64500) (codes "valid") ≡ codes "rov 3 0-0000000000000000-192.0.2.1 adj-in-pre 10.0.0.0/8 none valid\n" → ⊥
 unfolding digits hex_text distinguisher_text dotted
 an_origin_is_not_told_as_none e = omega (arith, ap length e)
+
+-- 64500:1:2 as a large community, with these flags
+abbrev large_community : ℕ → OtherValue
+large_community flags = record { flags = flags; code = 32; value = 0 ∷ 0 ∷ 251 ∷ 244 ∷ 0 ∷ 0 ∷ 0 ∷ 1 ∷ 0 ∷ 0 ∷ 0 ∷ 2 ∷ [] }
+
+abbrev with_large : ℕ → AttrsValue
+with_large flags = record { origin = None; path = None; hop = None; med = None; pref = None; atomic = false; aggregator = None; communities = []; others = large_community flags ∷ [] }
+
+a_full_line_tells_the_partial_bit : full_line 3 (record { row_key = place None; route = with_large 224 })
+    ≡ codes "route 3 0-0000000000000000-192.0.2.1 adj-in-pre 10.0.0.0/8 next=- origin=- path=- med=- pref=- atomic=no agg=- comm=- other=32 flags=e0 large=64500:1:2 ext=- otc=- aigp=- originator=- clusters=- raw=-\n"
+unfolding digits hex_text distinguisher_text dotted
+a_full_line_tells_the_partial_bit = refl
+
+-- A full line tells the flags of an attribute without the Partial bit, which is set.
+the_partial_bit_is_not_left_out : full_line 3 (record { row_key = place None; route = with_large 224 })
+    ≡ codes "route 3 0-0000000000000000-192.0.2.1 adj-in-pre 10.0.0.0/8 next=- origin=- path=- med=- pref=- atomic=no agg=- comm=- other=32 flags=c0 large=64500:1:2 ext=- otc=- aigp=- originator=- clusters=- raw=-\n" → ⊥
+unfolding digits hex_text distinguisher_text dotted
+the_partial_bit_is_not_left_out e = omega (arith, ap (λ (l : List ℕ). slice_index l 133) e)
+
+-- a route target of an AS of four octets that two would hold
+abbrev small_target : List ℕ
+small_target = 2 ∷ 2 ∷ 0 ∷ 0 ∷ 251 ∷ 244 ∷ 0 ∷ 100 ∷ []
+
+a_small_as_of_four_octets_is_in_hexadecimal : extended_text small_target ≡ codes "02020000fbf40064"
+unfolding digits hex_text
+a_small_as_of_four_octets_is_in_hexadecimal = refl
+
+-- A route target of an AS of four octets below 65536 has the text of one of two octets.
+a_small_as_of_four_octets_has_no_words : extended_text small_target ≡ codes "rt:64500:100" → ⊥
+unfolding digits hex_text
+a_small_as_of_four_octets_has_no_words e = omega (arith, ap length e)
+
+-- two sequences of one number
+abbrev divided : List SegmentValue
+divided = record { kind = Sequence; numbers = 1 ∷ [] } ∷ record { kind = Sequence; numbers = 2 ∷ [] } ∷ []
+
+a_divided_path_is_in_hexadecimal : comma_list (raw_path (Some divided)) ≡ codes "2:020100000001020100000002"
+unfolding digits hex_text
+a_divided_path_is_in_hexadecimal = refl
+
+-- Two sequences of one number are told as one of two.
+a_divided_path_is_not_left_out : comma_list (raw_path (Some divided)) ≡ codes "-" → ⊥
+unfolding digits hex_text
+a_divided_path_is_not_left_out e = omega (arith, ap length e)
+
+a_full_change_has_its_times : told_change true 3 (record { number = 0; step = opened_step }) ≡ codes "change 3 0 opened seen=- told=-\n"
+unfolding digits
+a_full_change_has_its_times = refl
+
+-- A change of `full` has no fields of the times.
+a_full_change_is_not_told_without_times : told_change true 3 (record { number = 0; step = opened_step }) ≡ codes "change 3 0 opened\n" → ⊥
+unfolding digits
+a_full_change_is_not_told_without_times e = omega (arith, ap length e)
