@@ -5,10 +5,10 @@ use Rattle.std.specs.Fmt.{digits}
 use Rattle.std.proofs.lemmas.Bool.{eq-eqb, true≢false}
 use Rattle.bmp_specs.specs.AddressText.{dotted}
 use Rattle.bmp_specs.specs.PeerText.{distinguisher_text, hex_text}
-use Rattle.bmp_specs.specs.Query.{IsSelector, IsWord, space}
+use Rattle.bmp_specs.specs.Query.{QueryValue, table, exact, longest, within, origin, AreQueryWords, IsSelector, IsWord, space}
 use Rattle.bmp_specs.specs.Rows.{RowValue}
 use Rattle.bmp_specs.specs.Values.{OtherValue}
-use Rattle.ask_specs.specs.Asking.{AskValue, plain, rows, steps, AreAskWords, AreTraits, IsAsk}
+use Rattle.ask_specs.specs.Asking.{AskValue, plain, rows, steps, AreAskWords, AreTraits, IsAsk, TellsRows}
 use Rattle.ask_specs.specs.Traits.{TraitsValue}
 use Rattle.ask_specs.specs.TraitText.{IsThroughText, IsCommunityText, IsTypeText}
 use Rattle.ask_specs.specs.Wrong.{AsksNothing, FlagsTell, DivisionTells}
@@ -81,6 +81,44 @@ pub full_steps : AsksNothing (codes "full steps table")
 full_steps ask is =
     steps_behind_full (codes "table" ∷ []) ask
     (line_words (codes "full steps table") (codes "full") (codes "steps" ∷ codes "table" ∷ []) ask (lacks_space (codes "full") refl, (lacks_space (codes "steps") refl, (lacks_space (codes "table") refl, tt))) refl is)
+
+-- words whose verb has another first letter aren't those of `count`
+other_verb : (verb : List ℕ) (behind words x rest : List (List ℕ)) → ¬ (get_or verb 0 0 ≡ get_or (codes "count") 0 0) → words ≡ verb ∷ behind → ¬ (words ++ x ≡ codes "count" ∷ rest)
+other_verb verb behind words x rest differ is e =
+    let whole : verb ∷ (behind ++ x) ≡ codes "count" ∷ rest = ap (λ (l : List (List ℕ)). l ++ x) (sym is) ∙ e in
+    let same : verb ≡ codes "count" = cc in
+    differ_first verb (codes "count") differ same
+
+-- `count` is the verb of no query that tells rows
+no_count : (query : QueryValue) (words x rest : List (List ℕ)) → TellsRows query → AreQueryWords query words → ¬ (words ++ x ≡ codes "count" ∷ rest)
+no_count (table select) words x rest tells is e = other_verb (codes "table") is.selectors words x rest (λ f. omega (arith, f)) is.spelled e
+no_count (exact prefix select) words x rest tells is e = other_verb (codes "prefix") (is.text ∷ is.selectors) words x rest (λ f. omega (arith, f)) is.spelled e
+no_count (longest address select) words x rest tells is e = other_verb (codes "match") (is.text ∷ is.selectors) words x rest (λ f. omega (arith, f)) is.spelled e
+no_count (within prefix select) words x rest tells is e = other_verb (codes "within") (is.text ∷ is.selectors) words x rest (λ f. omega (arith, f)) is.spelled e
+no_count (origin number select) words x rest tells is e = other_verb (codes "origin") (is.text ∷ is.selectors) words x rest (λ f. omega (arith, f)) is.spelled e
+no_count _ words x rest tells is e = absurd tells
+
+-- `full` stands before a number of rows in no line
+full_before_count : (words : List (List ℕ)) (ask : AskValue) → words ≡ codes "full" ∷ codes "count" ∷ [] → ¬ (AreAskWords ask words)
+full_before_count words (plain query) is are = plain_front words (codes "count" ∷ []) (codes "full") (query_plain query words are) refl is
+full_before_count words (rows s f query traits) is are =
+    let h = rows_headed query are.query_words are.asks are.is_query in
+    let first = flag_one (codes "steps") s false are.steps_words [] (are.full_words ++ (are.query_words ++ are.traits_words)) (codes "full" ∷ codes "count" ∷ []) are.is_steps refl
+    (behind_flag f are.full_words (are.query_words ++ are.traits_words) are.is_full (headed_no_front are.query_words are.traits_words (codes "steps") h refl))
+    (λ b. full_isnt_steps (let whole = b.1 in let same : codes "full" ≡ codes "steps" = cc in same)) (sym are.spelled ∙ is) in
+    let second = flag_one (codes "full") f true are.full_words (codes "full" ∷ []) (are.query_words ++ are.traits_words) (codes "count" ∷ []) are.is_full refl
+    (headed_no_front are.query_words are.traits_words (codes "full") h refl) (λ b. differ_first (codes "count") (codes "full") (λ e. omega (arith, e)) (let whole = b.1 in cc)) first.1 in
+    no_count query are.query_words are.traits_words [] (are.told.1 second.0) are.is_query second.1
+full_before_count words (steps f lane from prefix) is are =
+    let tail = are.lane_text ∷ are.from_text ∷ are.prefix_words in
+    let second = flag_one (codes "full") f true are.full_words (codes "full" ∷ []) (codes "changes" ∷ tail) (codes "count" ∷ []) are.is_full refl
+    (changes_no_front (codes "full") tail refl) (λ b. differ_first (codes "count") (codes "full") (λ e. omega (arith, e)) (let whole = b.1 in cc)) (sym are.spelled ∙ is) in
+    omega (arith, ap length second.1)
+
+pub full_count : AsksNothing (codes "full count")
+full_count ask is =
+    full_before_count (codes "full" ∷ codes "count" ∷ []) ask refl
+    (line_words (codes "full count") (codes "full") (codes "count" ∷ []) ask (lacks_space (codes "full") refl, (lacks_space (codes "count") refl, tt)) refl is)
 
 -- nothing stands behind `other` and its text
 nothing_behind : (traits : TraitsValue) (text next : List ℕ) (rest : List (List ℕ)) → ¬ (AreTraits traits (codes "other" ∷ text ∷ next ∷ rest))

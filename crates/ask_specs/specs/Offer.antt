@@ -1,14 +1,11 @@
--- The part of the wider language that the station offers: plain queries, queries for rows with `steps` in front or with
--- selectors of path attributes behind, and all changes of a lane. A line with `full` asks nothing that is offered.
-use Rattle.std.specs.Prelude.{◌≡◌, ◌↔◌, ℕ, false, List, None}
+-- What the station offers of the wider language: all of it.
+use Rattle.std.specs.Prelude.{◌≡◌, ◌↔◌, ℕ, List}
 use Rattle.bmp_specs.specs.Query.{QueryValue, IsQuery}
-use Rattle.ask_specs.specs.Asking.{AskValue, plain, rows, steps, IsAsk}
+use Rattle.ask_specs.specs.Asking.{AskValue, plain, IsAsk}
 
+-- nothing is left out
 abbrev pub IsOffered : AskValue → Type 0
-IsOffered (plain query) = Unit {0}
-IsOffered (rows with_steps false query traits) = Unit {0}
-IsOffered (steps false lane from None) = Unit {0}
-IsOffered _ = ⊥
+IsOffered ask = Unit {0}
 
 -- the line asks this, and it is offered
 pub record IsOfferedAsk (line : List ℕ) (ask : AskValue) : Type 0 where
@@ -28,8 +25,6 @@ OffersPlain = (line : List ℕ) (query : QueryValue) (ask : AskValue) → IsQuer
 abbrev pub OffersOne : Type 0
 OffersOne = (line : List ℕ) (a b : AskValue) → IsOfferedAsk line a → IsOfferedAsk line b → a ≡ b
 
--- the line asks something, but nothing that is offered
-pub record AsksMore (line : List ℕ) : Type 0 where
-  pub ask : AskValue
-  pub is_ask : IsAsk line ask
-  pub no_offer : (other : AskValue) → ¬ (IsOfferedAsk line other)
+-- what a line asks is offered
+abbrev pub OffersAll : Type 0
+OffersAll = (line : List ℕ) (ask : AskValue) → IsOfferedAsk line ask ↔ IsAsk line ask

@@ -7,7 +7,7 @@ ghost use Rattle.ask_specs.specs.FullLine.{BeginsWithLine, TellsAll};
 ghost use Rattle.ask_specs.specs.Lives.{LivesAnnounceOfUp};
 ghost use Rattle.ask_specs.specs.Mirror.{KeepsExactCopy};
 ghost use Rattle.ask_specs.specs.MirrorReply.{ChangeLinesTell, ChangesTell, RowsTell};
-ghost use Rattle.ask_specs.specs.Offer.{OffersOne, OffersPlain};
+ghost use Rattle.ask_specs.specs.Offer.{OffersAll, OffersOne, OffersPlain};
 ghost use Rattle.ask_specs.specs.StepRows.{StepsLeaveRows};
 
 /// A plain line asks one thing at most.
@@ -38,6 +38,11 @@ pub fn offered_lines_keep_their_meaning()
 /// Each line asks one thing at most that is offered.
 pub fn offered_lines_ask_one_thing()
     ensures { OffersOne }
+{}
+
+/// All that a line may ask is offered.
+pub fn all_asks_are_offered()
+    ensures { OffersAll }
 {}
 
 /// Two rows with the same full line are the same row of the same lane.

@@ -1,6 +1,5 @@
 //! Wrong cases, at values: what no line asks, and what would be lost if less were told or kept. The functions do nothing.
 ghost use Rattle.std.specs.Prelude.{codes};
-ghost use Rattle.ask_specs.specs.Offer.{AsksMore};
 ghost use Rattle.ask_specs.specs.Wrong.{AsksNothing, NamesNone, FlagsTell, DivisionTells, DownTells, UpTells, PremisesCanBeMet};
 
 /// Words in another order are no query: `steps` stands before `full`, and `other` behind the other selectors.
@@ -8,9 +7,9 @@ pub fn another_order_asks_nothing()
     ensures { AsksNothing (codes "full steps table") × AsksNothing (codes "table other 35 through 64500") }
 {}
 
-/// Full lines are asked by lines that nothing is offered to, with selectors of path attributes too.
-pub fn some_lines_ask_more()
-    ensures { AsksMore (codes "full table") × AsksMore (codes "full table other 35") }
+/// A number of rows has no path attributes to tell.
+pub fn full_stands_before_no_count()
+    ensures { AsksNothing (codes "full count") }
 {}
 
 /// A community of an AS of four octets has no number of more than two.
