@@ -1,5 +1,5 @@
 -- What a line asks for, as a value of the wider language.
-use Rattle.std.specs.Prelude.{false, None}
+use Rattle.std.specs.Prelude.{false}
 use Rattle.bmp_specs.specs.Query.{QueryValue, table, count, exact, longest, within, origin}
 use Rattle.ask_specs.specs.Asking.{AskValue, plain, rows, steps}
 use Rattle.query_lang.specs.declared.ask.Ask.{Ask}
@@ -18,6 +18,6 @@ row_query_value (Origin number select) = origin number select
 
 abbrev pub ask_value : Ask → AskValue
 ask_value (Query query) = plain (query_value query)
-ask_value (Rows ask) = rows ask.steps false (row_query_value ask.query) (traits_value ask.traits)
+ask_value (Rows ask) = rows ask.steps ask.full (row_query_value ask.query) (traits_value ask.traits)
 ask_value (Count select traits) = rows false false (count select) (traits_value traits)
-ask_value (Changes lane from) = steps false lane from None
+ask_value (Changes full lane from prefix) = steps full lane from prefix

@@ -1,8 +1,10 @@
 -- How a line is read word by word.
-use Rattle.std.specs.Prelude.{◌≡◌, ℕ, ◌≤◌, List, [], ◌∷◌, ◌++◌, length, Option, ◌==◌, Contains, IfNone}
+use Rattle.std.specs.Prelude.{◌≡◌, ℕ, ◌≤◌, Bool, true, false, List, [], ◌∷◌, ◌++◌, length, codes, Option, ◌==◌, Contains, IfNone}
 use Rattle.std.specs.List.{slice_split}
 use Rattle.bmp_specs.specs.Query.{QueryValue, space, AreQueryWords, IsSelector}
-use Rattle.ask_specs.specs.Asking.{AreTraits, AsksForRows}
+use Rattle.bmp_specs.specs.NumberText.{IsNumberText, IsStepText}
+use Rattle.bmp_specs.specs.Values.{PrefixValue}
+use Rattle.ask_specs.specs.Asking.{AskValue, plain, rows, steps, AreTraits, AsksForRows, IsFlag, IsPrefixWord, TellsRows}
 use Rattle.ask_specs.specs.Traits.{TraitsValue}
 
 -- the words of a line, which stand between its spaces
@@ -31,6 +33,13 @@ pub record Breaks {A : Type 0} (word : List ℕ) (IsText : List ℕ → A → Ty
   pub others : List (List ℕ)
   pub spelled : words ≡ word ∷ text ∷ others
   pub no_value : (value : A) → IsText text value → ⊥
+
+-- the words begin with this one and another, or they don't; the others follow
+pub record TakesFirst (word : List ℕ) (words : List (List ℕ)) (flag : Bool) (others : List (List ℕ)) : Type 0 where
+  pub front : List (List ℕ)
+  pub is_flag : IsFlag word flag front
+  pub spelled : words ≡ front ++ others
+  pub unnamed : flag ≡ false → Unnamed word others
 
 -- the text is cut at the first such byte
 pub record CutsFirst (byte : ℕ) (text front back : List ℕ) : Type 0 where
@@ -76,3 +85,20 @@ pub record AsksWith (query : QueryValue) (traits : TraitsValue) (words : List (L
   pub is_query : AreQueryWords query front
   pub are_traits : AreTraits traits back
   pub spelled : words ≡ front ++ back
+
+-- ---- behind `steps` and `full`
+-- `changes`, a lane, the number of a step, and a prefix or none
+pub record AreChangesWords (lane from : ℕ) (prefix : Option PrefixValue) (words : List (List ℕ)) : Type 0 where
+  pub lane_text : List ℕ
+  pub from_text : List ℕ
+  pub prefix_words : List (List ℕ)
+  pub is_lane : IsNumberText lane_text lane
+  pub is_from : IsStepText from_text from
+  pub is_prefix : IsPrefixWord prefix prefix_words
+  pub spelled : words ≡ codes "changes" ∷ lane_text ∷ from_text ∷ prefix_words
+
+-- the words ask this, where `steps` and `full` stand in front of them or don't
+abbrev pub AsksBehind : Bool → Bool → List (List ℕ) → AskValue → Type 0
+AsksBehind with_steps full words (plain query) = ⊥
+AsksBehind with_steps full words (rows s f query traits) = (s ≡ with_steps) × (f ≡ full) × AsksWith query traits words × (with_steps ≡ true → TellsRows query) × (full ≡ true → TellsRows query)
+AsksBehind with_steps full words (steps f lane from prefix) = (with_steps ≡ false) × (f ≡ full) × AreChangesWords lane from prefix words

@@ -32,26 +32,36 @@ pub enum RowQuery {
 pub struct RowsAsk {
     /// `steps`: before the rows of each lane the number of its steps is told.
     pub steps: bool,
+    /// `full`: each row is told with all its path attributes.
+    pub full: bool,
     /// The query.
     pub query: RowQuery,
     /// The selectors of path attributes behind it.
     pub traits: Traits,
 }
 
-/// What a line asks for: a query, or one of the further forms that are offered.
+/// What a line asks for: a query, or one of the further forms.
 #[derive(Clone, Copy, Debug, PartialEq, Eq)]
 pub enum Ask {
     /// A query.
     Query(Query),
 
-    /// A query that tells rows, with `steps` in front of it, selectors of path attributes behind it, or both.
+    /// A query that tells rows, with `steps` or `full` in front of it, selectors of path attributes behind it, or
+    /// several of these.
     Rows(RowsAsk),
 
     /// `count`, and selectors of path attributes behind it.
     Count(Select, Traits),
 
-    /// `changes N S`: all changes on a lane, from the step of number S on.
-    Changes { lane: u32, from: u64 },
+    /// `changes N S`, or `full changes N S P`: the changes on a lane, from the step of number S on. With `full`,
+    /// each announcement is told with all its path attributes. Where a prefix is named, the changes are its own,
+    /// and else they are all; `changes N S P` without `full` is a query.
+    Changes {
+        full: bool,
+        lane: u32,
+        from: u64,
+        prefix: Option<Prefix>,
+    },
 }
 
 // The query as one that tells rows. None exactly where it tells none.

@@ -1,11 +1,11 @@
-ghost use Rattle.std.specs.Prelude.{◌≡◌, ℕ, ◌∷◌, None, codes, true, false, IfSome, IfNone};
-ghost use Rattle.ask_specs.specs.Asking.{AreRowsWords, AreStepsWords, AsksForRows, rows};
-ghost use Rattle.ask_specs.specs.Offer.{IsOfferedAsk};
+ghost use Rattle.std.specs.Prelude.{◌≡◌, ℕ, ◌∷◌, Option, codes, true, IfSome, IfNone};
+ghost use Rattle.ask_specs.specs.Asking.{AskValue, AsksForRows, IsPrefixWord, TellsRows, rows};
 ghost use Rattle.ask_specs.specs.Traits.{TraitsValue};
-ghost use Rattle.bmp_specs.specs.Query.{QueryValue, IsQuery};
-ghost use Rattle.query_lang.specs.Asks.{ask_value, row_query_value};
+ghost use Rattle.bmp_specs.specs.Query.{QueryValue};
+ghost use Rattle.bmp_specs.specs.Values.{PrefixValue};
+ghost use Rattle.query_lang.specs.Asks.{ask_value};
 ghost use Rattle.query_lang.specs.Queries.{query_value};
-ghost use Rattle.query_lang.specs.Reading.{words_of, further_words, AsksWith};
+ghost use Rattle.query_lang.specs.Reading.{words_of, further_words, AreChangesWords, AsksBehind, AsksWith};
 ghost use Rattle.query_lang.specs.TraitValues.{traits_value};
 
 use crate::ask::{Ask, RowsAsk, rows_of};
@@ -13,8 +13,8 @@ use crate::line::parse;
 use crate::query::Query;
 use crate::trait_words::take_traits;
 use crate::traits::Traits;
-use crate::words::next_word;
-use ip_prefix::{parse_number, parse_number_up_to};
+use crate::words::{next_word, split_word};
+use ip_prefix::{Prefix, parse_number, parse_number_up_to, parse_prefix};
 
 // Reads a query, with selectors of path attributes behind it or none.
 pub(crate) fn query_with(text: &[u8]) -> Option<(Query, Traits)>
@@ -31,16 +31,24 @@ pub(crate) fn query_with(text: &[u8]) -> Option<(Query, Traits)>
     }
 }
 
-// What is asked by a query for rows and selectors of path attributes behind it.
-fn sifted(query: &Query, traits: Traits) -> Option<Ask>
-    ensures some { IfSome result (λ a. (ask_value a ≡ rows false false (query_value query.now) (traits_value traits)) × AsksForRows (query_value query.now)) }
-    ensures none { IfNone result (AsksForRows (query_value query.now) → ⊥) }
+// What is asked by a query for rows, with selectors of path attributes behind it or none, behind `steps` and `full`.
+// None exactly where it asks for no rows, or for their number behind one of these words.
+fn asked_rows(steps: bool, full: bool, query: &Query, traits: Traits) -> Option<Ask>
+    ensures some { IfSome result (λ a. (ask_value a ≡ rows steps full (query_value query.now) (traits_value traits)) × AsksForRows (query_value query.now) × (steps ≡ true → TellsRows (query_value query.now)) × (full ≡ true → TellsRows (query_value query.now))) }
+    ensures none { IfNone result (AsksForRows (query_value query.now) → (steps ≡ true → TellsRows (query_value query.now)) → (full ≡ true → TellsRows (query_value query.now)) → ⊥) }
 {
     match query {
-        Query::Count(select) => Some(Ask::Count(*select, traits)),
+        Query::Count(select) => {
+            if steps || full {
+                None
+            } else {
+                Some(Ask::Count(*select, traits))
+            }
+        }
         _ => match rows_of(query) {
             Some(query) => Some(Ask::Rows(RowsAsk {
-                steps: false,
+                steps,
+                full,
                 query,
                 traits,
             })),
@@ -49,58 +57,76 @@ fn sifted(query: &Query, traits: Traits) -> Option<Ask>
     }
 }
 
-// Reads a line that is no query: a query for rows, and selectors of path attributes behind it.
-pub(crate) fn sifted_rows(line: &[u8]) -> Option<Ask>
-    requires { (v : QueryValue) → IsQuery line.now v → ⊥ }
-    ensures some { IfSome result (λ a. IsOfferedAsk line.now (ask_value a)) }
-    ensures none { IfNone result ((v : QueryValue) (t : TraitsValue) → AreRowsWords false false v t (words_of line.now) → ⊥) }
+// Reads a prefix and nothing after it, or nothing.
+fn prefix_or_end(rest: &[u8]) -> Option<Option<Prefix>>
+    ensures some { IfSome result (λ p. IsPrefixWord p (further_words rest.now)) }
+    ensures none { IfNone result ((p : Option PrefixValue) → IsPrefixWord p (further_words rest.now) → ⊥) }
 {
-    match query_with(line) {
-        Some((query, traits)) => sifted(&query, traits),
+    let Some((text, behind)) = next_word(rest) else {
+        return Some(None);
+    };
+    if !behind.is_empty() {
+        return None;
+    }
+    match parse_prefix(text) {
+        Some(prefix) => Some(Some(prefix)),
         None => None,
     }
 }
 
-// Reads a query that tells rows, with selectors of path attributes behind it or none, behind `steps`.
-pub(crate) fn rows_after_steps(rest: &[u8]) -> Option<RowsAsk>
-    ensures some { IfSome result (λ a. (a.steps ≡ true) × AreRowsWords true false (row_query_value a.query) (traits_value a.traits) (codes "steps" ∷ further_words rest.now)) }
-    ensures none { IfNone result ((v : QueryValue) (t : TraitsValue) → AreRowsWords true false v t (codes "steps" ∷ further_words rest.now) → ⊥) }
+// Reads a lane, the number of a step, and a prefix or none, behind `changes`.
+fn lane_and_step(rest: &[u8]) -> Option<(u32, u64, Option<Prefix>)>
+    ensures some { IfSome result (λ r. AreChangesWords r.0 r.1 r.2 (codes "changes" ∷ further_words rest.now)) }
+    ensures none { IfNone result ((lane from : ℕ) (p : Option PrefixValue) → AreChangesWords lane from p (codes "changes" ∷ further_words rest.now) → ⊥) }
 {
-    let [_, text @ ..] = rest else {
+    let Some((lane, rest)) = next_word(rest) else {
         return None;
     };
-    let Some((query, traits)) = query_with(text) else {
+    let Some((from, rest)) = next_word(rest) else {
         return None;
     };
-    match rows_of(&query) {
-        Some(query) => Some(RowsAsk {
-            steps: true,
-            query,
-            traits,
+    let Some(prefix) = prefix_or_end(rest) else {
+        return None;
+    };
+    let Some(lane) = parse_number(lane) else {
+        return None;
+    };
+    match parse_number_up_to(from, u64::MAX) {
+        Some(from) => Some((lane, from, prefix)),
+        None => None,
+    }
+}
+
+// Reads what stands behind `changes`, which has `full` in front of it or not, and no `steps`.
+fn asked_changes(steps: bool, full: bool, rest: &[u8]) -> Option<Ask>
+    ensures some { IfSome result (λ a. AsksBehind steps full (codes "changes" ∷ further_words rest.now) (ask_value a)) }
+    ensures none { IfNone result ((v : AskValue) → AsksBehind steps full (codes "changes" ∷ further_words rest.now) v → ⊥) }
+{
+    if steps {
+        return None;
+    }
+    match lane_and_step(rest) {
+        Some((lane, from, prefix)) => Some(Ask::Changes {
+            full,
+            lane,
+            from,
+            prefix,
         }),
         None => None,
     }
 }
 
-// Reads a lane and the number of a step, behind `changes`, and nothing after them.
-pub(crate) fn lane_and_step(rest: &[u8]) -> Option<(u32, u64)>
-    ensures some { IfSome result (λ r. AreStepsWords false r.0 r.1 None (codes "changes" ∷ further_words rest.now)) }
-    ensures none { IfNone result ((lane from : ℕ) → AreStepsWords false lane from None (codes "changes" ∷ further_words rest.now) → ⊥) }
+// Reads what stands behind `steps` and `full`, or behind none of them.
+pub(crate) fn asked_behind(steps: bool, full: bool, text: &[u8]) -> Option<Ask>
+    ensures some { IfSome result (λ a. AsksBehind steps full (words_of text.now) (ask_value a)) }
+    ensures none { IfNone result ((v : AskValue) → AsksBehind steps full (words_of text.now) v → ⊥) }
 {
-    let Some((lane, rest)) = next_word(rest) else {
-        return None;
-    };
-    let Some((from, behind)) = next_word(rest) else {
-        return None;
-    };
-    if !behind.is_empty() {
-        return None;
+    let (word, rest) = split_word(text);
+    if word == b"changes".as_slice() {
+        return asked_changes(steps, full, rest);
     }
-    let Some(lane) = parse_number(lane) else {
-        return None;
-    };
-    match parse_number_up_to(from, u64::MAX) {
-        Some(from) => Some((lane, from)),
+    match query_with(text) {
+        Some((query, traits)) => asked_rows(steps, full, &query, traits),
         None => None,
     }
 }

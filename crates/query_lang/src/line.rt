@@ -7,10 +7,10 @@ ghost use Rattle.query_lang.specs.Queries.{query_value};
 
 use crate::ask::Ask;
 use crate::forms::read_form;
-use crate::further::{lane_and_step, rows_after_steps, sifted_rows};
+use crate::further::asked_behind;
 use crate::query::Query;
 use crate::verb::Verb;
-use crate::words::split_word;
+use crate::words::{split_word, take_first};
 
 /// Reads a line, without its end: words with one space between two of them, which are a query in our own
 /// form, with each selector at most once and in their order. A line is one query at most. None exactly
@@ -28,8 +28,8 @@ pub fn parse(line: &[u8]) -> Option<Query>
 }
 
 /// Reads a line, without its end, as what it asks for: a query, as `parse` reads it, or a query for rows with
-/// `steps` in front of it or selectors of path attributes behind it, or `changes` with a lane and the number
-/// of a step alone. A line asks one thing at most. None exactly where the line asks nothing that is offered.
+/// `steps` or `full` in front of it or selectors of path attributes behind it, or the changes on a lane, all of
+/// them or with `full` in front. A line asks one thing at most. None exactly where the line asks nothing.
 pub fn parse_ask(line: &[u8]) -> Option<Ask>
     ensures some { IfSome result (λ a. IsOfferedAsk line.now (ask_value a)) }
     ensures only { IfSome result (λ a. (v : AskValue) → IsOfferedAsk line.now v → v ≡ ask_value a) }
@@ -39,18 +39,7 @@ pub fn parse_ask(line: &[u8]) -> Option<Ask>
     if let Some(query) = parse(line) {
         return Some(Ask::Query(query));
     }
-    let (word, rest) = split_word(line);
-    if word == b"steps".as_slice() {
-        return match rows_after_steps(rest) {
-            Some(rows) => Some(Ask::Rows(rows)),
-            None => None,
-        };
-    }
-    if word == b"changes".as_slice() {
-        return match lane_and_step(rest) {
-            Some((lane, from)) => Some(Ask::Changes { lane, from }),
-            None => None,
-        };
-    }
-    sifted_rows(line)
+    let (steps, text) = take_first(b"steps", line);
+    let (full, text) = take_first(b"full", text);
+    asked_behind(steps, full, text)
 }

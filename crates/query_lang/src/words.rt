@@ -1,6 +1,6 @@
 ghost use Rattle.std.specs.Prelude.{◌≡◌, ℕ, List, [], ◌∷◌, ◌++◌, ◌==◌, position, Contains, IfSome, IfNone, MatchOption};
 ghost use Rattle.bmp_specs.specs.Query.{space};
-ghost use Rattle.query_lang.specs.Reading.{words_of, further_words, CutsFirst, CutsLast, Unended, Unnamed};
+ghost use Rattle.query_lang.specs.Reading.{words_of, further_words, CutsFirst, CutsLast, TakesFirst, Unended, Unnamed};
 
 // Where the first space of a text is.
 fn first_space(text: &[u8]) -> Option<usize>
@@ -42,6 +42,21 @@ pub(crate) fn take_selector<'a>(word: &[u8], rest: &'a [u8]) -> Option<(&'a [u8]
         return None;
     }
     next_word(behind)
+}
+
+// Takes a word from the front of a text, where it stands there and another follows: whether it does, and what
+// stands behind it, or the whole text.
+pub(crate) fn take_first<'a>(word: &[u8], text: &'a [u8]) -> (bool, &'a [u8])
+    ensures { TakesFirst word.now (words_of text.now) result.0 (words_of result.1.now) }
+{
+    let (first, behind) = split_word(text);
+    if first != word {
+        return (false, text);
+    }
+    match behind {
+        [] => (false, text),
+        [_, rest @ ..] => (true, rest),
+    }
 }
 
 // What stands before the first such byte, and what stands after it.
