@@ -1,24 +1,22 @@
--- A line asks what its words ask: behind `steps` and `changes` what follows these, and else by its selectors of path attributes.
+-- A line asks what its words ask: `steps` and `full`, or none of them, and what stands behind these.
 use Rattle.std.proofs.Common.{◌≡◌, ℕ, ◌≤◌, Bool, true, false, List, [], ◌∷◌, ◌++◌, Option, None, Some, ◌-◌, length, take, drop, codes, refl, sym, ap, subst, ◌∙◌, arith, append-nil}
 use Rattle.std.proofs.lemmas.Bool.{true≢false}
 use Rattle.std.proofs.lemmas.List.{take_rest}
-use Rattle.std.specs.Prelude.{IfSome, IfNone}
-use Rattle.bmp_specs.specs.Query.{QueryValue, table, exact, longest, within, origin, AreQueryWords, IsQuery}
-use Rattle.ask_specs.specs.Asking.{AskValue, plain, rows, steps, AreAskWords, AreRowsWords, AreStepsWords, AreTraits, AsksForRows, IsAsk, TellsRows}
-use Rattle.ask_specs.specs.Offer.{IsOffered, IsOfferedAsk}
+use Rattle.std.specs.Prelude.{IfNone}
+use Rattle.bmp_specs.specs.PrefixText.{IsPrefixText}
+use Rattle.bmp_specs.specs.Query.{QueryValue, changes, AreQueryWords, IsQuery}
+use Rattle.bmp_specs.specs.Values.{PrefixValue}
+use Rattle.ask_specs.specs.Asking.{AskValue, plain, rows, steps, AreAskWords, AreTraits, AsksForRows, IsAsk, IsFlag, IsFurtherChanges, IsMore, IsPrefixWord, TellsRows}
+use Rattle.ask_specs.specs.Offer.{IsOfferedAsk}
 use Rattle.ask_specs.specs.Traits.{TraitsValue, no_traits}
-use Rattle.ask_specs.proofs.AskLaws.{ask_some}
-use Rattle.ask_specs.proofs.PlainWords.{headed_front, not_changes, rows_headed}
-use Rattle.query_lang.specs.Asks.{ask_value, row_query_value}
-use Rattle.query_lang.specs.Reading.{words_of, further_words, AsksWith, EndsWith}
+use Rattle.ask_specs.proofs.AskLaws.{Begins, SomeWord, ask_some, behind_flag, changes_no_front, headed_no_front}
+use Rattle.ask_specs.proofs.PlainWords.{IsHeaded, by_one, by_two, not_changes, rows_headed}
+use Rattle.query_lang.specs.Reading.{words_of, further_words, AreChangesWords, AsksBehind, AsksWith, EndsWith, TakesFirst, Unnamed}
 use Rattle.query_lang.specs.declared.ask.Ask.{Ask}
-use Rattle.query_lang.specs.declared.ask.RowQuery.{RowQuery}
-use Rattle.query_lang.specs.declared.ask.RowQuery.TheVariants.{Table, Exact, Longest, Within, Origin}
 use Rattle.query_lang.proofs.LineWords.{is_query, joined_words, line_joined, query_asks}
-use Rattle.query_lang.proofs.TraitWordLaws.{headed_some}
 
-asks_offered : (line : List ℕ) (v : AskValue) → IsOffered v → AreAskWords v (words_of line) → IsOfferedAsk line v
-asks_offered line v offer asks = let (are, joined) = line_joined line in record { is_ask = record { words = words_of line; are_words = are; joined = joined; asks = asks }; is_offered = offer }
+asks_offered : (line : List ℕ) (v : AskValue) → AreAskWords v (words_of line) → IsOfferedAsk line v
+asks_offered line v asks = let (are, joined) = line_joined line in record { is_ask = record { words = words_of line; are_words = are; joined = joined; asks = asks }; is_offered = tt }
 
 pub asked_words : (line : List ℕ) (v : AskValue) → IsAsk line v → AreAskWords v (words_of line)
 asked_words line v is =
@@ -28,21 +26,6 @@ asked_words line v is =
 -- ---- a query for rows
 no_trait_words : (words : List (List ℕ)) → AreTraits no_traits words → words ≡ []
 no_trait_words words are = are.spelled ∙ (λ i. are.is_through i ++ (are.is_community i ++ are.is_other i))
-
-asks_for : (q : QueryValue) → TellsRows q → AsksForRows q
-asks_for (table select) tells = tt
-asks_for (exact prefix select) tells = tt
-asks_for (longest address select) tells = tt
-asks_for (within prefix select) tells = tt
-asks_for (origin number select) tells = tt
-asks_for _ tells = absurd tells
-
-row_query_tells : (q : RowQuery) → TellsRows (row_query_value q)
-row_query_tells (Table select) = tt
-row_query_tells (Exact prefix select) = tt
-row_query_tells (Longest address select) = tt
-row_query_tells (Within prefix select) = tt
-row_query_tells (Origin number select) = tt
 
 -- what stands before selectors of path attributes is the query
 pub asked_before : (front : List ℕ) (q : QueryValue) (t : TraitsValue) (words : List (List ℕ)) → EndsWith t words (words_of front) → IsQuery front q → AsksForRows q → AsksWith q t words
@@ -54,30 +37,19 @@ only_before front q v t u words asks same one = (one v (is_query front v (subst 
 pub none_before : (front : List ℕ) (v : QueryValue) (t : TraitsValue) (words : List (List ℕ)) (asks : AsksWith v t words) → asks.front ≡ words_of front → ((w : QueryValue) → IsQuery front w → ⊥) → ⊥
 none_before front v t words asks same none = none v (is_query front v (subst (AreQueryWords v) same asks.is_query))
 
--- ---- behind `steps`
-rows_spelled : (q : QueryValue) (t : TraitsValue) (words : List (List ℕ)) (are : AreRowsWords true false q t words) → words ≡ codes "steps" ∷ (are.query_words ++ are.traits_words)
-rows_spelled q t words are = are.spelled ∙ (λ i. are.is_steps i ++ (are.is_full i ++ (are.query_words ++ are.traits_words)))
+-- ---- a word in front
+pub takes_first : (word : List ℕ) (words others : List (List ℕ)) → words ≡ word ∷ others → TakesFirst word words true others
+takes_first word words others is = record { front = word ∷ []; is_flag = refl; spelled = is; unnamed = λ e. absurd (true≢false e) }
 
-pub rows_parts : (q : QueryValue) (t : TraitsValue) (others : List (List ℕ)) → AreRowsWords true false q t (codes "steps" ∷ others) → AsksWith q t others × TellsRows q
-rows_parts q t others are =
-    let whole : codes "steps" ∷ others ≡ codes "steps" ∷ (are.query_words ++ are.traits_words) = rows_spelled q t (codes "steps" ∷ others) are in
-    (record { front = are.query_words; back = are.traits_words; asks = are.asks; is_query = are.is_query; are_traits = are.are_traits; spelled = cc }, are.told.0 refl)
+pub takes_no_first : (word : List ℕ) (words : List (List ℕ)) → Unnamed word words → TakesFirst word words false words
+takes_no_first word words unnamed = record { front = []; is_flag = refl; spelled = refl; unnamed = λ e. unnamed }
 
-rows_are : (q : QueryValue) (t : TraitsValue) (others : List (List ℕ)) → AsksWith q t others → TellsRows q → AreRowsWords true false q t (codes "steps" ∷ others)
-rows_are q t others asks tells = record {
-  steps_words = codes "steps" ∷ [];
-  full_words = [];
-  query_words = asks.front;
-  traits_words = asks.back;
-  is_steps = refl;
-  is_full = refl;
-  is_query = asks.is_query;
-  are_traits = asks.are_traits;
-  asks = asks.asks;
-  told = (λ e. tells, λ e. tells);
-  more = tt;
-  spelled = ap (λ (l : List (List ℕ)). codes "steps" ∷ l) asks.spelled;
-}
+-- another word stands in front
+pub other_unnamed : (word first : List ℕ) (words others : List (List ℕ)) → words ≡ first ∷ others → (first ≡ word → ⊥) → Unnamed word words
+other_unnamed word first words others is differ text more e =
+    let whole : first ∷ others ≡ word ∷ text ∷ more = sym is ∙ e in
+    let same : first ≡ word = cc in
+    differ same
 
 -- what stands behind a space
 abbrev behind : List ℕ → List ℕ
@@ -87,117 +59,170 @@ behind_mark : (rest : List ℕ) → 1 ≤ length rest → further_words rest ≡
 behind_mark [] some = absurd (omega (arith, some))
 behind_mark (mark ∷ text) some = ap (λ (l : List ℕ). words_of l) (sym (take_rest (mark ∷ text) 1))
 
--- the query behind `steps` tells rows, or there is none
-pub rows_some : (rest : List ℕ) (q : QueryValue) (t : TraitsValue) (read : RowQuery) → 1 ≤ length rest → (AsksForRows q → AsksWith q t (words_of (behind rest))) → row_query_value read ≡ q
-    → AreRowsWords true false (row_query_value read) t (codes "steps" ∷ further_words rest)
-rows_some rest q t read some is same =
-    let v = row_query_value read in
-    let tells = row_query_tells read in
-    let asks : AsksWith v t (words_of (behind rest)) = subst (λ (w : QueryValue). AsksForRows w → AsksWith w t (words_of (behind rest))) (sym same) is (asks_for v tells) in
-    rows_are v t (further_words rest) (subst (AsksWith v t) (sym (behind_mark rest some)) asks) tells
+pub takes_word : (word : List ℕ) (words : List (List ℕ)) (rest : List ℕ) → words ≡ word ∷ further_words rest → 1 ≤ length rest → TakesFirst word words true (words_of (behind rest))
+takes_word word words rest is some = takes_first word words (words_of (behind rest)) (is ∙ ap (λ (l : List (List ℕ)). word ∷ l) (behind_mark rest some))
 
-pub rows_none : (rest : List ℕ) (q : QueryValue) (t : TraitsValue) → 1 ≤ length rest → ((v : QueryValue) (u : TraitsValue) → AsksWith v u (words_of (behind rest)) → (v ≡ q) × (u ≡ t)) → (TellsRows q → ⊥)
-    → (v : QueryValue) (u : TraitsValue) → AreRowsWords true false v u (codes "steps" ∷ further_words rest) → ⊥
-rows_none rest q t some one none v u are =
-    let (asks, tells) = rows_parts v u (further_words rest) are in
-    none (subst (λ (w : QueryValue). TellsRows w) (one v u (subst (AsksWith v u) (behind_mark rest some) asks)).0 tells)
+-- what was taken is the only way to take the word
+first_one : (word : List ℕ) (s t : Bool) (u x words others : List (List ℕ)) → IsFlag word s u → ¬ (Begins word x) → SomeWord x → words ≡ u ++ x → TakesFirst word words t others → (s ≡ t) × (x ≡ others)
+first_one word true true u x words others is no_word some spelled taken =
+    let whole : word ∷ x ≡ word ∷ others = ap (λ (l : List (List ℕ)). l ++ x) (sym is) ∙ sym spelled ∙ taken.spelled ∙ ap (λ (l : List (List ℕ)). l ++ others) taken.is_flag in
+    (refl, cc)
+first_one word false false u x words others is no_word some spelled taken =
+    (refl, ap (λ (l : List (List ℕ)). l ++ x) (sym is) ∙ sym spelled ∙ taken.spelled ∙ ap (λ (l : List (List ℕ)). l ++ others) taken.is_flag)
+first_one word true false u x words others is no_word (w, ws, some) spelled taken =
+    let whole : others ≡ word ∷ w ∷ ws = ap (λ (l : List (List ℕ)). l ++ others) (sym taken.is_flag) ∙ sym taken.spelled ∙ spelled ∙ ap (λ (l : List (List ℕ)). l ++ x) is ∙ ap (λ (l : List (List ℕ)). word ∷ l) some in
+    absurd (taken.unnamed refl w ws whole)
+first_one word false true u x words others is no_word some spelled taken =
+    absurd (no_word (others, ap (λ (l : List (List ℕ)). l ++ x) (sym is) ∙ sym spelled ∙ taken.spelled ∙ ap (λ (l : List (List ℕ)). l ++ others) taken.is_flag))
 
-pub no_rows : (rest : List ℕ) → 1 ≤ length rest → ((v : QueryValue) (u : TraitsValue) → AsksWith v u (words_of (behind rest)) → ⊥) → (v : QueryValue) (u : TraitsValue) → AreRowsWords true false v u (codes "steps" ∷ further_words rest) → ⊥
-no_rows rest some none v u are = none v u (subst (AsksWith v u) (behind_mark rest some) (rows_parts v u (further_words rest) are).0)
+some_behind : (f : Bool) (words x : List (List ℕ)) → IsFlag (codes "full") f words → SomeWord x → SomeWord (words ++ x)
+some_behind true words x is some = (codes "full", x, ap (λ (l : List (List ℕ)). l ++ x) is)
+some_behind false words x is (w, ws, some) = (w, ws, ap (λ (l : List (List ℕ)). l ++ x) is ∙ some)
 
-pub nothing_asked : (rest : List ℕ) → further_words rest ≡ [] → (v : QueryValue) (u : TraitsValue) → AreRowsWords true false v u (codes "steps" ∷ further_words rest) → ⊥
-nothing_asked rest none v u are =
-    let (asks, tells) = rows_parts v u (further_words rest) are in
-    let some = headed_some asks.front asks.back (rows_headed v asks.front asks.asks asks.is_query) in
-    omega (arith, some, ap length (sym asks.spelled), ap length none)
-
--- ---- with selectors of path attributes alone
-sifted_are : (line : List ℕ) (q : QueryValue) (t : TraitsValue) → ((v : QueryValue) → IsQuery line v → ⊥) → AsksWith q t (words_of line) → AreRowsWords false false q t (words_of line)
-sifted_are line q t no_query asks = record {
-  steps_words = [];
-  full_words = [];
-  query_words = asks.front;
-  traits_words = asks.back;
-  is_steps = refl;
-  is_full = refl;
-  is_query = asks.is_query;
-  are_traits = asks.are_traits;
-  asks = asks.asks;
-  told = (λ e. absurd (true≢false (sym e)), λ e. absurd (true≢false (sym e)));
-  more = λ same.
-      let bare = no_trait_words asks.back (subst (λ (u : TraitsValue). AreTraits u asks.back) same asks.are_traits) in
-      let whole : words_of line ≡ asks.front = asks.spelled ∙ ap (λ (l : List (List ℕ)). asks.front ++ l) bare ∙ append-nil asks.front in
-      no_query q (is_query line q (subst (AreQueryWords q) (sym whole) asks.is_query));
-  spelled = asks.spelled;
-}
-
-sifted_parts : (q : QueryValue) (t : TraitsValue) (words : List (List ℕ)) → AreRowsWords false false q t words → AsksWith q t words
-sifted_parts q t words are = record {
-  front = are.query_words;
-  back = are.traits_words;
-  asks = are.asks;
-  is_query = are.is_query;
-  are_traits = are.are_traits;
-  spelled = are.spelled ∙ (λ i. are.is_steps i ++ (are.is_full i ++ (are.query_words ++ are.traits_words)));
-}
-
-pub sifted_some : (line : List ℕ) (q : QueryValue) (t : TraitsValue) (r : Option Ask) → ((v : QueryValue) → IsQuery line v → ⊥) → (AsksForRows q → AsksWith q t (words_of line))
-    → IfSome r (λ a. (ask_value a ≡ rows false false q t) × AsksForRows q) → IfSome r (λ a. IsOfferedAsk line (ask_value a))
-sifted_some line q t None no_query is same = tt
-sifted_some line q t (Some a) no_query is same = subst (IsOfferedAsk line) (sym same.0) (asks_offered line (rows false false q t) tt (sifted_are line q t no_query (is same.1)))
-
-pub sifted_none : (line : List ℕ) (q : QueryValue) (t : TraitsValue) (r : Option Ask) → ((v : QueryValue) (u : TraitsValue) → AsksWith v u (words_of line) → (v ≡ q) × (u ≡ t)) → IfNone r (AsksForRows q → ⊥)
-    → IfNone r ((v : QueryValue) (u : TraitsValue) → AreRowsWords false false v u (words_of line) → ⊥)
-sifted_none line q t (Some a) one none = tt
-sifted_none line q t None one none = λ v u are. let asks = sifted_parts v u (words_of line) are in none (subst (λ (w : QueryValue). AsksForRows w) (one v u asks).0 asks.asks)
-
-pub no_sifted : (line : List ℕ) → ((v : QueryValue) (u : TraitsValue) → AsksWith v u (words_of line) → ⊥) → (v : QueryValue) (u : TraitsValue) → AreRowsWords false false v u (words_of line) → ⊥
-no_sifted line none v u are = none v u (sifted_parts v u (words_of line) are)
+some_headed : (a x : List (List ℕ)) → IsHeaded a → SomeWord (a ++ x)
+some_headed a x (by_one verb rest is front n p) = (verb, rest ++ x, ap (λ (l : List (List ℕ)). l ++ x) is)
+some_headed a x (by_two verb text rest is front n p) = (verb, text ∷ (rest ++ x), ap (λ (l : List (List ℕ)). l ++ x) is)
 
 -- ---- behind `changes`
-pub steps_spelled : (lane from : ℕ) (words : List (List ℕ)) (are : AreStepsWords false lane from None words) → words ≡ codes "changes" ∷ are.lane_text ∷ are.from_text ∷ []
-steps_spelled lane from words are = are.spelled ∙ (λ i. are.is_full i ++ (codes "changes" ∷ are.lane_text ∷ are.from_text ∷ are.is_prefix i))
+pub changes_none : (s f : Bool) (rest : List (List ℕ)) → (s ≡ false → (lane from : ℕ) (p : Option PrefixValue) → AreChangesWords lane from p (codes "changes" ∷ rest) → ⊥) → (v : AskValue) → AsksBehind s f (codes "changes" ∷ rest) v → ⊥
+changes_none s f rest none (plain q) asks = asks
+changes_none s f rest none (rows u g q t) asks = let with_traits = asks.2 in not_changes with_traits.front with_traits.back rest (rows_headed q with_traits.front with_traits.asks with_traits.is_query) (sym with_traits.spelled)
+changes_none s f rest none (steps g lane from p) asks = none asks.0 lane from p asks.2
 
--- nothing follows the number
-pub changes_end : (words second others : List (List ℕ)) (a b : List ℕ) (lane from : ℕ) → words ≡ a ∷ second → second ≡ b ∷ others → AreStepsWords false lane from None (codes "changes" ∷ words) → others ≡ []
-changes_end words second others a b lane from one two are =
-    let split : words ≡ a ∷ b ∷ others = one ∙ ap (λ (l : List (List ℕ)). a ∷ l) two in
-    let whole : codes "changes" ∷ a ∷ b ∷ others ≡ codes "changes" ∷ are.lane_text ∷ are.from_text ∷ [] = ap (λ (l : List (List ℕ)). codes "changes" ∷ l) (sym split) ∙ steps_spelled lane from (codes "changes" ∷ words) are in
-    cc
+-- words other than `changes` ask for rows
+pub rows_none : (s f : Bool) (words : List (List ℕ)) (word : List ℕ) (others : List (List ℕ)) → words ≡ word ∷ others → (word ≡ codes "changes" → ⊥) → ((q : QueryValue) (t : TraitsValue) → AsksWith q t words → (s ≡ true → TellsRows q) → (f ≡ true → TellsRows q) → ⊥)
+    → (v : AskValue) → AsksBehind s f words v → ⊥
+rows_none s f words word others split other none (plain q) asks = asks
+rows_none s f words word others split other none (rows u g q t) asks = none q t asks.2 asks.3 asks.4
+rows_none s f words word others split other none (steps g lane from p) asks =
+    let are = asks.2 in
+    let whole : word ∷ others ≡ codes "changes" ∷ are.lane_text ∷ are.from_text ∷ are.prefix_words = sym split ∙ are.spelled in
+    let same : word ≡ codes "changes" = cc in
+    other same
+
+pub no_rows_behind : (s f : Bool) (words : List (List ℕ)) (word : List ℕ) (others : List (List ℕ)) (q : QueryValue) (t : TraitsValue) (r : Option Ask) → words ≡ word ∷ others → (word ≡ codes "changes" → ⊥) → ((v : QueryValue) (u : TraitsValue) → AsksWith v u words → (v ≡ q) × (u ≡ t))
+    → IfNone r (AsksForRows q → (s ≡ true → TellsRows q) → (f ≡ true → TellsRows q) → ⊥) → IfNone r ((v : AskValue) → AsksBehind s f words v → ⊥)
+no_rows_behind s f words word others q t (Some a) split other one none = tt
+no_rows_behind s f words word others q t None split other one none = rows_none s f words word others split other (λ v u asks with_s with_f.
+    let same = (one v u asks).0 in
+    none (subst (λ (w : QueryValue). AsksForRows w) same asks.asks) (λ e. subst (λ (w : QueryValue). TellsRows w) same (with_s e)) (λ e. subst (λ (w : QueryValue). TellsRows w) same (with_f e)))
 
 -- ---- a line
-pub steps_offered : (line word : List ℕ) (others : List (List ℕ)) (with_steps : Bool) (q : QueryValue) (t : TraitsValue) → words_of line ≡ word ∷ others → word ≡ codes "steps" → with_steps ≡ true → AreRowsWords true false q t (codes "steps" ∷ others) → IsOfferedAsk line (rows with_steps false q t)
-steps_offered line word others with_steps q t split first told are =
-    subst (λ (b : Bool). IsOfferedAsk line (rows b false q t)) (sym told) (asks_offered line (rows true false q t) tt (subst (AreRowsWords true false q t) (sym (split ∙ ap (λ (w : List ℕ). w ∷ others) first)) are))
+no_flag : (word : List ℕ) (b : Bool) (front : List (List ℕ)) → IsFlag word b front → b ≡ false → front ≡ []
+no_flag word true front is e = absurd (true≢false e)
+no_flag word false front is e = is
 
-pub changes_offered : (line word : List ℕ) (others : List (List ℕ)) (lane from : ℕ) → words_of line ≡ word ∷ others → word ≡ codes "changes" → AreStepsWords false lane from None (codes "changes" ∷ others) → IsOfferedAsk line (steps false lane from None)
-changes_offered line word others lane from split first are = asks_offered line (steps false lane from None) tt (subst (AreStepsWords false lane from None) (sym (split ∙ ap (λ (w : List ℕ). w ∷ others) first)) are)
+is_more : (s f : Bool) (t : TraitsValue) → (s ≡ false → f ≡ false → t ≡ no_traits → ⊥) → IsMore s f t
+is_more true f t some = tt
+is_more false true t some = tt
+is_more false false t some = some refl refl
 
--- a line that is no query asks by `steps`, by `changes` or by selectors of path attributes, or nothing that is offered
-pub asks_nothing : (line word : List ℕ) (others : List (List ℕ)) → words_of line ≡ word ∷ others → ((q : QueryValue) → IsQuery line q → ⊥)
-    → (word ≡ codes "steps" → (q : QueryValue) (t : TraitsValue) → AreRowsWords true false q t (codes "steps" ∷ others) → ⊥)
-    → (word ≡ codes "changes" → (lane from : ℕ) → AreStepsWords false lane from None (codes "changes" ∷ others) → ⊥)
-    → ((word ≡ codes "steps" → ⊥) → (word ≡ codes "changes" → ⊥) → (q : QueryValue) (t : TraitsValue) → AreRowsWords false false q t (words_of line) → ⊥)
-    → (v : AskValue) → IsOfferedAsk line v → ⊥
-asks_nothing line word others split no_query no_steps no_changes no_rows (plain q) is = no_query q (is_query line q (asked_words line (plain q) is.is_ask))
-asks_nothing line word others split no_query no_steps no_changes no_rows (rows true false q t) is =
-    let asks : AreRowsWords true false q t (word ∷ others) = subst (AreRowsWords true false q t) split (asked_words line (rows true false q t) is.is_ask) in
-    let whole : word ∷ others ≡ codes "steps" ∷ (asks.query_words ++ asks.traits_words) = rows_spelled q t (word ∷ others) asks in
-    let first : word ≡ codes "steps" = cc in
-    no_steps first q t (subst (λ (w : List ℕ). AreRowsWords true false q t (w ∷ others)) first asks)
-asks_nothing line word others split no_query no_steps no_changes no_rows (rows false false q t) is =
-    let are = asked_words line (rows false false q t) is.is_ask in
-    let asks = sifted_parts q t (words_of line) are in
-    let headed = rows_headed q asks.front asks.asks asks.is_query in
-    let whole : asks.front ++ asks.back ≡ word ∷ others = sym asks.spelled ∙ split in
-    no_rows
-    (λ e. headed_front asks.front asks.back others (codes "steps") headed refl (whole ∙ ap (λ (w : List ℕ). w ∷ others) e))
-    (λ e. not_changes asks.front asks.back others headed (whole ∙ ap (λ (w : List ℕ). w ∷ others) e)) q t are
-asks_nothing line word others split no_query no_steps no_changes no_rows (rows with_steps true q t) is = absurd is.is_offered
-asks_nothing line word others split no_query no_steps no_changes no_rows (steps false lane from None) is =
-    let asks : AreStepsWords false lane from None (word ∷ others) = subst (AreStepsWords false lane from None) split (asked_words line (steps false lane from None) is.is_ask) in
-    let whole : word ∷ others ≡ codes "changes" ∷ asks.lane_text ∷ asks.from_text ∷ [] = steps_spelled lane from (word ∷ others) asks in
-    let first : word ≡ codes "changes" = cc in
-    no_changes first lane from (subst (λ (w : List ℕ). AreStepsWords false lane from None (w ∷ others)) first asks)
-asks_nothing line word others split no_query no_steps no_changes no_rows (steps false lane from (Some prefix)) is = absurd is.is_offered
-asks_nothing line word others split no_query no_steps no_changes no_rows (steps true lane from prefix) is = absurd is.is_offered
+is_further : (f : Bool) (p : Option PrefixValue) → (f ≡ false → (q : PrefixValue) → p ≡ Some q → ⊥) → IsFurtherChanges f p
+is_further true p some = tt
+is_further false None some = tt
+is_further false (Some q) some = some refl q refl
+
+module _ (line : List ℕ) (first second : List (List ℕ)) (s f : Bool) (with_steps : TakesFirst (codes "steps") (words_of line) s first) (with_full : TakesFirst (codes "full") first f second) where
+  -- `steps` and `full` are taken from all that is asked
+  pub asks_behind : ((q : QueryValue) → IsQuery line q → ⊥) → (v : AskValue) → IsOfferedAsk line v → AsksBehind s f second v
+  asks_behind no_query (plain q) is = absurd (no_query q (is_query line q (asked_words line (plain q) is.is_ask)))
+  asks_behind no_query (rows u g q t) is =
+      let are = asked_words line (rows u g q t) is.is_ask in
+      let h = rows_headed q are.query_words are.asks are.is_query in
+      let told = some_headed are.query_words are.traits_words h in
+      let one = first_one (codes "steps") u s are.steps_words (are.full_words ++ (are.query_words ++ are.traits_words)) (words_of line) first are.is_steps
+      (behind_flag g are.full_words (are.query_words ++ are.traits_words) are.is_full (headed_no_front are.query_words are.traits_words (codes "steps") h refl))
+      (some_behind g are.full_words (are.query_words ++ are.traits_words) are.is_full told) are.spelled with_steps in
+      let two = first_one (codes "full") g f are.full_words (are.query_words ++ are.traits_words) first second are.is_full
+      (headed_no_front are.query_words are.traits_words (codes "full") h refl) told (sym one.1) with_full in (
+        one.0,
+        two.0,
+        record { front = are.query_words; back = are.traits_words; asks = are.asks; is_query = are.is_query; are_traits = are.are_traits; spelled = sym two.1 },
+        λ e. are.told.0 (one.0 ∙ e),
+        λ e. are.told.1 (two.0 ∙ e),
+      )
+  asks_behind no_query (steps g lane from p) is =
+      let are = asked_words line (steps g lane from p) is.is_ask in
+      let tail = are.lane_text ∷ are.from_text ∷ are.prefix_words in
+      let told : SomeWord (codes "changes" ∷ tail) = (codes "changes", tail, refl) in
+      let one = first_one (codes "steps") false s [] (are.full_words ++ (codes "changes" ∷ tail)) (words_of line) first refl
+      (behind_flag g are.full_words (codes "changes" ∷ tail) are.is_full (changes_no_front (codes "steps") tail refl))
+      (some_behind g are.full_words (codes "changes" ∷ tail) are.is_full told) are.spelled with_steps in
+      let two = first_one (codes "full") g f are.full_words (codes "changes" ∷ tail) first second are.is_full
+      (changes_no_front (codes "full") tail refl) told (sym one.1) with_full in
+      (sym one.0, two.0, record { lane_text = are.lane_text; from_text = are.from_text; prefix_words = are.prefix_words; is_lane = are.is_lane; is_from = are.is_from; is_prefix = are.is_prefix; spelled = sym two.1 })
+
+  -- what stands behind them, where none of them does
+  bare : s ≡ false → f ≡ false → words_of line ≡ second
+  bare no_steps no_full =
+      with_steps.spelled ∙ ap (λ (l : List (List ℕ)). l ++ first) (no_flag (codes "steps") s with_steps.front with_steps.is_flag no_steps)
+      ∙ with_full.spelled ∙ ap (λ (l : List (List ℕ)). l ++ second) (no_flag (codes "full") f with_full.front with_full.is_flag no_full)
+
+  rows_offered : ((q : QueryValue) → IsQuery line q → ⊥) → (q : QueryValue) (t : TraitsValue) → AsksWith q t second → (s ≡ true → TellsRows q) → (f ≡ true → TellsRows q) → IsOfferedAsk line (rows s f q t)
+  rows_offered no_query q t asks tells_s tells_f = asks_offered line (rows s f q t) (record {
+    steps_words = with_steps.front;
+    full_words = with_full.front;
+    query_words = asks.front;
+    traits_words = asks.back;
+    is_steps = with_steps.is_flag;
+    is_full = with_full.is_flag;
+    is_query = asks.is_query;
+    are_traits = asks.are_traits;
+    asks = asks.asks;
+    told = (tells_s, tells_f);
+    more = is_more s f t (λ no_steps no_full same.
+        let none = no_trait_words asks.back (subst (λ (u : TraitsValue). AreTraits u asks.back) same asks.are_traits) in
+        let whole : words_of line ≡ asks.front = bare no_steps no_full ∙ asks.spelled ∙ ap (λ (l : List (List ℕ)). asks.front ++ l) none ∙ append-nil asks.front in
+        no_query q (is_query line q (subst (AreQueryWords q) (sym whole) asks.is_query)));
+    spelled = with_steps.spelled ∙ ap (λ (l : List (List ℕ)). with_steps.front ++ l) (with_full.spelled ∙ ap (λ (l : List (List ℕ)). with_full.front ++ l) asks.spelled);
+  })
+
+  prefix_query : (lane from : ℕ) (p : Option PrefixValue) (q : PrefixValue) (are : AreChangesWords lane from p second) → s ≡ false → f ≡ false → p ≡ Some q → IsQuery line (changes lane from q)
+  prefix_query lane from p q are no_steps no_full same =
+      let (text, is_text, one) = subst (λ (o : Option PrefixValue). IsPrefixWord o are.prefix_words) same are.is_prefix in
+      is_query line (changes lane from q) (record {
+        lane_text = are.lane_text;
+        from_text = are.from_text;
+        prefix_text = text;
+        is_lane = are.is_lane;
+        is_from = are.is_from;
+        is_prefix = is_text;
+        spelled = bare no_steps no_full ∙ are.spelled ∙ ap (λ (l : List (List ℕ)). codes "changes" ∷ are.lane_text ∷ are.from_text ∷ l) one;
+      })
+
+  changes_offered : ((q : QueryValue) → IsQuery line q → ⊥) → (lane from : ℕ) (p : Option PrefixValue) → s ≡ false → AreChangesWords lane from p second → IsOfferedAsk line (steps f lane from p)
+  changes_offered no_query lane from p no_steps are = asks_offered line (steps f lane from p) (record {
+    full_words = with_full.front;
+    lane_text = are.lane_text;
+    from_text = are.from_text;
+    prefix_words = are.prefix_words;
+    is_full = with_full.is_flag;
+    is_lane = are.is_lane;
+    is_from = are.is_from;
+    is_prefix = are.is_prefix;
+    is_further = is_further f p (λ no_full q same. no_query (changes lane from q) (prefix_query lane from p q are no_steps no_full same));
+    spelled =
+        with_steps.spelled ∙ ap (λ (l : List (List ℕ)). l ++ first) (no_flag (codes "steps") s with_steps.front with_steps.is_flag no_steps)
+        ∙ with_full.spelled ∙ ap (λ (l : List (List ℕ)). with_full.front ++ l) are.spelled;
+  })
+
+  pub behind_offered : ((q : QueryValue) → IsQuery line q → ⊥) → (v : AskValue) → AsksBehind s f second v → IsOfferedAsk line v
+  behind_offered no_query (plain q) asks = absurd asks
+  behind_offered no_query (rows u g q t) (same_s, same_f, asks, tells_s, tells_f) =
+      subst (λ (b : Bool). IsOfferedAsk line (rows b g q t)) (sym same_s) (subst (λ (b : Bool). IsOfferedAsk line (rows s b q t)) (sym same_f) (rows_offered no_query q t asks tells_s tells_f))
+  behind_offered no_query (steps g lane from p) (no_steps, same_f, are) = subst (λ (b : Bool). IsOfferedAsk line (steps b lane from p)) (sym same_f) (changes_offered no_query lane from p no_steps are)
+
+-- ---- a prefix, or nothing
+pub prefix_ends : (p : Option PrefixValue) (words others : List (List ℕ)) (text : List ℕ) → words ≡ text ∷ others → (others ≡ [] → ⊥) → IsPrefixWord p words → ⊥
+prefix_ends None words others text split some is = omega (arith, ap length is, ap length split)
+prefix_ends (Some q) words others text split some (said, is_text, is) =
+    let whole : text ∷ others ≡ said ∷ [] = sym split ∙ is in
+    let end : others ≡ [] = cc in
+    some end
+
+pub no_prefix_word : (p : Option PrefixValue) (words others : List (List ℕ)) (text : List ℕ) → words ≡ text ∷ others → ((q : PrefixValue) → IsPrefixText text q → ⊥) → IsPrefixWord p words → ⊥
+no_prefix_word None words others text split none is = omega (arith, ap length is, ap length split)
+no_prefix_word (Some q) words others text split none (said, is_text, is) =
+    let whole : text ∷ others ≡ said ∷ [] = sym split ∙ is in
+    let same : said ≡ text = cc in
+    none q (subst (λ (l : List ℕ). IsPrefixText l q) same is_text)
