@@ -8,9 +8,9 @@ use Rattle.ask_specs.specs.AskReply.{IsAskReply}
 use Rattle.ask_specs.specs.Asking.{AskValue, plain, rows, steps}
 use Rattle.ask_specs.specs.Offer.{IsOfferedAsk}
 use Rattle.ask_specs.specs.Traits.{no_traits}
-use Rattle.ask_specs.proofs.OfferLaws.{full_table, offers_plain}
+use Rattle.ask_specs.proofs.OfferLaws.{offers_plain}
 use Rattle.ask_specs.proofs.WordLaws.{word_is_free}
-use Rattle.ask_specs.proofs.WrongLaws.{lacks_space}
+use Rattle.ask_specs.proofs.WrongLaws.{full_count, lacks_space}
 use Rattle.bmp_specs.specs.Life.{failed, Given}
 use Rattle.bmp_specs.specs.Query.{table, quit, IsQuery, IsWord}
 use Rattle.bmp_specs.specs.Reply.{reply}
@@ -112,12 +112,12 @@ steps_table_is_no_error lanes history unknown h a = h.1 (rows true false (table 
 steps_table_is_no_error lanes history (asked ask) h a = no_error ask lanes history a
 steps_table_is_no_error lanes history over h a = absurd (omega (arith, ap (λ (l : List ℕ). length l) a))
 
--- `full table` asks more than is offered, so it is answered by `error query` alone.
-full_table_is_an_error : (lanes : ℕ) (history : History) (heard : Heard) (text : List ℕ) → IsHeard (codes "full table") heard → IsAnswer lanes history heard text → text ≡ error_query
-full_table_is_an_error lanes history too_long text h a = absurd (omega (arith, h))
-full_table_is_an_error lanes history unknown text h a = a
-full_table_is_an_error lanes history (asked ask) text h a = absurd (full_table.no_offer ask h.1)
-full_table_is_an_error lanes history over text h a = absurd (full_table.no_offer (plain quit) h.1)
+-- `full count` asks nothing, so it is answered by `error query` alone.
+full_count_is_an_error : (lanes : ℕ) (history : History) (heard : Heard) (text : List ℕ) → IsHeard (codes "full count") heard → IsAnswer lanes history heard text → text ≡ error_query
+full_count_is_an_error lanes history too_long text h a = absurd (omega (arith, h))
+full_count_is_an_error lanes history unknown text h a = a
+full_count_is_an_error lanes history (asked ask) text h a = absurd (full_count ask h.1.is_ask)
+full_count_is_an_error lanes history over text h a = absurd (full_count (plain quit) h.1.is_ask)
 
 -- bytes before the first line feed are one list
 same_line : (a b x y : List ℕ) → HasNoEnd a → HasNoEnd b → a ++ 10 ∷ x ≡ b ++ 10 ∷ y → a ≡ b
