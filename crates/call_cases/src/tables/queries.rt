@@ -46,7 +46,7 @@ pub(crate) fn query_room(out: &mut Line, case: &str, words: &[&str]) {
     }
 }
 
-// What a line asks for, with the further words that are offered.
+// What a line asks for, with the further words.
 pub(crate) fn asked(out: &mut Line, line: &[u8]) {
     match parse_ask(line) {
         Some(ask) => out.show("", &ask),
