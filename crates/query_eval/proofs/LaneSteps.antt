@@ -49,19 +49,19 @@ module _ {O : Type 0} {faults : O → ℕ} {told : O → Option (List ℕ)} {asi
   puts_of_count lane AreThese a b r p = puts_as (λ es. lane.1 ≡ length es) (StandsForLane lane) AreThese AreThese a b r (λ e s. s.count) (λ e l t. t) p
 
   -- steps are told of the lane of this number alone
-  module _ (number lane from : ℕ) (prefix : Option PrefixValue) (tables : TablesValue) where
-    pub changes_elsewhere : (a : O) → (number == lane) ≡ false → PutsLines faults told aside (StandsFor tables) (AreAskedLaneLines (steps false number from prefix) lane) a (Ok 0) a
+  module _ (full : Bool) (number lane from : ℕ) (prefix : Option PrefixValue) (tables : TablesValue) where
+    pub changes_elsewhere : (a : O) → (number == lane) ≡ false → PutsLines faults told aside (StandsFor tables) (AreAskedLaneLines (steps full number from prefix) lane) a (Ok 0) a
     changes_elsewhere a other =
-        puts_own (StandsFor tables) (AreAskedLaneLines (steps false number from prefix) lane) [] a a (Ok 0)
-        (λ entries stands. subst (λ (b : Bool). MatchBool b (AreAskedChangeLines false lane entries from prefix []) (no_line ≡ [])) (sym other) refl) (λ entries xs ys p q. none entries xs p ∙ sym (none entries ys q)) (no_lines a [] refl)
+        puts_own (StandsFor tables) (AreAskedLaneLines (steps full number from prefix) lane) [] a a (Ok 0)
+        (λ entries stands. subst (λ (b : Bool). MatchBool b (AreAskedChangeLines full lane entries from prefix []) (no_line ≡ [])) (sym other) refl) (λ entries xs ys p q. none entries xs p ∙ sym (none entries ys q)) (no_lines a [] refl)
       where
-        none : (entries : List EntryValue) (xs : List (List ℕ)) → AreAskedLaneLines (steps false number from prefix) lane entries xs → xs ≡ []
-        none entries xs p = let q : MatchBool false (AreAskedChangeLines false lane entries from prefix xs) (xs ≡ []) = subst (λ (b : Bool). MatchBool b (AreAskedChangeLines false lane entries from prefix xs) (xs ≡ [])) other p in q
+        none : (entries : List EntryValue) (xs : List (List ℕ)) → AreAskedLaneLines (steps full number from prefix) lane entries xs → xs ≡ []
+        none entries xs p = let q : MatchBool false (AreAskedChangeLines full lane entries from prefix xs) (xs ≡ []) = subst (λ (b : Bool). MatchBool b (AreAskedChangeLines full lane entries from prefix xs) (xs ≡ [])) other p in q
 
-    pub changes_here : (a b : O) (r : Result ℕ Failed) → (number == lane) ≡ true → PutsLines faults told aside (StandsFor tables) (λ entries. AreAskedChangeLines false lane entries from prefix) a r b → PutsLines faults told aside (StandsFor tables) (AreAskedLaneLines (steps false number from prefix) lane) a r b
+    pub changes_here : (a b : O) (r : Result ℕ Failed) → (number == lane) ≡ true → PutsLines faults told aside (StandsFor tables) (λ entries. AreAskedChangeLines full lane entries from prefix) a r b → PutsLines faults told aside (StandsFor tables) (AreAskedLaneLines (steps full number from prefix) lane) a r b
     changes_here a b r same p =
-        puts_as (StandsFor tables) (StandsFor tables) (λ entries. AreAskedChangeLines false lane entries from prefix) (AreAskedLaneLines (steps false number from prefix) lane) a b r (λ e s. s)
-        (λ e lines t. let q : MatchBool true (AreAskedChangeLines false lane e from prefix lines) (lines ≡ []) = subst (λ (b : Bool). MatchBool b (AreAskedChangeLines false lane e from prefix lines) (lines ≡ [])) same t in q) p
+        puts_as (StandsFor tables) (StandsFor tables) (λ entries. AreAskedChangeLines full lane entries from prefix) (AreAskedLaneLines (steps full number from prefix) lane) a b r (λ e s. s)
+        (λ e lines t. let q : MatchBool true (AreAskedChangeLines full lane e from prefix lines) (lines ≡ []) = subst (λ (b : Bool). MatchBool b (AreAskedChangeLines full lane e from prefix lines) (lines ≡ [])) same t in q) p
 
   -- the changes of a prefix are among them, in the words of a query
   pub plain_changes : (number lane from : ℕ) (prefix : PrefixValue) (tables : TablesValue) (a b : O) (r : Result ℕ Failed) → PutsLines faults told aside (StandsFor tables) (AreAskedLaneLines (steps false number from (Some prefix)) lane) a r b

@@ -1,5 +1,5 @@
 -- There are lines of a lane for all entries that its tables stand for.
-use Rattle.std.proofs.Common.{◌≡◌, ℕ, Bool, true, false, List, [], ◌∷◌, length, map, Some, None, refl}
+use Rattle.std.proofs.Common.{◌≡◌, ℕ, Bool, true, false, List, [], ◌∷◌, length, map, Option, Some, refl}
 use Rattle.std.specs.Prelude.{MatchBool, ◌==◌}
 use Rattle.ask_specs.specs.Asking.{steps}
 use Rattle.ask_specs.specs.AskReply.{AreAskedChangeLines, AreAskedLaneLines}
@@ -58,16 +58,16 @@ module _ (lane : ℕ) (tables : TablesValue) (entries : List EntryValue) (stands
   )
 
   changes_lines : (number from : ℕ) (prefix : PrefixValue) → (lines : List (List ℕ)) × AreLaneLines (changes number from prefix) lane entries lines
-  changes_lines number from prefix = go (number == lane) (changes_there lane tables entries from (Some prefix) stands)
+  changes_lines number from prefix = go (number == lane) (changes_there false lane tables entries from (Some prefix) stands)
     where
       go : (b : Bool) → (lines : List (List ℕ)) × AreAskedChangeLines false lane entries from (Some prefix) lines → (lines : List (List ℕ)) × MatchBool b (AreChangeLines lane entries from prefix lines) (lines ≡ [])
       go true h = (h.0, record { known = h.1.known; are_known = h.1.are_known; told = h.1.told })
       go false h = ([], refl)
 
-  all_changes_lines : (number from : ℕ) → (lines : List (List ℕ)) × AreAskedLaneLines (steps false number from None) lane entries lines
-  all_changes_lines number from = go (number == lane) (changes_there lane tables entries from None stands)
+  asked_changes_lines : (full : Bool) (number from : ℕ) (prefix : Option PrefixValue) → (lines : List (List ℕ)) × AreAskedLaneLines (steps full number from prefix) lane entries lines
+  asked_changes_lines full number from prefix = go (number == lane) (changes_there full lane tables entries from prefix stands)
     where
-      go : (b : Bool) → (lines : List (List ℕ)) × AreAskedChangeLines false lane entries from None lines → (lines : List (List ℕ)) × MatchBool b (AreAskedChangeLines false lane entries from None lines) (lines ≡ [])
+      go : (b : Bool) → (lines : List (List ℕ)) × AreAskedChangeLines full lane entries from prefix lines → (lines : List (List ℕ)) × MatchBool b (AreAskedChangeLines full lane entries from prefix lines) (lines ≡ [])
       go true h = h
       go false h = ([], refl)
 
@@ -113,10 +113,10 @@ lines_there query tells number lane entries stands = lane_lines_there number lan
 pub rows_lines_there : (ask : RowsAsk) (number : ℕ) (lane : TablesValue × ℕ) (entries : List EntryValue) → StandsForLane lane entries → (lines : List (List ℕ)) × AreAskedLaneLines (ask_value (Rows ask)) number entries lines
 rows_lines_there ask number lane entries stands =
     let known = query_rows_there number lane.0 entries stands.tables ask.query (traits_value ask.traits) in
-    asked_there ask.steps (row_query_value ask.query) (traits_value ask.traits) number lane.0 entries stands.tables known.0 known.1
+    asked_there ask.steps ask.full (row_query_value ask.query) (traits_value ask.traits) number lane.0 entries stands.tables known.0 known.1
 
-pub changes_lines_there : (asked from : ℕ) (number : ℕ) (lane : TablesValue × ℕ) (entries : List EntryValue) → StandsForLane lane entries → (lines : List (List ℕ)) × AreAskedLaneLines (steps false asked from None) number entries lines
-changes_lines_there asked from number lane entries stands = all_changes_lines number lane.0 entries stands.tables asked from
+pub changes_lines_there : (full : Bool) (asked from : ℕ) (prefix : Option PrefixValue) (number : ℕ) (lane : TablesValue × ℕ) (entries : List EntryValue) → StandsForLane lane entries → (lines : List (List ℕ)) × AreAskedLaneLines (steps full asked from prefix) number entries lines
+changes_lines_there full asked from prefix number lane entries stands = asked_changes_lines number lane.0 entries stands.tables full asked from prefix
 
 pub rows_there : (select : SelectValue) (traits : TraitsValue) (number : ℕ) (lane : TablesValue × ℕ) (entries : List EntryValue) → StandsForLane lane entries → (rows : List RowValue) × AreKeptRows (count select) traits number entries rows
 rows_there select traits number lane entries stands =

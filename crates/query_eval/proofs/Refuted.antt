@@ -7,13 +7,16 @@ use Rattle.ask_specs.specs.Items.{are_items}
 use Rattle.std.specs.List.{Contains}
 use Rattle.ask_specs.specs.Asking.{rows as rows_asked, steps}
 use Rattle.ask_specs.specs.AskReply.{AsksTraitRow, IsAskReply, told_change}
+use Rattle.ask_specs.specs.FullLine.{full_line}
 use Rattle.ask_specs.specs.Traits.{HasCommunity, StandIn, large, no_traits, plain}
 use Rattle.bmp_specs.specs.declared.peers.View.{View}
 use Rattle.bmp_specs.specs.declared.peers.View.TheVariants.{InPre, InPost}
 use Rattle.bmp_specs.specs.declared.wire.Family.TheVariants.{V4}
 use Rattle.bmp_specs.specs.Changes.{ChangeValue}
 use Rattle.bmp_specs.specs.ChangeLines.{steps_line}
+use Rattle.bmp_specs.specs.AddressText.{dotted}
 use Rattle.bmp_specs.specs.PeerLines.{lane_line}
+use Rattle.bmp_specs.specs.PeerText.{hex_text, distinguisher_text}
 use Rattle.bmp_specs.specs.PeerUp.{IsUp}
 use Rattle.bmp_specs.specs.Query.{cut, longest, table}
 use Rattle.bmp_specs.specs.QueryReply.{IsReply}
@@ -23,10 +26,11 @@ use Rattle.bmp_specs.specs.RouteLine.{route_line}
 use Rattle.bmp_specs.specs.Rows.{RowValue, HasRow}
 use Rattle.bmp_specs.specs.Selection.{SelectValue, IsRowSelected, select_all}
 use Rattle.bmp_specs.specs.TableRows.{AreRows}
-use Rattle.bmp_specs.specs.Values.{AddressValue, AttrsValue, EffectValue, KeyValue, NlriValue, OpenValue, OtherValue, PeerInfoValue, opened, opened_step, up, announce}
+use Rattle.bmp_specs.specs.Values.{AddressValue, AttrsValue, EffectValue, KeyValue, NlriValue, OpenValue, OtherValue, PeerInfoValue, message, opened, opened_step, up, announce}
 use Rattle.bmp_specs.proofs.ListedOne.{contains_cases, contains_first}
 use Rattle.bmp_specs.proofs.RowLaws.{none_row, row_from, row_now, row_still, up_now, up_still}
 use Rattle.wire_io.specs.Faults.{HasCause}
+use Rattle.query_eval.proofs.RowChangeLaws.{change_lines, change_lines_one}
 use Rattle.query_eval.proofs.TraitLaws.{stand_decides}
 
 -- the lines of one lane are those of its part
@@ -237,3 +241,56 @@ a_malformed_attribute_has_a_community h = elim (contains_cases malformed [] h.at
 -- The numbers of `through` are found in another order.
 another_order_goes_through : StandIn (64500 ∷ 3356 ∷ []) (3356 ∷ 64500 ∷ []) → ⊥
 another_order_goes_through s = false≢true ((stand_decides (64500 ∷ 3356 ∷ []) (3356 ∷ 64500 ∷ [])).1 s)
+
+-- ---- full lines
+-- a session with one route, without path attributes
+abbrev before_route : List EffectValue
+before_route = up (peer 1) info ∷ []
+
+abbrev one_route : List EffectValue
+one_route = before_route ++ announce (peer 1) InPre short route ∷ []
+
+abbrev its_row : RowValue
+its_row = at_prefix short route
+
+only_row : (row : RowValue) → HasRow one_route row → row ≡ its_row
+only_row row h = elim (row_from before_route (announce (peer 1) InPre short route) row h) [
+  | inl p ↦ (let e : announce (peer 1) InPre short route ≡ announce row.row_key.key row.row_key.view row.row_key.nlri row.route = p.0 in
+      let k : row.row_key.key ≡ peer 1 = cc in
+      let v : row.row_key.view ≡ InPre = cc in
+      let n : row.row_key.nlri ≡ short = cc in
+      let a : row.route ≡ route = cc in
+      λ i. record { row_key = record { key = k i; view = v i; nlri = n i }; route = a i })
+  | inr p ↦ absurd (none_yet p.0)
+]
+  where
+    none_yet : HasRow before_route row → ⊥
+    none_yet g = elim (row_from [] (up (peer 1) info) row g) [
+      | inl q ↦ (let e : up (peer 1) info ≡ announce row.row_key.key row.row_key.view row.row_key.nlri row.route = q.0 in cc)
+      | inr q ↦ none_row row q.0
+    ]
+
+-- its row is told, and no other
+its_row_known : (known : List RowValue) → AreRows (AsksTraitRow (table select_all) no_traits 0 one_route) one_route known → (rest : List RowValue) × (known ≡ its_row ∷ rest)
+its_row_known [] are =
+    let told = (are.exact its_row).1 (row_now before_route its_row (up_now [] (peer 1) info), (record { of_peer = record { router_is = tt; peer_is = tt }; view_is = tt; family_is = tt }, record { through_is = tt; community_is = tt; other_is = tt })) in
+    absurd (omega (arith, told.1))
+its_row_known (row ∷ rows) are = let same = only_row row ((are.exact row).0 (contains_first row rows)).0 in (rows, λ i. same i ∷ rows)
+
+-- `full table` tells a row by the line that `table` tells of it.
+a_full_row_tells_all : IsAskReply (rows_asked false true (table select_all) no_traits) ((opened ∷ message 0 0 one_route ∷ []) ∷ []) (codes "at 2\nroute 0 0-0000000000000001-192.0.0.0 adj-in-pre 10.0.0.0/8 next=- origin=- path=- med=- pref=- atomic=no agg=- comm=- other=-\nend 1\n") → ⊥
+unfolding digits hex_text distinguisher_text dotted
+a_full_row_tells_all r =
+    let part = r.are_lines.each.each 0 [] [] (omega arith) in
+    let known = its_row_known part.known part.are_rows in
+    let lines : r.lines ≡ part.steps_lines ++ map (full_line 0) part.known = first_part r.lines r.are_lines.parts r.are_lines.each.count r.are_lines.all ∙ part.told in
+    omega (arith, ap (λ (text : List ℕ). slice_index text 130) (r.told ∙ ap (reply 2) (lines ∙ (λ i. part.are_steps i ++ map (full_line 0) (known.1 i)))))
+
+-- `full changes 0 0` tells a step by the line that `changes 0 0` tells of it, without its times.
+a_full_change_tells_its_times : IsAskReply (steps true 0 0 None) ((opened ∷ []) ∷ []) (codes "at 1\nsteps 0 1\nchange 0 0 opened\nend 2\n") → ⊥
+unfolding digits
+a_full_change_tells_its_times r =
+    let part = r.are_lines.each.each 0 [] [] (omega arith) in
+    let one = change_lines_one true 0 0 None (opened ∷ []) _ _ part (change_lines true 0 0 None (opened ∷ [])) in
+    let lines : r.lines ≡ steps_line 0 1 ∷ told_change true 0 opening ∷ [] = first_part r.lines r.are_lines.parts r.are_lines.each.count r.are_lines.all ∙ one in
+    omega (arith, ap (λ (text : List ℕ). slice_index text 32) (r.told ∙ ap (reply 1) lines))

@@ -1,5 +1,5 @@
 -- There is a reply on all entries that a cut stands for.
-use Rattle.std.proofs.Common.{◌≡◌, ℕ, ◌<◌, Bool, false, List, [], ◌∷◌, length, None, refl, ap, arith}
+use Rattle.std.proofs.Common.{◌≡◌, ℕ, ◌<◌, Bool, List, [], ◌∷◌, length, Option, refl, ap, arith}
 use Rattle.std.specs.Prelude.{sum_by, flat_map, slice_index_or}
 use Rattle.ask_specs.specs.Asking.{plain, rows as asked_rows, steps as steps_asked}
 use Rattle.ask_specs.specs.AskReply.{AreAskedLaneLines, AreAskedLines, AreFurtherLines, IsAskReply, IsAskedCount}
@@ -10,7 +10,7 @@ use Rattle.bmp_specs.specs.QueryReply.{AreLaneLines, AreLines, AreReplyLines, Is
 use Rattle.bmp_specs.specs.Reply.{reply, told_count}
 use Rattle.bmp_specs.specs.Rows.{RowValue}
 use Rattle.bmp_specs.specs.Selection.{SelectValue}
-use Rattle.bmp_specs.specs.Values.{EntryValue}
+use Rattle.bmp_specs.specs.Values.{EntryValue, PrefixValue}
 use Rattle.query_lang.specs.Asks.{ask_value, row_query_value}
 use Rattle.query_lang.specs.TraitValues.{traits_value}
 use Rattle.query_lang.specs.declared.ask.RowsAsk.{RowsAsk}
@@ -77,26 +77,26 @@ module _ (cut : List (TablesValue × ℕ)) (lanes : List (List EntryValue)) (sta
       (count_line (told_count (length (flat_map (λ (p : List RowValue). p) g.0))) ∷ [], record { rows = flat_map (λ p. p) g.0; are_rows = record { parts = g.0; each = g.1; all = refl }; told = refl })
   reply_lines quit asks = absurd (asks refl)
 
-  rows_lines : (with_steps : Bool) (rows : RowQuery) (traits : Traits) → (lines : List (List ℕ)) × AreFurtherLines (asked_rows with_steps false (row_query_value rows) (traits_value traits)) lanes lines
-  rows_lines with_steps (Table select) traits = rows_by_lanes (record { steps = with_steps; query = Table select; traits = traits })
-  rows_lines with_steps (Exact prefix select) traits = rows_by_lanes (record { steps = with_steps; query = Exact prefix select; traits = traits })
-  rows_lines with_steps (Longest address select) traits = rows_by_lanes (record { steps = with_steps; query = Longest address select; traits = traits })
-  rows_lines with_steps (Within prefix select) traits = rows_by_lanes (record { steps = with_steps; query = Within prefix select; traits = traits })
-  rows_lines with_steps (Origin asn select) traits = rows_by_lanes (record { steps = with_steps; query = Origin asn select; traits = traits })
+  rows_lines : (with_steps full : Bool) (rows : RowQuery) (traits : Traits) → (lines : List (List ℕ)) × AreFurtherLines (asked_rows with_steps full (row_query_value rows) (traits_value traits)) lanes lines
+  rows_lines with_steps full (Table select) traits = rows_by_lanes (record { steps = with_steps; full = full; query = Table select; traits = traits })
+  rows_lines with_steps full (Exact prefix select) traits = rows_by_lanes (record { steps = with_steps; full = full; query = Exact prefix select; traits = traits })
+  rows_lines with_steps full (Longest address select) traits = rows_by_lanes (record { steps = with_steps; full = full; query = Longest address select; traits = traits })
+  rows_lines with_steps full (Within prefix select) traits = rows_by_lanes (record { steps = with_steps; full = full; query = Within prefix select; traits = traits })
+  rows_lines with_steps full (Origin asn select) traits = rows_by_lanes (record { steps = with_steps; full = full; query = Origin asn select; traits = traits })
 
   count_lines : (select : SelectValue) (traits : TraitsValue) → (lines : List (List ℕ)) × IsAskedCount select traits lanes lines
   count_lines select traits =
       let g = gather (AreKeptRows (count select) traits) lanes (lane_rows select traits) in
       (count_line (told_count (sum_by length g.0)) ∷ [], record { parts = g.0; each = g.1; told = refl })
 
-  changes_lines : (asked from : ℕ) → (lines : List (List ℕ)) × AreFurtherLines (steps_asked false asked from None) lanes lines
-  changes_lines asked from = let h = all_lines (AreAskedLaneLines (steps_asked false asked from None)) (changes_lines_there asked from) in (h.0, record { parts = h.1.parts; each = h.1.each; all = h.1.all })
+  changes_lines : (full : Bool) (asked from : ℕ) (prefix : Option PrefixValue) → (lines : List (List ℕ)) × AreFurtherLines (steps_asked full asked from prefix) lanes lines
+  changes_lines full asked from prefix = let h = all_lines (AreAskedLaneLines (steps_asked full asked from prefix)) (changes_lines_there full asked from prefix) in (h.0, record { parts = h.1.parts; each = h.1.each; all = h.1.all })
 
 pub reply_there : (cut : List (TablesValue × ℕ)) (query : QueryValue) (lanes : List (List EntryValue)) → (query ≡ quit → ⊥) → StandForLanes cut lanes → (text : List ℕ) × IsReply query lanes text
 reply_there cut query lanes asks stand = let h = reply_lines cut lanes stand query asks in (reply (sum_by length lanes) h.0, record { lines = h.0; are_lines = h.1; told = refl })
 
 pub ask_reply_there : (cut : List (TablesValue × ℕ)) (ask : Ask) (lanes : List (List EntryValue)) → (ask_value ask ≡ plain quit → ⊥) → StandForLanes cut lanes → (text : List ℕ) × IsAskReply (ask_value ask) lanes text
 ask_reply_there cut (Query query) lanes asks stand = reply_there cut (query_value query) lanes (λ is. asks (ap plain is)) stand
-ask_reply_there cut (Rows ask) lanes asks stand = let h = rows_lines cut lanes stand ask.steps ask.query ask.traits in (reply (sum_by length lanes) h.0, record { lines = h.0; are_lines = h.1; told = refl })
+ask_reply_there cut (Rows ask) lanes asks stand = let h = rows_lines cut lanes stand ask.steps ask.full ask.query ask.traits in (reply (sum_by length lanes) h.0, record { lines = h.0; are_lines = h.1; told = refl })
 ask_reply_there cut (Count select traits) lanes asks stand = let h = count_lines cut lanes stand select (traits_value traits) in (reply (sum_by length lanes) h.0, record { lines = h.0; are_lines = h.1; told = refl })
-ask_reply_there cut (Changes asked from) lanes asks stand = let h = changes_lines cut lanes stand asked from in (reply (sum_by length lanes) h.0, record { lines = h.0; are_lines = h.1; told = refl })
+ask_reply_there cut (Changes full asked from prefix) lanes asks stand = let h = changes_lines cut lanes stand full asked from prefix in (reply (sum_by length lanes) h.0, record { lines = h.0; are_lines = h.1; told = refl })

@@ -27,7 +27,7 @@ use Rattle.wire_io.specs.Aside.{Aside}
 use Rattle.query_eval.specs.declared.run.Part.{Part}
 use Rattle.query_eval.specs.declared.run.Part.TheVariants.{Whole, Exact, Within}
 use Rattle.query_eval.specs.Puts.{WritesLines, PutsLines, AreAskedRows, AreKeptRows, AreKeptLines, CountsKeptRows}
-use Rattle.query_eval.specs.Rows.{Asking, kept, row_of, lane_rows, lines_of, asks_run, asks_origin, asks_longest, none_longer, part_query, part_rows}
+use Rattle.query_eval.specs.Rows.{Asking, kept, row_of, lane_rows, asks_run, asks_origin, asks_longest, none_longer, part_query, part_rows}
 use Rattle.query_eval.specs.RowRuns.{holds, in_part}
 use Rattle.query_eval.specs.RowTables.{PeerTableValue}
 use Rattle.query_eval.proofs.Keeping.{named_decides}
@@ -117,11 +117,11 @@ module _ (query : QueryValue) (traits : TraitsValue) (lane : ℕ) (value : Table
   kept_one : (entries : List EntryValue) (xs ys : List RowValue) → AreKeptRows query traits lane entries xs → AreKeptRows query traits lane entries ys → xs ≡ ys
   kept_one entries xs ys p q = rows_one (AsksTraitRow query traits lane (session_effects entries)) (session_effects entries) xs ys p q
 
-  lines_one : (entries : List EntryValue) (xs ys : List (List ℕ)) → AreKeptLines query traits lane entries xs → AreKeptLines query traits lane entries ys → xs ≡ ys
-  lines_one entries xs ys p q = p.told ∙ ap (map (route_line lane)) (kept_one entries p.rows q.rows p.are_rows q.are_rows) ∙ sym q.told
+  lines_one : (line : ℕ → RowValue → List ℕ) (entries : List EntryValue) (xs ys : List (List ℕ)) → AreKeptLines line query traits lane entries xs → AreKeptLines line query traits lane entries ys → xs ≡ ys
+  lines_one line entries xs ys p q = p.told ∙ ap (map (line lane)) (kept_one entries p.rows q.rows p.are_rows q.are_rows) ∙ sym q.told
 
-  pub puts_rows : {O : Type 0} {faults : O → ℕ} {told : O → Option (List ℕ)} {aside : O → Aside} (a b : O) (r : Result ℕ Failed) → WritesLines faults told aside a (lines_of lane rows) r b → PutsLines faults told aside (StandsFor value) (AreKeptLines query traits lane) a r b
-  puts_rows a b r w = puts_own (StandsFor value) (AreKeptLines query traits lane) (lines_of lane rows) a b r (λ entries stands. record { rows = rows; are_rows = are entries stands; told = refl }) lines_one w
+  pub puts_rows : {O : Type 0} {faults : O → ℕ} {told : O → Option (List ℕ)} {aside : O → Aside} (line : ℕ → RowValue → List ℕ) (a b : O) (r : Result ℕ Failed) → WritesLines faults told aside a (map (line lane) rows) r b → PutsLines faults told aside (StandsFor value) (AreKeptLines line query traits lane) a r b
+  puts_rows line a b r w = puts_own (StandsFor value) (AreKeptLines line query traits lane) (map (line lane) rows) a b r (λ entries stands. record { rows = rows; are_rows = are entries stands; told = refl }) (lines_one line) w
 
   pub counts_rows : (n : ℕ) → n ≡ told_count (length rows) → CountsKeptRows (StandsFor value) query traits lane n
   counts_rows n is = record {
@@ -129,11 +129,11 @@ module _ (query : QueryValue) (traits : TraitsValue) (lane : ℕ) (value : Table
   }
 
 -- the lines of a part that were written are those that its query asks for
-pub puts_part : {O : Type 0} {faults : O → ℕ} {told : O → Option (List ℕ)} {aside : O → Aside} (part : Part) (select : SelectValue) (traits : TraitsValue) (lane : ℕ) (value : TablesValue) → IsStrictlySortedBy key_cmp (keys_of value.session.books.peers)
-    → (a b : O) (r : Result ℕ Failed) → WritesLines faults told aside a (lines_of lane (part_rows part select traits lane value)) r b → PutsLines faults told aside (StandsFor value) (AreKeptLines (part_query part select) traits lane) a r b
-puts_part Whole select traits lane value ordered a b r w = puts_rows (table select) traits lane value (part_rows Whole select traits lane value) (λ entries stands. are_table select traits lane value entries stands ordered) a b r w
-puts_part (Exact p) select traits lane value ordered a b r w = puts_rows (exact p select) traits lane value (part_rows (Exact p) select traits lane value) (λ entries stands. are_exact select traits lane value entries stands ordered p) a b r w
-puts_part (Within p) select traits lane value ordered a b r w = puts_rows (within p select) traits lane value (part_rows (Within p) select traits lane value) (λ entries stands. are_within select traits lane value entries stands ordered p) a b r w
+pub puts_part : {O : Type 0} {faults : O → ℕ} {told : O → Option (List ℕ)} {aside : O → Aside} (line : ℕ → RowValue → List ℕ) (part : Part) (select : SelectValue) (traits : TraitsValue) (lane : ℕ) (value : TablesValue) → IsStrictlySortedBy key_cmp (keys_of value.session.books.peers)
+    → (a b : O) (r : Result ℕ Failed) → WritesLines faults told aside a (map (line lane) (part_rows part select traits lane value)) r b → PutsLines faults told aside (StandsFor value) (AreKeptLines line (part_query part select) traits lane) a r b
+puts_part line Whole select traits lane value ordered a b r w = puts_rows (table select) traits lane value (part_rows Whole select traits lane value) (λ entries stands. are_table select traits lane value entries stands ordered) line a b r w
+puts_part line (Exact p) select traits lane value ordered a b r w = puts_rows (exact p select) traits lane value (part_rows (Exact p) select traits lane value) (λ entries stands. are_exact select traits lane value entries stands ordered p) line a b r w
+puts_part line (Within p) select traits lane value ordered a b r w = puts_rows (within p select) traits lane value (part_rows (Within p) select traits lane value) (λ entries stands. are_within select traits lane value entries stands ordered p) line a b r w
 
 -- ---- where nothing is asked of a route
 has_nothing : (route : AttrsValue) → HasTraits no_traits route
@@ -146,14 +146,14 @@ pub rows_kept : (query : QueryValue) (lane : ℕ) (entries : List EntryValue) (r
 rows_kept query lane entries rows a = record { ordered = a.ordered; exact = λ row. (λ c. let h = (a.exact row).0 c in (h.0, (h.1, has_nothing row.route)), λ h. (a.exact row).1 (h.0, h.1.0)) }
 
 module _ {O : Type 0} {faults : O → ℕ} {told : O → Option (List ℕ)} {aside : O → Aside} (value : TablesValue) where
-  pub lines_plain : (query : QueryValue) (lane : ℕ) (a b : O) (r : Result ℕ Failed) → PutsLines faults told aside (StandsFor value) (AreKeptLines query no_traits lane) a r b → PutsLines faults told aside (StandsFor value) (AreRowLines query lane) a r b
+  pub lines_plain : (query : QueryValue) (lane : ℕ) (a b : O) (r : Result ℕ Failed) → PutsLines faults told aside (StandsFor value) (AreKeptLines route_line query no_traits lane) a r b → PutsLines faults told aside (StandsFor value) (AreRowLines query lane) a r b
   lines_plain query lane a b r p = record {
     puts = λ entries lines of are. p.puts entries lines of (record { rows = are.rows; are_rows = rows_kept query lane entries are.rows are.are_rows; told = are.told });
     kept = p.kept;
     cause = p.cause;
   }
 
-  pub part_plain : (part : Part) (select : SelectValue) (lane : ℕ) (a b : O) (r : Result ℕ Failed) → PutsLines faults told aside (StandsFor value) (AreKeptLines (part_query part select) no_traits lane) a r b → PutsLines faults told aside (StandsFor value) (AreLaneLines (part_query part select) lane) a r b
+  pub part_plain : (part : Part) (select : SelectValue) (lane : ℕ) (a b : O) (r : Result ℕ Failed) → PutsLines faults told aside (StandsFor value) (AreKeptLines route_line (part_query part select) no_traits lane) a r b → PutsLines faults told aside (StandsFor value) (AreLaneLines (part_query part select) lane) a r b
   part_plain Whole select lane a b r p = lines_plain (table select) lane a b r p
   part_plain (Exact q) select lane a b r p = lines_plain (exact q select) lane a b r p
   part_plain (Within q) select lane a b r p = lines_plain (within q select) lane a b r p

@@ -10,9 +10,9 @@ use Rattle.std.proofs.lemmas.Bool.Decides.{nat_tests}
 use Rattle.std.proofs.lemmas.Cmp.{nat_cmp_total}
 use Rattle.std.proofs.lemmas.List.{drop-drop, length-map}
 use Rattle.std.proofs.lemmas.Option.{slice_get_within}
-use Rattle.ask_specs.specs.AskReply.{AreAskedChangeLines, IsAskedStep}
+use Rattle.ask_specs.specs.AskReply.{AreAskedChangeLines, IsAskedStep, told_change}
 use Rattle.bmp_specs.specs.Changes.{ChangeValue, Concerns, oldest_kept}
-use Rattle.bmp_specs.specs.ChangeLines.{steps_line, missed_lines, change_line}
+use Rattle.bmp_specs.specs.ChangeLines.{steps_line, missed_lines}
 use Rattle.bmp_specs.specs.Listed.{AreAll}
 use Rattle.bmp_specs.specs.Orders.{prefix_cmp}
 use Rattle.bmp_specs.specs.QueryReply.{most_told}
@@ -197,14 +197,14 @@ module _ (ring : RecentValue Step) (p : Option PrefixValue) where
   none_kept from none = none_in (kept_changes (steps_told ring) from p) (λ change c. none change (((kept_are from).exact change).0 c))
 
 -- ---- the lines
-module _ (ring : RecentValue StepValue) (lane from : ℕ) (p : Option PrefixValue) where
+module _ (full : Bool) (ring : RecentValue StepValue) (lane from : ℕ) (p : Option PrefixValue) where
   abbrev more_lines : List (List ℕ)
-  more_lines = missed_lines from (oldest_kept ring.total) ++ map (change_line lane) (kept_changes ring from p)
+  more_lines = missed_lines from (oldest_kept ring.total) ++ map (told_change full lane) (kept_changes ring from p)
 
-  pub told_all : ring.total < most_told → told_changes ring lane from p ≡ steps_line lane ring.total ∷ more_lines
+  pub told_all : ring.total < most_told → told_changes full ring lane from p ≡ steps_line lane ring.total ∷ more_lines
   told_all less = ap (λ (b : Bool). steps_line lane ring.total ∷ (if b then more_lines else [])) (lt-ltb ring.total most_told less)
 
-module _ (lane from : ℕ) (p : Option PrefixValue) (entries : List EntryValue) where
+module _ (full : Bool) (lane from : ℕ) (p : Option PrefixValue) (entries : List EntryValue) where
   abbrev steps : List StepValue
   steps = steps_of entries
 
@@ -220,38 +220,38 @@ module _ (lane from : ℕ) (p : Option PrefixValue) (entries : List EntryValue) 
       ap (λ (n : ℕ). changes_in (drop (from - oldest_kept n) (last_items steps)) p (max from (oldest_kept n))) total
       ∙ ap (λ (l : List StepValue). changes_in l p first) (drop-drop (from - oldest) oldest steps ∙ ap (λ (n : ℕ). drop n steps) there)
 
-  told_cases : (b : Bool) → nat_lt (length steps) most_told ≡ b → MatchBool b (told_changes (recent steps) lane from p ≡ steps_line lane (length steps) ∷ (missed_lines from (oldest_kept (length steps)) ++ map (change_line lane) (changes_in (drop first steps) p first))) (told_changes (recent steps) lane from p ≡ steps_line lane most_told ∷ [])
+  told_cases : (b : Bool) → nat_lt (length steps) most_told ≡ b → MatchBool b (told_changes full (recent steps) lane from p ≡ steps_line lane (length steps) ∷ (missed_lines from (oldest_kept (length steps)) ++ map (told_change full lane) (changes_in (drop first steps) p first))) (told_changes full (recent steps) lane from p ≡ steps_line lane most_told ∷ [])
   told_cases true t =
       let less : length steps < most_told = ltb-true (length steps) most_told t in
       let total : min (length steps) most_told ≡ length steps = omega (arith, less) in
-      let kept = map (change_line lane) (kept_changes (recent steps) from p) in
+      let kept = map (told_change full lane) (kept_changes (recent steps) from p) in
       ap (λ (n : ℕ). steps_line lane n ∷ (if nat_lt n most_told then missed_lines from (oldest_kept n) ++ kept else [])) total
       ∙ ap (λ (b : Bool). steps_line lane (length steps) ∷ (if b then missed_lines from (oldest_kept (length steps)) ++ kept else [])) t
-      ∙ ap (λ (l : List ChangeValue). steps_line lane (length steps) ∷ (missed_lines from (oldest_kept (length steps)) ++ map (change_line lane) l)) (last_changes (omega (arith, less)))
+      ∙ ap (λ (l : List ChangeValue). steps_line lane (length steps) ∷ (missed_lines from (oldest_kept (length steps)) ++ map (told_change full lane) l)) (last_changes (omega (arith, less)))
   told_cases false f =
       let more : most_told ≤ length steps = ltb-false (length steps) most_told f in
       let total : min (length steps) most_told ≡ most_told = omega (arith, more) in
-      ap (λ (n : ℕ). steps_line lane n ∷ (if nat_lt n most_told then missed_lines from (oldest_kept n) ++ map (change_line lane) (kept_changes (recent steps) from p) else [])) total
+      ap (λ (n : ℕ). steps_line lane n ∷ (if nat_lt n most_told then missed_lines from (oldest_kept n) ++ map (told_change full lane) (kept_changes (recent steps) from p) else [])) total
 
-  pub change_lines : AreAskedChangeLines false lane entries from p (told_changes (recent steps) lane from p)
+  pub change_lines : AreAskedChangeLines full lane entries from p (told_changes full (recent steps) lane from p)
   change_lines = record { known = changes_in (drop first steps) p first; are_known = all_changes steps first p; told = told_cases (nat_lt (length steps) most_told) refl }
 
-  pub change_lines_one : (a b : List (List ℕ)) → AreAskedChangeLines false lane entries from p a → AreAskedChangeLines false lane entries from p b → a ≡ b
+  pub change_lines_one : (a b : List (List ℕ)) → AreAskedChangeLines full lane entries from p a → AreAskedChangeLines full lane entries from p b → a ≡ b
   change_lines_one a b x y = go (nat_lt (length steps) most_told) x.told y.told
     where
       known_one : x.known ≡ y.known
       known_one = all_one number nat_cmp nat_cmp_total (IsAskedStep p steps first) x.known y.known x.are_known y.are_known
 
-      go : (t : Bool) → MatchBool t (a ≡ steps_line lane (length steps) ∷ (missed_lines from (oldest_kept (length steps)) ++ map (change_line lane) x.known)) (a ≡ steps_line lane most_told ∷ [])
-          → MatchBool t (b ≡ steps_line lane (length steps) ∷ (missed_lines from (oldest_kept (length steps)) ++ map (change_line lane) y.known)) (b ≡ steps_line lane most_told ∷ []) → a ≡ b
-      go true u v = u ∙ ap (λ (known : List ChangeValue). steps_line lane (length steps) ∷ (missed_lines from (oldest_kept (length steps)) ++ map (change_line lane) known)) known_one ∙ sym v
+      go : (t : Bool) → MatchBool t (a ≡ steps_line lane (length steps) ∷ (missed_lines from (oldest_kept (length steps)) ++ map (told_change full lane) x.known)) (a ≡ steps_line lane most_told ∷ [])
+          → MatchBool t (b ≡ steps_line lane (length steps) ∷ (missed_lines from (oldest_kept (length steps)) ++ map (told_change full lane) y.known)) (b ≡ steps_line lane most_told ∷ []) → a ≡ b
+      go true u v = u ∙ ap (λ (known : List ChangeValue). steps_line lane (length steps) ∷ (missed_lines from (oldest_kept (length steps)) ++ map (told_change full lane) known)) known_one ∙ sym v
       go false u v = u ∙ sym v
 
 -- what the tables of a lane tell of its changes
-pub tables_told : (value : TablesValue) (ring : RecentValue Step) (lane from : ℕ) (p : Option PrefixValue) → steps_told ring ≡ value.steps → (entries : List EntryValue) → StandsFor value entries → AreAskedChangeLines false lane entries from p (told_changes (steps_told ring) lane from p)
-tables_told value ring lane from p is entries stands =
-    subst (λ (r : RecentValue StepValue). AreAskedChangeLines false lane entries from p (told_changes r lane from p)) (sym (is ∙ stands.steps)) (change_lines lane from p entries)
+pub tables_told : (full : Bool) (value : TablesValue) (ring : RecentValue Step) (lane from : ℕ) (p : Option PrefixValue) → steps_told ring ≡ value.steps → (entries : List EntryValue) → StandsFor value entries → AreAskedChangeLines full lane entries from p (told_changes full (steps_told ring) lane from p)
+tables_told full value ring lane from p is entries stands =
+    subst (λ (r : RecentValue StepValue). AreAskedChangeLines full lane entries from p (told_changes full r lane from p)) (sym (is ∙ stands.steps)) (change_lines full lane from p entries)
 
 -- a lane has such lines
-pub changes_there : (lane : ℕ) (tables : TablesValue) (entries : List EntryValue) (from : ℕ) (prefix : Option PrefixValue) → StandsFor tables entries → (lines : List (List ℕ)) × AreAskedChangeLines false lane entries from prefix lines
-changes_there lane tables entries from prefix stands = (told_changes (recent (steps_of entries)) lane from prefix, change_lines lane from prefix entries)
+pub changes_there : (full : Bool) (lane : ℕ) (tables : TablesValue) (entries : List EntryValue) (from : ℕ) (prefix : Option PrefixValue) → StandsFor tables entries → (lines : List (List ℕ)) × AreAskedChangeLines full lane entries from prefix lines
+changes_there full lane tables entries from prefix stands = (told_changes full (recent (steps_of entries)) lane from prefix, change_lines full lane from prefix entries)

@@ -5,12 +5,11 @@ use Rattle.std.specs.Result.{is_err}
 use Rattle.std.proofs.lemmas.Bool.{cond_both, false≢true}
 use Rattle.std.proofs.lemmas.Cmp.{nat_cmp_total}
 use Rattle.std.proofs.lemmas.Map.Lookups.{exact_unsigned}
-use Rattle.ask_specs.specs.AskReply.{AreAskedRowLines, AreStepsLines, selection}
+use Rattle.ask_specs.specs.AskReply.{AreAskedRowLines, AreStepsLines, row_line, selection}
 use Rattle.ask_specs.specs.Traits.{TraitsValue}
 use Rattle.bmp_specs.specs.ChangeLines.{steps_line}
 use Rattle.bmp_specs.specs.Query.{QueryValue}
 use Rattle.bmp_specs.specs.Reply.{told_count}
-use Rattle.bmp_specs.specs.RouteLine.{route_line}
 use Rattle.bmp_specs.specs.Rows.{RowValue}
 use Rattle.bmp_specs.specs.Steps.{steps_of}
 use Rattle.bmp_specs.specs.Values.{EntryValue, StepValue}
@@ -47,11 +46,11 @@ total_of : (value : TablesValue) (entries : List EntryValue) → StandsFor value
 total_of value entries stands = ap (λ (r : RecentValue StepValue). r.total) stands.steps
 
 -- there are such lines of a lane
-pub asked_there : (with_steps : Bool) (query : QueryValue) (traits : TraitsValue) (lane : ℕ) (value : TablesValue) (entries : List EntryValue) → StandsFor value entries → (rows : List RowValue) → AreKeptRows query traits lane entries rows
-    → (lines : List (List ℕ)) × AreAskedRowLines with_steps false query traits lane entries lines
-asked_there with_steps query traits lane value entries stands rows are =
+pub asked_there : (with_steps full : Bool) (query : QueryValue) (traits : TraitsValue) (lane : ℕ) (value : TablesValue) (entries : List EntryValue) → StandsFor value entries → (rows : List RowValue) → AreKeptRows query traits lane entries rows
+    → (lines : List (List ℕ)) × AreAskedRowLines with_steps full query traits lane entries lines
+asked_there with_steps full query traits lane value entries stands rows are =
     let total = total_lines with_steps (selection query).router lane value.steps.total in (
-      total ++ map (route_line lane) rows,
+      total ++ map (row_line full lane) rows,
       record {
         steps_lines = total;
         known = rows;
@@ -62,47 +61,47 @@ asked_there with_steps query traits lane value entries stands rows are =
     )
 
 -- ---- both are written
-module _ (with_steps : Bool) (query : QueryValue) (traits : TraitsValue) (lane : ℕ) (value : TablesValue) where
+module _ (with_steps full : Bool) (query : QueryValue) (traits : TraitsValue) (lane : ℕ) (value : TablesValue) where
   abbrev first : List (List ℕ)
   first = total_lines with_steps (selection query).router lane value.steps.total
 
   -- the lines of the rows, behind those of the steps
-  behind : (entries : List EntryValue) (lines : List (List ℕ)) → StandsFor value entries → AreAskedRowLines with_steps false query traits lane entries lines → (rest : List (List ℕ)) × AreKeptLines query traits lane entries rest × (lines ≡ first ++ rest)
+  behind : (entries : List EntryValue) (lines : List (List ℕ)) → StandsFor value entries → AreAskedRowLines with_steps full query traits lane entries lines → (rest : List (List ℕ)) × AreKeptLines (row_line full) query traits lane entries rest × (lines ≡ first ++ rest)
   behind entries lines stands a = (
-    map (route_line lane) a.known,
+    map (row_line full lane) a.known,
     record { rows = a.known; are_rows = a.are_rows; told = refl },
-    a.told ∙ ap (λ (l : List (List ℕ)). l ++ map (route_line lane) a.known)
+    a.told ∙ ap (λ (l : List (List ℕ)). l ++ map (row_line full lane) a.known)
         (steps_lines_one with_steps query lane entries a.steps_lines first a.are_steps (are_total with_steps query lane value.steps.total entries (total_of value entries stands))),
   )
 
-module _ {O : Type 0} {faults : O → ℕ} {told : O → Option (List ℕ)} {aside : O → Aside} (with_steps : Bool) (query : QueryValue) (traits : TraitsValue) (lane : ℕ) (value : TablesValue) where
-  pub both_written : (a b c : O) (n k m : ℕ) → WritesLines faults told aside a (first with_steps query traits lane value) (Ok n) b → PutsLines faults told aside (StandsFor value) (AreKeptLines query traits lane) b (Ok k) c → m ≡ told_count (n + k)
-      → PutsLines faults told aside (StandsFor value) (AreAskedRowLines with_steps false query traits lane) a (Ok m) c
+module _ {O : Type 0} {faults : O → ℕ} {told : O → Option (List ℕ)} {aside : O → Aside} (with_steps full : Bool) (query : QueryValue) (traits : TraitsValue) (lane : ℕ) (value : TablesValue) where
+  pub both_written : (a b c : O) (n k m : ℕ) → WritesLines faults told aside a (first with_steps full query traits lane value) (Ok n) b → PutsLines faults told aside (StandsFor value) (AreKeptLines (row_line full) query traits lane) b (Ok k) c → m ≡ told_count (n + k)
+      → PutsLines faults told aside (StandsFor value) (AreAskedRowLines with_steps full query traits lane) a (Ok m) c
   both_written a b c n k m w p more_is = record {
     puts = λ entries lines stands are.
-        let s = behind with_steps query traits lane value entries lines stands are in
-        leads_last a b c n k m s.0 lines (leads_first a b n (first with_steps query traits lane value) s.0 lines w s.2) (p.puts entries s.0 stands s.1) more_is;
+        let s = behind with_steps full query traits lane value entries lines stands are in
+        leads_last a b c n k m s.0 lines (leads_first a b n (first with_steps full query traits lane value) s.0 lines w s.2) (p.puts entries s.0 stands s.1) more_is;
     kept = p.kept ∙ w.written.kept;
     cause = subst (λ (before : ℕ). HasCause {T = ℕ} {E = Failed} before (faults c) (Ok m)) w.written.cause.fine (record { later = p.cause.later; failed = tt; fine = p.cause.fine });
   }
 
-  pub total_failed : (a b : O) (d : Failed) (r : Result ℕ Failed) → WritesLines faults told aside a (first with_steps query traits lane value) (Err d) b → is_err r ≡ true → PutsLines faults told aside (StandsFor value) (AreAskedRowLines with_steps false query traits lane) a r b
+  pub total_failed : (a b : O) (d : Failed) (r : Result ℕ Failed) → WritesLines faults told aside a (first with_steps full query traits lane value) (Err d) b → is_err r ≡ true → PutsLines faults told aside (StandsFor value) (AreAskedRowLines with_steps full query traits lane) a r b
   total_failed a b d (Ok k) w h = absurd (false≢true h)
   total_failed a b d (Err d') w h = record {
     puts = λ entries lines stands are.
-        let s = behind with_steps query traits lane value entries lines stands are in
-        leads_failed a a b 0 (first with_steps query traits lane value) s.0 lines lines d (Err d') (leads_begin a lines) w refl s.2;
+        let s = behind with_steps full query traits lane value entries lines stands are in
+        leads_failed a a b 0 (first with_steps full query traits lane value) s.0 lines lines d (Err d') (leads_begin a lines) w refl s.2;
     kept = w.written.kept;
     cause = record { later = w.written.cause.later; failed = w.written.cause.failed; fine = tt };
   }
 
-  pub rows_failed : (a b c : O) (n : ℕ) (d : Failed) (r : Result ℕ Failed) → WritesLines faults told aside a (first with_steps query traits lane value) (Ok n) b → PutsLines faults told aside (StandsFor value) (AreKeptLines query traits lane) b (Err d) c → is_err r ≡ true
-      → PutsLines faults told aside (StandsFor value) (AreAskedRowLines with_steps false query traits lane) a r c
+  pub rows_failed : (a b c : O) (n : ℕ) (d : Failed) (r : Result ℕ Failed) → WritesLines faults told aside a (first with_steps full query traits lane value) (Ok n) b → PutsLines faults told aside (StandsFor value) (AreKeptLines (row_line full) query traits lane) b (Err d) c → is_err r ≡ true
+      → PutsLines faults told aside (StandsFor value) (AreAskedRowLines with_steps full query traits lane) a r c
   rows_failed a b c n d (Ok k) w p h = absurd (false≢true h)
   rows_failed a b c n d (Err d') w p h = record {
     puts = λ entries lines stands are.
-        let s = behind with_steps query traits lane value entries lines stands are in
-        leads_last_failed a b c n s.0 lines d (Err d') (leads_first a b n (first with_steps query traits lane value) s.0 lines w s.2) (p.puts entries s.0 stands s.1) refl;
+        let s = behind with_steps full query traits lane value entries lines stands are in
+        leads_last_failed a b c n s.0 lines d (Err d') (leads_first a b n (first with_steps full query traits lane value) s.0 lines w s.2) (p.puts entries s.0 stands s.1) refl;
     kept = p.kept ∙ w.written.kept;
     cause = subst (λ (before : ℕ). HasCause {T = ℕ} {E = Failed} before (faults c) (Err d')) w.written.cause.fine (record { later = p.cause.later; failed = p.cause.failed; fine = tt });
   }

@@ -6,7 +6,6 @@ use Rattle.ask_specs.specs.Traits.{TraitsValue}
 use Rattle.bmp_specs.specs.Query.{QueryValue}
 use Rattle.bmp_specs.specs.QueryRows.{AsksRow}
 use Rattle.bmp_specs.specs.Reply.{told_count}
-use Rattle.bmp_specs.specs.RouteLine.{route_line}
 use Rattle.bmp_specs.specs.Rows.{RowValue}
 use Rattle.bmp_specs.specs.Session.{session_effects}
 use Rattle.bmp_specs.specs.TableRows.{AreRows}
@@ -38,14 +37,15 @@ pub record PutsLines {O E : Type 0} (faults : O → ℕ) (told : O → Option (L
 abbrev pub AreAskedRows : QueryValue → ℕ → List EntryValue → List RowValue → Type 0
 AreAskedRows query lane entries rows = AreRows (AsksRow query lane (session_effects entries)) (session_effects entries) rows
 
--- the rows of a lane with these entries that the query asks for and whose routes have what is asked, and their lines
+-- the rows of a lane with these entries that the query asks for and whose routes have what is asked, and their lines, each told
+-- in this way
 abbrev pub AreKeptRows : QueryValue → TraitsValue → ℕ → List EntryValue → List RowValue → Type 0
 AreKeptRows query traits lane entries rows = AreRows (AsksTraitRow query traits lane (session_effects entries)) (session_effects entries) rows
 
-pub record AreKeptLines (query : QueryValue) (traits : TraitsValue) (lane : ℕ) (entries : List EntryValue) (lines : List (List ℕ)) : Type 0 where
+pub record AreKeptLines (line : ℕ → RowValue → List ℕ) (query : QueryValue) (traits : TraitsValue) (lane : ℕ) (entries : List EntryValue) (lines : List (List ℕ)) : Type 0 where
   pub rows : List RowValue
   pub are_rows : AreKeptRows query traits lane entries rows
-  pub told : lines ≡ map (route_line lane) rows
+  pub told : lines ≡ map (line lane) rows
 
 -- For whichever of these lists of entries, there are the rows of them that the query asks for, and the line of each was
 -- written, or a front of these lines where a write failed.

@@ -1,8 +1,9 @@
 -- The steps that a lane keeps, as a list, and their lines: all of them, or where a prefix is named, its changes.
 use Rattle.std.specs.Prelude.{ℕ, suc, ◌-◌, max, Bool, true, nat_lt, if◌then◌else◌, List, [], ◌∷◌, ◌++◌, drop, map, Option, Some, None}
 use Rattle.std.specs.Ordering.{is_eq}
+use Rattle.ask_specs.specs.AskReply.{told_change}
 use Rattle.bmp_specs.specs.Changes.{ChangeValue, oldest_kept}
-use Rattle.bmp_specs.specs.ChangeLines.{steps_line, missed_lines, change_line}
+use Rattle.bmp_specs.specs.ChangeLines.{steps_line, missed_lines}
 use Rattle.bmp_specs.specs.Orders.{prefix_cmp}
 use Rattle.bmp_specs.specs.QueryReply.{most_told}
 use Rattle.bmp_specs.specs.Values.{PrefixValue, StepValue, opened_step, closed_step, up_step, down_step, announce_step, withdraw_step}
@@ -32,9 +33,9 @@ abbrev pub kept_changes : RecentValue StepValue → ℕ → Option PrefixValue �
 kept_changes recent from p = changes_in (drop (from - oldest_kept recent.total) recent.items) p (max from (oldest_kept recent.total))
 
 -- the lines of how many steps are missed and of these changes; past the greatest number of 64 bits no step is told
-abbrev pub further_changes : RecentValue StepValue → ℕ → ℕ → Option PrefixValue → List (List ℕ)
-further_changes recent lane from p = if nat_lt recent.total most_told then missed_lines from (oldest_kept recent.total) ++ map (change_line lane) (kept_changes recent from p) else []
+abbrev pub further_changes : Bool → RecentValue StepValue → ℕ → ℕ → Option PrefixValue → List (List ℕ)
+further_changes full recent lane from p = if nat_lt recent.total most_told then missed_lines from (oldest_kept recent.total) ++ map (told_change full lane) (kept_changes recent from p) else []
 
 -- and of how many steps were made
-abbrev pub told_changes : RecentValue StepValue → ℕ → ℕ → Option PrefixValue → List (List ℕ)
-told_changes recent lane from p = steps_line lane recent.total ∷ further_changes recent lane from p
+abbrev pub told_changes : Bool → RecentValue StepValue → ℕ → ℕ → Option PrefixValue → List (List ℕ)
+told_changes full recent lane from p = steps_line lane recent.total ∷ further_changes full recent lane from p

@@ -7,7 +7,6 @@ use Rattle.std.specs.Prelude.{Option}
 use Rattle.ask_specs.specs.Traits.{TraitsValue}
 use Rattle.bmp_specs.specs.Orders.{family_cmp}
 use Rattle.bmp_specs.specs.Query.{QueryValue, table, exact, within}
-use Rattle.bmp_specs.specs.RouteLine.{route_line}
 use Rattle.bmp_specs.specs.Rows.{RowValue}
 use Rattle.bmp_specs.specs.Selection.{SelectValue}
 use Rattle.bmp_specs.specs.Values.{AddressValue, AttrsValue, KeyValue, NlriValue}
@@ -60,10 +59,7 @@ asked_of asking t = map (row_of t.key t.view) (filter (asking t.pairs) t.pairs)
 abbrev pub asked_rows : Asking → List PeerTableValue → List RowValue
 asked_rows asking tables = flat_map (asked_of asking) tables
 
--- their lines, and the lines of a table's pairs by what tells each of them
-abbrev pub lines_of : ℕ → List RowValue → List (List ℕ)
-lines_of lane rows = map (route_line lane) rows
-
+-- the lines of a table's pairs by what tells each of them
 abbrev pub lines_by : (NlriValue → AttrsValue → List ℕ) → Table → List (List ℕ)
 lines_by line pairs = map (λ e. line e.0 e.1) pairs
 

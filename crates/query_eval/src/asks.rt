@@ -2,7 +2,6 @@ ghost use Rattle.std.specs.Prelude.{ℕ, List, map};
 ghost use Rattle.std.specs.List.Sorted.{IsStrictlySortedBy};
 ghost use Rattle.std.specs.Map.{keys_of};
 ghost use Rattle.bmp_specs.specs.Orders.{key_cmp};
-ghost use Rattle.bmp_specs.specs.RouteLine.{route_line};
 ghost use Rattle.bmp_specs.specs.Rows.{RowValue};
 ghost use Rattle.query_eval.specs.Puts.{WritesLines};
 ghost use Rattle.query_eval.specs.Rows.{Asking, asked_of, lane_rows};
@@ -19,7 +18,7 @@ pub(crate) trait Asks {
     ghost asking: { Self → Asking };
 
     /// The line of a row of a lane.
-    ghost line: { Self → ℕ → RowValue → List ℕ } = { λ _ lane. route_line lane };
+    ghost line: { Self → ℕ → RowValue → List ℕ };
 
     /// Writes the lines of a table's rows that are asked for, and answers how many.
     fn put_asked<O: Sink>(

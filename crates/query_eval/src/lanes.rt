@@ -1,5 +1,5 @@
 //! The lines of all lanes, lane after lane.
-ghost use Rattle.std.specs.Prelude.{◌≡◌, false, length};
+ghost use Rattle.std.specs.Prelude.{◌≡◌, length};
 ghost use Rattle.ask_specs.specs.Asking.{steps};
 ghost use Rattle.ask_specs.specs.AskReply.{AreAskedLaneLines};
 ghost use Rattle.bmp_specs.specs.Query.{count, cut};
@@ -40,18 +40,19 @@ fn put_entries<O: Sink>(out: &mut O, lane: u32, entries: u64) -> Result<u64, Fai
 // Writes the lines of the steps that a lane keeps, or of the changes of a prefix, where they are asked of this lane.
 fn put_lane_changes<O: Sink>(
     out: &mut O,
+    full: bool,
     lane: u32,
     tables: &RouterTables,
     number: u32,
     from: u64,
     prefix: &Option<Prefix>,
 ) -> Result<u64, Failed>
-    ensures { PutsLines O.faults O.told O.aside (StandsFor tables.now) (AreAskedLaneLines (steps false number from prefix.now) lane) out.old result out.new }
+    ensures { PutsLines O.faults O.told O.aside (StandsFor tables.now) (AreAskedLaneLines (steps full number from prefix.now) lane) out.old result out.new }
 {
     if number != lane {
         return Ok(0);
     }
-    put_changes(out, lane, tables, from, prefix)
+    put_changes(out, full, lane, tables, from, prefix)
 }
 
 // Writes the lines of one lane that a query asks for, and answers how many they are.
@@ -84,7 +85,7 @@ fn put_lane_lines<O: Sink>(
             lane: number,
             from,
             prefix,
-        } => put_lane_changes(out, lane, tables, *number, *from, &Some(*prefix)),
+        } => put_lane_changes(out, false, lane, tables, *number, *from, &Some(*prefix)),
         // excluded by the premise: rows are counted over all lanes together
         Query::Count(_) => unreachable!(),
         // excluded by the premise: `quit` has no reply
@@ -106,9 +107,12 @@ fn put_ask_lines<O: Sink>(
     match ask {
         Ask::Query(query) => put_lane_lines(out, query, lane, tables, entries),
         Ask::Rows(rows) => put_asked_rows(out, lane, tables, rows),
-        Ask::Changes { lane: number, from } => {
-            put_lane_changes(out, lane, tables, *number, *from, &None)
-        }
+        Ask::Changes {
+            full,
+            lane: number,
+            from,
+            prefix,
+        } => put_lane_changes(out, *full, lane, tables, *number, *from, prefix),
         // excluded by the premise: rows are counted over all lanes together
         Ask::Count(_, _) => unreachable!(),
     }

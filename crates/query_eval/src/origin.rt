@@ -9,23 +9,26 @@ use crate::asks::{Asks, put_rows};
 use crate::kept::put_kept;
 use crate::run::{Part, Run};
 use crate::tables::PeerTable;
-use crate::tells::AsRoutes;
+use crate::tells::{AsRoutes, TellsRow};
 use bmp_specs::Family;
 use query_lang::{Select, Traits};
 use router_tables::RouterTables;
 use wire_io::{Failed, Sink};
 
 /// The routes of a family, where one is named, whose path has an origin AS (RFC 6811, section 2), of which those that have
-/// what is asked.
+/// what is asked, each told in this way.
 #[derive(Drop)]
-pub(crate) struct OriginRows<'a> {
+pub(crate) struct OriginRows<'a, T> {
     asn: u32,
     family: Option<Family>,
     traits: &'a Traits,
+    tells: &'a T,
 }
 
-impl<'a> Asks for OriginRows<'a> {
+impl<'a, T: TellsRow> Asks for OriginRows<'a, T> {
     ghost asking = { λ asks. kept (traits_value asks.traits.now) (asks_origin asks.asn asks.family) };
+
+    ghost line = { λ asks. T.line asks.tells.now };
 
     fn put_asked<O: Sink>(
         &self,
@@ -47,27 +50,29 @@ impl<'a> Asks for OriginRows<'a> {
             routes.origin(self.asn, run.begin()),
             &run,
             self.traits,
-            &AsRoutes,
+            self.tells,
         )
     }
 }
 
-/// Writes the lines of `origin N` of one lane, of which those whose routes have what is asked, and answers how many. Each
-/// table is read by its index of origins.
-pub(crate) fn put_kept_origin<O: Sink>(
+/// Writes the lines of `origin N` of one lane, of which those whose routes have what is asked, each told in this way, and
+/// answers how many. Each table is read by its index of origins.
+pub(crate) fn put_kept_origin<O: Sink, T: TellsRow>(
     out: &mut O,
     lane: u32,
     tables: &RouterTables,
     asn: u32,
     select: &Select,
     traits: &Traits,
+    tells: &T,
 ) -> Result<u64, Failed>
-    ensures { PutsLines O.faults O.told O.aside (StandsFor tables.now) (AreKeptLines (origin_query asn select.now) (traits_value traits.now) lane) out.old result out.new }
+    ensures { PutsLines O.faults O.told O.aside (StandsFor tables.now) (AreKeptLines (T.line tells.now) (origin_query asn select.now) (traits_value traits.now) lane) out.old result out.new }
 {
     let rows = OriginRows {
         asn,
         family: select.family,
         traits,
+        tells,
     };
     put_rows(out, lane, tables, select, &rows)
 }
@@ -83,5 +88,5 @@ pub(crate) fn put_origin<O: Sink>(
     ensures { PutsLines O.faults O.told O.aside (StandsFor tables.now) (AreLaneLines (origin_query asn select.now) lane) out.old result out.new }
 {
     let traits = Traits::none();
-    put_kept_origin(out, lane, tables, asn, select, &traits)
+    put_kept_origin(out, lane, tables, asn, select, &traits, &AsRoutes)
 }

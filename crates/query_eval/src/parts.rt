@@ -42,18 +42,19 @@ fn put_told<O: Sink, T: TellsRow>(
 }
 
 /// Writes the lines of a part of the rows that the selectors keep on one lane, of which those whose routes have what is
-/// asked, and answers how many: those of `table`, of `prefix P`, or of `within P`.
-pub(crate) fn put_kept_part<O: Sink>(
+/// asked, each told in this way, and answers how many: those of `table`, of `prefix P`, or of `within P`.
+pub(crate) fn put_kept_part<O: Sink, T: TellsRow>(
     out: &mut O,
     lane: u32,
     tables: &RouterTables,
     part: Part,
     select: &Select,
     traits: &Traits,
+    tells: &T,
 ) -> Result<u64, Failed>
-    ensures { PutsLines O.faults O.told O.aside (StandsFor tables.now) (AreKeptLines (part_query part select.now) (traits_value traits.now) lane) out.old result out.new }
+    ensures { PutsLines O.faults O.told O.aside (StandsFor tables.now) (AreKeptLines (T.line tells.now) (part_query part select.now) (traits_value traits.now) lane) out.old result out.new }
 {
-    put_told(out, lane, tables, part, select, traits, &AsRoutes)
+    put_told(out, lane, tables, part, select, traits, tells)
 }
 
 /// Writes the lines of a part of the rows that the selectors keep on one lane, and answers how many.
@@ -67,7 +68,7 @@ pub(crate) fn put_part<O: Sink>(
     ensures { PutsLines O.faults O.told O.aside (StandsFor tables.now) (AreLaneLines (part_query part select.now) lane) out.old result out.new }
 {
     let traits = Traits::none();
-    put_kept_part(out, lane, tables, part, select, &traits)
+    put_kept_part(out, lane, tables, part, select, &traits, &AsRoutes)
 }
 
 /// Writes the lines of the rows that `within P` asks of one lane, each told in this way, and answers how many. Where a write

@@ -1,4 +1,5 @@
 ghost use Rattle.std.specs.Prelude.{◌≡◌, ⊤, ℕ, List};
+ghost use Rattle.ask_specs.specs.FullLine.{full_line};
 ghost use Rattle.bmp_specs.specs.RouteLine.{route_line};
 ghost use Rattle.bmp_specs.specs.Rows.{RowValue};
 ghost use Rattle.bmp_specs.specs.Values.{AttrsValue, NlriValue};
@@ -98,5 +99,50 @@ impl TellsRow for AsRoutes {
 
     fn begin_table(&self, lane: u32, key: PeerKey, view: View) -> RouteLines {
         RouteLines::new(lane, key, view)
+    }
+}
+
+/// Writes the full lines of one table's routes.
+#[derive(Drop)]
+pub(crate) struct FullLines {
+    lines: RouteLines,
+}
+
+impl TellsTable for FullLines {
+    ghost line = { λ table nlri attrs. full_line table.lines.lane (row_of table.lines.key table.lines.view (nlri, attrs)) };
+
+    ghost finds = { λ _ _ _. ⊤ };
+
+    fn look(&self, attrs: &Attrs) -> Found {
+        Found {
+            short: is_short(attrs),
+            origin: None,
+        }
+    }
+
+    fn put_row<O: Sink>(
+        &mut self,
+        out: &mut O,
+        nlri: &Nlri,
+        attrs: &Attrs,
+        found: Found,
+    ) -> Result<(), Failed> {
+        self.lines.put_full(out, nlri, attrs, found.short)
+    }
+}
+
+/// Each row is told by the line of its route with all path attributes.
+#[derive(Clone, Copy)]
+pub(crate) struct AsFull;
+
+impl TellsRow for AsFull {
+    ghost line = { λ _ lane. full_line lane };
+
+    type Lines = FullLines;
+
+    fn begin_table(&self, lane: u32, key: PeerKey, view: View) -> FullLines {
+        FullLines {
+            lines: RouteLines::new(lane, key, view),
+        }
     }
 }
