@@ -17,7 +17,7 @@ use Rattle.ip_prefix.proofs.OneValue.{address_one, prefix_one}
 use Rattle.query_lang.specs.Asks.{ask_value, row_query_value}
 use Rattle.query_lang.specs.Queries.{query_value}
 use Rattle.query_lang.specs.declared.ask.Ask.{Ask}
-use Rattle.query_lang.specs.declared.ask.Ask.TheVariants.{Query as Asked, Rows as AsRows, Count as AsCount, Changes as AllChanges}
+use Rattle.query_lang.specs.declared.ask.Ask.TheVariants.{Query as Asked, Rows as AsRows, Count as AsCount, Changes as FurtherChanges}
 use Rattle.query_lang.specs.declared.ask.RowQuery.{RowQuery}
 use Rattle.query_lang.specs.declared.ask.RowQuery.TheVariants.{Table as ByTable, Exact as ByExact, Longest as ByLongest, Within as ByWithin, Origin as ByOrigin}
 use Rattle.query_lang.specs.declared.query.Query.{Query}
@@ -102,29 +102,29 @@ traits_back : (t : Traits) → traits_at (traits_value t) ≡ t
 unfolding traits_at
 traits_back t = ap (λ (c : Option Community). record { through = t.through; community = c; other = t.other }) (community_back t.community)
 
-rows_ask_at : Bool → RowQuery → TraitsValue → Ask
-rows_ask_at with_steps query traits = AsRows (record { steps = with_steps; query = query; traits = traits_at traits })
+rows_ask_at : Bool → Bool → RowQuery → TraitsValue → Ask
+rows_ask_at with_steps full query traits = AsRows (record { steps = with_steps; full = full; query = query; traits = traits_at traits })
 
 ask_at : AskValue → Ask
 ask_at (plain_query query) = Asked (query_at query)
 ask_at (rows with_steps full (count select) traits) = AsCount select (traits_at traits)
-ask_at (rows with_steps full query traits) = rows_ask_at with_steps (rows_at query) traits
-ask_at (steps full lane from prefix) = AllChanges lane from
+ask_at (rows with_steps full query traits) = rows_ask_at with_steps full (rows_at query) traits
+ask_at (steps full lane from prefix) = FurtherChanges full lane from prefix
 
-rows_ask_back : (with_steps : Bool) (query : RowQuery) (t : Traits) → ask_at (rows with_steps false (row_query_value query) (traits_value t)) ≡ AsRows (record { steps = with_steps; query = query; traits = t })
+rows_ask_back : (with_steps full : Bool) (query : RowQuery) (t : Traits) → ask_at (rows with_steps full (row_query_value query) (traits_value t)) ≡ AsRows (record { steps = with_steps; full = full; query = query; traits = t })
 unfolding ask_at rows_ask_at rows_at
-rows_ask_back s (ByTable select) t = ap (λ (u : Traits). AsRows (record { steps = s; query = ByTable select; traits = u })) (traits_back t)
-rows_ask_back s (ByExact prefix select) t = ap (λ (u : Traits). AsRows (record { steps = s; query = ByExact prefix select; traits = u })) (traits_back t)
-rows_ask_back s (ByLongest address select) t = ap (λ (u : Traits). AsRows (record { steps = s; query = ByLongest address select; traits = u })) (traits_back t)
-rows_ask_back s (ByWithin prefix select) t = ap (λ (u : Traits). AsRows (record { steps = s; query = ByWithin prefix select; traits = u })) (traits_back t)
-rows_ask_back s (ByOrigin number select) t = ap (λ (u : Traits). AsRows (record { steps = s; query = ByOrigin number select; traits = u })) (traits_back t)
+rows_ask_back s f (ByTable select) t = ap (λ (u : Traits). AsRows (record { steps = s; full = f; query = ByTable select; traits = u })) (traits_back t)
+rows_ask_back s f (ByExact prefix select) t = ap (λ (u : Traits). AsRows (record { steps = s; full = f; query = ByExact prefix select; traits = u })) (traits_back t)
+rows_ask_back s f (ByLongest address select) t = ap (λ (u : Traits). AsRows (record { steps = s; full = f; query = ByLongest address select; traits = u })) (traits_back t)
+rows_ask_back s f (ByWithin prefix select) t = ap (λ (u : Traits). AsRows (record { steps = s; full = f; query = ByWithin prefix select; traits = u })) (traits_back t)
+rows_ask_back s f (ByOrigin number select) t = ap (λ (u : Traits). AsRows (record { steps = s; full = f; query = ByOrigin number select; traits = u })) (traits_back t)
 
 ask_back : (a : Ask) → ask_at (ask_value a) ≡ a
 unfolding ask_at
 ask_back (Asked query) = ap (λ (q : Query). Asked q) (query_back query)
-ask_back (AsRows ask) = rows_ask_back ask.steps ask.query ask.traits
+ask_back (AsRows ask) = rows_ask_back ask.steps ask.full ask.query ask.traits
 ask_back (AsCount select traits) = ap (λ (t : Traits). AsCount select t) (traits_back traits)
-ask_back (AllChanges lane from) = refl
+ask_back (FurtherChanges full lane from prefix) = refl
 
 same_ask : (a b : Ask) → ask_value a ≡ ask_value b → a ≡ b
 same_ask a b same = sym (ask_back a) ∙ ap ask_at same ∙ ask_back b
