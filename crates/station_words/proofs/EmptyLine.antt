@@ -1,12 +1,9 @@
 -- A line without letters asks nothing.
-use Rattle.std.proofs.Common.{◌≡◌, ◌<◌, ℕ, List, [], ◌∷◌, ◌++◌, ◌∙◌, false, length, codes, refl, ap, arith}
+use Rattle.std.proofs.Common.{◌≡◌, ◌<◌, ℕ, List, [], ◌∷◌, ◌++◌, ◌∙◌, true, false, length, codes, ap, arith}
 use Rattle.std.specs.List.{join_with_byte}
-use Rattle.bmp_specs.specs.Query.{QueryValue, IsQuery, AreQueryWords, routers, cut, peers, marks, table, count, exact, longest, within, origin, stats, changes, quit, space}
-use Rattle.ask_specs.specs.Asking.{AreRowsWords, AskValue, AsksForRows}
+use Rattle.bmp_specs.specs.Query.{QueryValue, AreQueryWords, routers, cut, peers, marks, table, count, exact, longest, within, origin, stats, changes, quit, space}
+use Rattle.ask_specs.specs.Asking.{AreAskWords, AskValue, plain, rows, steps, AsksForRows}
 use Rattle.ask_specs.specs.Offer.{IsOfferedAsk}
-use Rattle.ask_specs.specs.Traits.{TraitsValue}
-use Rattle.query_lang.specs.Reading.{words_of}
-use Rattle.query_lang.proofs.AskWords.{asks_nothing}
 
 joined_some : (name : List ℕ) (others : List (List ℕ)) → 0 < length name → [] ≡ join_with_byte space (name ∷ others) → ⊥
 joined_some [] others some none = absurd (omega (arith, some))
@@ -32,36 +29,42 @@ module _ (words : List (List ℕ)) (none : [] ≡ join_with_byte space words) wh
   no_words (changes lane from prefix) is = begins (codes "changes") (is.lane_text ∷ is.from_text ∷ is.prefix_text ∷ []) (omega arith) is.spelled
   no_words quit is = begins (codes "quit") [] (omega arith) is
 
-no_query_line : (query : QueryValue) → IsQuery [] query → ⊥
-no_query_line query is = no_words is.words is.joined query is.asks
+  -- nor are they those of a query for rows with others behind them
+  begun : (name : List ℕ) (rest front others : List (List ℕ)) → 0 < length name → front ≡ name ∷ rest → words ≡ front ++ others → ⊥
+  begun name rest front others some split whole = begins name (rest ++ others) some (whole ∙ ap (λ (l : List (List ℕ)). l ++ others) split)
 
--- nor are there words of a query for rows with others behind them
-begun : (name : List ℕ) (rest words others : List (List ℕ)) → 0 < length name → words ≡ name ∷ rest → [] ∷ [] ≡ words ++ others → ⊥
-begun [] rest words others some split none = absurd (omega (arith, some))
-begun (x ∷ xs) rest words others some split none = let both : [] ∷ [] ≡ (x ∷ xs) ∷ (rest ++ others) = none ∙ ap (λ (l : List (List ℕ)). l ++ others) split in cc
+  no_rows : (query : QueryValue) (front others : List (List ℕ)) → AsksForRows query → AreQueryWords query front → words ≡ front ++ others → ⊥
+  no_rows routers front others asks is whole = absurd asks
+  no_rows cut front others asks is whole = absurd asks
+  no_rows (peers router peer) front others asks is whole = absurd asks
+  no_rows (marks select) front others asks is whole = absurd asks
+  no_rows (table select) front others asks is whole = begun (codes "table") is.selectors front others (omega arith) is.spelled whole
+  no_rows (count select) front others asks is whole = begun (codes "count") is.selectors front others (omega arith) is.spelled whole
+  no_rows (exact prefix select) front others asks is whole = begun (codes "prefix") (is.text ∷ is.selectors) front others (omega arith) is.spelled whole
+  no_rows (longest address select) front others asks is whole = begun (codes "match") (is.text ∷ is.selectors) front others (omega arith) is.spelled whole
+  no_rows (within prefix select) front others asks is whole = begun (codes "within") (is.text ∷ is.selectors) front others (omega arith) is.spelled whole
+  no_rows (origin number select) front others asks is whole = begun (codes "origin") (is.text ∷ is.selectors) front others (omega arith) is.spelled whole
+  no_rows (stats key) front others asks is whole = absurd asks
+  no_rows (changes lane from prefix) front others asks is whole = absurd asks
+  no_rows quit front others asks is whole = absurd asks
 
-no_rows : (query : QueryValue) (words others : List (List ℕ)) → AsksForRows query → AreQueryWords query words → [] ∷ [] ≡ words ++ others → ⊥
-no_rows routers words others asks is none = absurd asks
-no_rows cut words others asks is none = absurd asks
-no_rows (peers router peer) words others asks is none = absurd asks
-no_rows (marks select) words others asks is none = absurd asks
-no_rows (table select) words others asks is none = begun (codes "table") is.selectors words others (omega arith) is.spelled none
-no_rows (count select) words others asks is none = begun (codes "count") is.selectors words others (omega arith) is.spelled none
-no_rows (exact prefix select) words others asks is none = begun (codes "prefix") (is.text ∷ is.selectors) words others (omega arith) is.spelled none
-no_rows (longest address select) words others asks is none = begun (codes "match") (is.text ∷ is.selectors) words others (omega arith) is.spelled none
-no_rows (within prefix select) words others asks is none = begun (codes "within") (is.text ∷ is.selectors) words others (omega arith) is.spelled none
-no_rows (origin number select) words others asks is none = begun (codes "origin") (is.text ∷ is.selectors) words others (omega arith) is.spelled none
-no_rows (stats key) words others asks is none = absurd asks
-no_rows (changes lane from prefix) words others asks is none = absurd asks
-no_rows quit words others asks is none = absurd asks
-
-no_rows_words : (query : QueryValue) (traits : TraitsValue) → AreRowsWords false false query traits ([] ∷ []) → ⊥
-no_rows_words query traits are =
-    no_rows query are.query_words are.traits_words are.asks are.is_query
-    (are.spelled
-    ∙ ap (λ (l : List (List ℕ)). l ++ (are.full_words ++ (are.query_words ++ are.traits_words))) are.is_steps
-    ∙ ap (λ (l : List (List ℕ)). l ++ (are.query_words ++ are.traits_words)) are.is_full)
+  no_ask : (ask : AskValue) → AreAskWords ask words → ⊥
+  no_ask (plain query) are = no_words query are
+  no_ask (rows true full query traits) are =
+      begun (codes "steps") [] are.steps_words (are.full_words ++ (are.query_words ++ are.traits_words)) (omega arith) are.is_steps are.spelled
+  no_ask (rows false true query traits) are =
+      begun (codes "full") [] are.full_words (are.query_words ++ are.traits_words) (omega arith) are.is_full
+      (are.spelled ∙ ap (λ (l : List (List ℕ)). l ++ (are.full_words ++ (are.query_words ++ are.traits_words))) are.is_steps)
+  no_ask (rows false false query traits) are =
+      no_rows query are.query_words are.traits_words are.asks are.is_query
+      (are.spelled
+      ∙ ap (λ (l : List (List ℕ)). l ++ (are.full_words ++ (are.query_words ++ are.traits_words))) are.is_steps
+      ∙ ap (λ (l : List (List ℕ)). l ++ (are.query_words ++ are.traits_words)) are.is_full)
+  no_ask (steps true lane from prefix) are =
+      begun (codes "full") [] are.full_words (codes "changes" ∷ are.lane_text ∷ are.from_text ∷ are.prefix_words) (omega arith) are.is_full are.spelled
+  no_ask (steps false lane from prefix) are =
+      begins (codes "changes") (are.lane_text ∷ are.from_text ∷ are.prefix_words) (omega arith)
+      (are.spelled ∙ ap (λ (l : List (List ℕ)). l ++ (codes "changes" ∷ are.lane_text ∷ are.from_text ∷ are.prefix_words)) are.is_full)
 
 pub no_line : (ask : AskValue) → IsOfferedAsk [] ask → ⊥
-unfolding words_of
-no_line = asks_nothing [] [] [] refl no_query_line (λ same. absurd (cc same)) (λ same. absurd (cc same)) (λ other different query traits are. no_rows_words query traits are)
+no_line ask is = no_ask is.is_ask.words is.is_ask.joined ask is.is_ask.asks
