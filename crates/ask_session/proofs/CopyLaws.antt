@@ -74,16 +74,16 @@ copy_on lane a b h copy kept told p q le ok exact tells keeps =
     (keeps_exact (lane_entries lane a) grown.rest copy kept told (subst AnnouncesOfUp (sym grown.is) at_b.of_up) (omega (arith, at_b.few, ap (λ (es : List EntryValue). length (steps_of es)) grown.is)) exact (subst (λ (es : List EntryValue). Tells es copy told) (sym grown.is) tells) keeps)
 
 -- no end is asked for
-asks_on : (lane : ℕ) (copy : Option CopyValue) (ask : AskValue) → AsksAll lane ask ⊎ AsksSince lane copy ask → ask ≡ plain quit → ⊥
-asks_on lane copy ask (inl asks) ends = let same : rows true false (table (of_lane lane)) no_traits ≡ plain quit = sym asks ∙ ends in absurd cc
-asks_on lane None ask (inr asks) ends = asks
-asks_on lane (Some copy) ask (inr asks) ends = let same : steps false lane copy.number None ≡ plain quit = sym asks ∙ ends in absurd cc
+asks_on : (full : Bool) (lane : ℕ) (copy : Option CopyValue) (ask : AskValue) → AsksAll full lane ask ⊎ AsksSince full lane copy ask → ask ≡ plain quit → ⊥
+asks_on full lane copy ask (inl asks) ends = let same : rows true full (table (of_lane lane)) no_traits ≡ plain quit = sym asks ∙ ends in absurd cc
+asks_on full lane None ask (inr asks) ends = asks
+asks_on full lane (Some copy) ask (inr asks) ends = let same : steps full lane copy.number None ≡ plain quit = sym asks ∙ ends in absurd cc
 
 pub turns_tell : TurnsTell
-turns_tell lanes lane history turn copy ask here on ok short offered asks =
+turns_tell full lanes lane history turn copy ask here on ok short offered asks =
     let seen = (turn_on lanes history turn on).seen in
-    let got = get_replies lanes history turn ask on offered short (asks_on lane copy ask asks) in
-    turn_tells lanes lane turn here (tellable_front lane turn.seen history seen ok).few copy ask got.0 asks got.1
+    let got = get_replies lanes history turn ask on offered short (asks_on full lane copy ask asks) in
+    turn_tells full lanes lane turn here (tellable_front lane turn.seen history seen ok).few copy ask got.0 asks got.1
 
 pub copies_stay : CopiesStay
 copies_stay lanes lane history first second copy kept told one two le ok exact tells keeps =

@@ -50,10 +50,10 @@ no_steps : (lane k : ℕ) (entries : List EntryValue) (lines : List (List ℕ)) 
 no_steps lane k entries lines other (inl h) = absurd (other (sym h.0))
 no_steps lane k entries lines other (inr h) = h.1
 
-no_rows : (lane k : ℕ) (entries : List EntryValue) (lines : List (List ℕ)) → (k ≡ lane → ⊥) → AreAskedRowLines true false (table (of_lane lane)) no_traits k entries lines → lines ≡ []
-no_rows lane k entries lines other are =
+no_rows : (full : Bool) (lane k : ℕ) (entries : List EntryValue) (lines : List (List ℕ)) → (k ≡ lane → ⊥) → AreAskedRowLines true full (table (of_lane lane)) no_traits k entries lines → lines ≡ []
+no_rows full lane k entries lines other are =
     let none : are.known ≡ [] = no_item are.known (λ row has. other (sym ((((are.are_rows).exact row).0 has).1.0.of_peer.router_is))) in
-    are.told ∙ ap (λ (l : List (List ℕ)). l ++ map (row_line false k) are.known) (no_steps lane k entries are.steps_lines other are.are_steps) ∙ ap (λ (l : List RowValue). map (row_line false k) l) none
+    are.told ∙ ap (λ (l : List (List ℕ)). l ++ map (row_line full k) are.known) (no_steps lane k entries are.steps_lines other are.are_steps) ∙ ap (λ (l : List RowValue). map (row_line full k) l) none
 
 no_changes : (lane k : ℕ) (lines : List (List ℕ)) (These : Type 0) → (k ≡ lane → ⊥) → MatchBool (lane == k) These (lines ≡ []) → lines ≡ []
 no_changes lane k lines These other h = subst (λ (b : Bool). MatchBool b These (lines ≡ [])) (ne_eqb lane k (λ e. other (sym e))) h
@@ -62,7 +62,7 @@ its_changes : (lane : ℕ) (lines : List (List ℕ)) (These : Type 0) → MatchB
 its_changes lane lines These h = subst (λ (b : Bool). MatchBool b These (lines ≡ [])) (eq-eqb lane lane refl) h
 
 -- what a turn told of a lane that its line asks of
-module _ (lanes lane : ℕ) (turn : Turn) (here : lane < lanes) (few : length (steps_of (lane_entries lane turn.seen)) < 2 ^ 64 - 1) where
+module _ (full : Bool) (lanes lane : ℕ) (turn : Turn) (here : lane < lanes) (few : length (steps_of (lane_entries lane turn.seen)) < 2 ^ 64 - 1) where
   abbrev all : List (List EntryValue)
   all = lanes_of lanes turn.seen
 
@@ -75,29 +75,29 @@ module _ (lanes lane : ℕ) (turn : Turn) (here : lane < lanes) (few : length (s
   among : lane < length all
   among = omega (arith, here, lanes_count 0 lanes turn.seen)
 
-  tells_all : (copy : Option CopyValue) (ask : AskValue) → turn.heard ≡ asked ask → AsksAll lane ask → IsFurtherReply (rows true false (table (of_lane lane)) no_traits) all turn.reply → (told : ToldValue) × TellsOf lanes lane copy told turn
+  tells_all : (copy : Option CopyValue) (ask : AskValue) → turn.heard ≡ asked ask → AsksAll full lane ask → IsFurtherReply (rows true full (table (of_lane lane)) no_traits) all turn.reply → (told : ToldValue) × TellsOf lanes lane copy told turn
   tells_all copy ask heard asks r =
       let a = r.are_lines in
-      let others = λ (k : ℕ) (lt : k < length a.parts) (ne : k ≡ lane → ⊥). no_rows lane k (get_or all k []) (get_or a.parts k []) ne (a.each.each k [] [] (omega (arith, lt, a.each.count))) in
+      let others = λ (k : ℕ) (lt : k < length a.parts) (ne : k ≡ lane → ⊥). no_rows full lane k (get_or all k []) (get_or a.parts k []) ne (a.each.each k [] [] (omega (arith, lt, a.each.count))) in
       let mine : r.lines ≡ get_or a.parts lane [] = a.all ∙ one_part a.parts lane (omega (arith, among, a.each.count)) others in
-      let are : AreAskedRowLines true false (table (of_lane lane)) no_traits lane (lane_entries lane turn.seen) (get_or a.parts lane []) =
-      subst (λ (es : List EntryValue). AreAskedRowLines true false (table (of_lane lane)) no_traits lane es (get_or a.parts lane [])) its_entries (a.each.each lane [] [] among) in
-      let t = rows_tell false lane (lane_entries lane turn.seen) copy (get_or a.parts lane []) few are in
-      (whole (length (steps_of (lane_entries lane turn.seen))) t.0, record { ask = ask; heard = heard; asks = asks; lines = r.lines; replied = r.told; are_lines = mine ∙ t.2; is_so = t.1 })
+      let are : AreAskedRowLines true full (table (of_lane lane)) no_traits lane (lane_entries lane turn.seen) (get_or a.parts lane []) =
+      subst (λ (es : List EntryValue). AreAskedRowLines true full (table (of_lane lane)) no_traits lane es (get_or a.parts lane [])) its_entries (a.each.each lane [] [] among) in
+      let t = rows_tell full lane (lane_entries lane turn.seen) copy (get_or a.parts lane []) few are in
+      (whole (length (steps_of (lane_entries lane turn.seen))) t.0, record { ask = ask; full = full; heard = heard; asks = asks; lines = r.lines; replied = r.told; are_lines = mine ∙ t.2; is_so = t.1 })
 
-  tells_since : (copy : CopyValue) (ask : AskValue) → turn.heard ≡ asked ask → AsksSince lane (Some copy) ask → IsFurtherReply (steps false lane copy.number None) all turn.reply → (told : ToldValue) × TellsOf lanes lane (Some copy) told turn
+  tells_since : (copy : CopyValue) (ask : AskValue) → turn.heard ≡ asked ask → AsksSince full lane (Some copy) ask → IsFurtherReply (steps full lane copy.number None) all turn.reply → (told : ToldValue) × TellsOf lanes lane (Some copy) told turn
   tells_since copy ask heard asks r =
       let a = r.are_lines in
-      let others = λ (k : ℕ) (lt : k < length a.parts) (ne : k ≡ lane → ⊥). no_changes lane k (get_or a.parts k []) (AreAskedChangeLines false k (get_or all k []) copy.number None (get_or a.parts k [])) ne (a.each.each k [] [] (omega (arith, lt, a.each.count))) in
+      let others = λ (k : ℕ) (lt : k < length a.parts) (ne : k ≡ lane → ⊥). no_changes lane k (get_or a.parts k []) (AreAskedChangeLines full k (get_or all k []) copy.number None (get_or a.parts k [])) ne (a.each.each k [] [] (omega (arith, lt, a.each.count))) in
       let mine : r.lines ≡ get_or a.parts lane [] = a.all ∙ one_part a.parts lane (omega (arith, among, a.each.count)) others in
-      let are : AreAskedChangeLines false lane (lane_entries lane turn.seen) copy.number None (get_or a.parts lane []) =
-      subst (λ (es : List EntryValue). AreAskedChangeLines false lane es copy.number None (get_or a.parts lane [])) its_entries
-      (its_changes lane (get_or a.parts lane []) (AreAskedChangeLines false lane (get_or all lane []) copy.number None (get_or a.parts lane [])) (a.each.each lane [] [] among)) in
-      let t = changes_tell false lane (lane_entries lane turn.seen) copy (get_or a.parts lane []) few are in
+      let are : AreAskedChangeLines full lane (lane_entries lane turn.seen) copy.number None (get_or a.parts lane []) =
+      subst (λ (es : List EntryValue). AreAskedChangeLines full lane es copy.number None (get_or a.parts lane [])) its_entries
+      (its_changes lane (get_or a.parts lane []) (AreAskedChangeLines full lane (get_or all lane []) copy.number None (get_or a.parts lane [])) (a.each.each lane [] [] among)) in
+      let t = changes_tell full lane (lane_entries lane turn.seen) copy (get_or a.parts lane []) few are in
       let total = length (steps_of (lane_entries lane turn.seen)) in
-      (later total ((total - most_kept) - copy.number) (map (λ change. change.step) t.0), record { ask = ask; heard = heard; asks = asks; lines = r.lines; replied = r.told; are_lines = (t.0, refl, mine ∙ t.2); is_so = t.1 })
+      (later total ((total - most_kept) - copy.number) (map (λ change. change.step) t.0), record { ask = ask; full = full; heard = heard; asks = asks; lines = r.lines; replied = r.told; are_lines = (t.0, refl, mine ∙ t.2); is_so = t.1 })
 
-  pub turn_tells : (copy : Option CopyValue) (ask : AskValue) → turn.heard ≡ asked ask → AsksAll lane ask ⊎ AsksSince lane copy ask → IsAskReply ask all turn.reply → (told : ToldValue) × TellsOf lanes lane copy told turn
+  pub turn_tells : (copy : Option CopyValue) (ask : AskValue) → turn.heard ≡ asked ask → AsksAll full lane ask ⊎ AsksSince full lane copy ask → IsAskReply ask all turn.reply → (told : ToldValue) × TellsOf lanes lane copy told turn
   turn_tells copy ask heard (inl asks) r = tells_all copy ask heard asks (subst (λ (a : AskValue). IsAskReply a all turn.reply) asks r)
   turn_tells None ask heard (inr asks) r = absurd asks
   turn_tells (Some copy) ask heard (inr asks) r = tells_since copy ask heard asks (subst (λ (a : AskValue). IsAskReply a all turn.reply) asks r)

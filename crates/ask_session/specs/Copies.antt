@@ -1,6 +1,7 @@
 -- A client that keeps a copy of a lane's rows (`Mirror` of `ask_specs`) by the replies of its connections. It asks
--- `steps table router N` first, and then `changes N S`, S being the number of its copy.
-use Rattle.std.specs.Prelude.{◌≡◌, ◌⊎◌, ℕ, ◌<◌, ◌≤◌, ◌-◌, ◌^◌, Bool, true, false, List, [], ◌∷◌, ◌++◌, length, map, sum_by, Option, Some, None}
+-- `steps table router N` first, and then `changes N S`, S being the number of its copy; or, for rows with all their path
+-- attributes, `steps full table router N` and `full changes N S`.
+use Rattle.std.specs.Prelude.{◌≡◌, ◌⊎◌, ℕ, ◌<◌, ◌≤◌, ◌-◌, ◌^◌, Bool, true, List, [], ◌∷◌, ◌++◌, length, map, sum_by, Option, Some, None}
 use Rattle.ask_specs.specs.AskReply.{row_line, told_change}
 use Rattle.ask_specs.specs.Asking.{AskValue, rows, steps}
 use Rattle.ask_specs.specs.Mirror.{CopyValue, ToldValue, whole, later, Keeps, Tells, IsExactOrNone}
@@ -25,36 +26,38 @@ use Rattle.ask_session.specs.Dialogue.{Turn, Dialogue, IsTurnOn}
 abbrev pub lane_entries : ℕ → History → List EntryValue
 lane_entries lane history = entry_values (part lane history)
 
--- `steps table router N` is asked
-abbrev pub AsksAll : ℕ → AskValue → Type 0
-AsksAll lane ask = ask ≡ rows true false (table (of_lane lane)) no_traits
+-- `steps table router N` is asked, or `steps full table router N`
+abbrev pub AsksAll : Bool → ℕ → AskValue → Type 0
+AsksAll full lane ask = ask ≡ rows true full (table (of_lane lane)) no_traits
 
--- `changes N S` is asked, S being the number of the copy
-abbrev pub AsksSince : ℕ → Option CopyValue → AskValue → Type 0
-AsksSince lane None ask = ⊥
-AsksSince lane (Some copy) ask = ask ≡ steps false lane copy.number None
+-- `changes N S` is asked, or `full changes N S`, S being the number of the copy
+abbrev pub AsksSince : Bool → ℕ → Option CopyValue → AskValue → Type 0
+AsksSince full lane None ask = ⊥
+AsksSince full lane (Some copy) ask = ask ≡ steps full lane copy.number None
 
 -- what is asked where this is told
-abbrev pub AsksFor : ℕ → Option CopyValue → ToldValue → AskValue → Type 0
-AsksFor lane copy (whole total all) ask = AsksAll lane ask
-AsksFor lane copy (later total missed made) ask = AsksSince lane copy ask
+abbrev pub AsksFor : Bool → ℕ → Option CopyValue → ToldValue → AskValue → Type 0
+AsksFor full lane copy (whole total all) ask = AsksAll full lane ask
+AsksFor full lane copy (later total missed made) ask = AsksSince full lane copy ask
 
 -- the lines that tell it
-abbrev pub AreToldBy : ℕ → Option CopyValue → ToldValue → List (List ℕ) → Type 0
-AreToldBy lane copy (whole total all) lines = lines ≡ steps_line lane total ∷ map (row_line false lane) all
-AreToldBy lane None (later total missed made) lines = ⊥
-AreToldBy lane (Some copy) (later total missed made) lines = (known : List ChangeValue) × (made ≡ map (λ change. change.step) known)
-    × (lines ≡ steps_line lane total ∷ (missed_lines copy.number (oldest_kept total) ++ map (told_change false lane) known))
+abbrev pub AreToldBy : Bool → ℕ → Option CopyValue → ToldValue → List (List ℕ) → Type 0
+AreToldBy full lane copy (whole total all) lines = lines ≡ steps_line lane total ∷ map (row_line full lane) all
+AreToldBy full lane None (later total missed made) lines = ⊥
+AreToldBy full lane (Some copy) (later total missed made) lines = (known : List ChangeValue) × (made ≡ map (λ change. change.step) known)
+    × (lines ≡ steps_line lane total ∷ (missed_lines copy.number (oldest_kept total) ++ map (told_change full lane) known))
 
 -- The turn told this of the lane: its line asks for it, its reply has the lines that tell it and no others, and it is so in the
 -- history that the turn was answered of.
 pub record TellsOf (lanes lane : ℕ) (copy : Option CopyValue) (told : ToldValue) (turn : Turn) : Type 0 where
   pub ask : AskValue
+  -- with all path attributes, or without
+  pub full : Bool
   pub heard : turn.heard ≡ asked ask
-  pub asks : AsksFor lane copy told ask
+  pub asks : AsksFor full lane copy told ask
   pub lines : List (List ℕ)
   pub replied : turn.reply ≡ reply (sum_by length (lanes_of lanes turn.seen)) lines
-  pub are_lines : AreToldBy lane copy told lines
+  pub are_lines : AreToldBy full lane copy told lines
   pub is_so : Tells (lane_entries lane turn.seen) copy told
 
 -- Each announcement of the lane is of a peer that is up, as it is where its entries are what connections gave (`Lives` of
@@ -63,10 +66,11 @@ pub record IsTellable (lane : ℕ) (history : History) : Type 0 where
   pub of_up : AnnouncesOfUp (lane_entries lane history)
   pub few : length (steps_of (lane_entries lane history)) < 2 ^ 64 - 1
 
--- The reply to `steps table router N`, and that to `changes N S`, S being the number of a copy, tell something of the lane.
+-- The reply to `steps table router N`, and that to `changes N S`, S being the number of a copy, tell something of the lane; so do
+-- those with `full`.
 abbrev pub TurnsTell : Type 0
-TurnsTell = (lanes lane : ℕ) (history : History) (turn : Turn) (copy : Option CopyValue) (ask : AskValue) → lane < lanes → IsTurnOn lanes history turn → IsTellable lane history
-    → length turn.line ≤ 1024 → IsOfferedAsk turn.line ask → AsksAll lane ask ⊎ AsksSince lane copy ask → (told : ToldValue) × TellsOf lanes lane copy told turn
+TurnsTell = (full : Bool) (lanes lane : ℕ) (history : History) (turn : Turn) (copy : Option CopyValue) (ask : AskValue) → lane < lanes → IsTurnOn lanes history turn → IsTellable lane history
+    → length turn.line ≤ 1024 → IsOfferedAsk turn.line ask → AsksAll full lane ask ⊎ AsksSince full lane copy ask → (told : ToldValue) × TellsOf lanes lane copy told turn
 
 -- Two turns on one history, of one connection or of two, of which the second's revision is at least the first's: by what the
 -- second tells, a copy that is exact at the first is exact at the second, or known to be none.

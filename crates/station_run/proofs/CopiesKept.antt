@@ -22,10 +22,10 @@ turn_of rounds site history (r ∷ rs) (first, rest) turn (inl has) = turn_among
 turn_of rounds site history (r ∷ rs) (first, rest) turn (inr more) = turn_of rounds site history rs rest turn more
 
 pub clients_told : (meaning : Meaning) → LivesAnnounceOfUp meaning → ClientsAreTold meaning
-clients_told meaning of_up rounds lanes askers runs ask_runs cut feeds asks rev served lane below few turn copy ask has short offered asks_it =
+clients_told meaning of_up rounds lanes askers runs ask_runs cut feeds asks rev served lane below few full turn copy ask has short offered asks_it =
     let history = served.ending.history in
     let on = subst (λ (n : ℕ). IsTurnOn n history turn) served.wide (turn_of rounds served.site history ask_runs served.asks_are turn has) in
-    turns_tell lanes lane history turn copy ask below on (lanes_tellable meaning of_up rounds lanes askers runs ask_runs cut feeds asks rev served lane below few) short offered asks_it
+    turns_tell full lanes lane history turn copy ask below on (lanes_tellable meaning of_up rounds lanes askers runs ask_runs cut feeds asks rev served lane below few) short offered asks_it
 
 pub copies_exact : (meaning : Meaning) → LivesAnnounceOfUp meaning → CopiesAreExact meaning
 copies_exact meaning of_up rounds lanes askers runs ask_runs cut feeds asks rev served lane below few first second copy kept told one two le exact tells keeps =

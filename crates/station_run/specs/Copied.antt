@@ -1,5 +1,5 @@
 -- The copies of a lane's rows that the clients of a station that served keep.
-use Rattle.std.specs.Prelude.{◌⊎◌, ℕ, ◌-◌, ◌<◌, ◌≤◌, ◌^◌, List, [], ◌∷◌, length, Option}
+use Rattle.std.specs.Prelude.{◌⊎◌, ℕ, Bool, ◌-◌, ◌<◌, ◌≤◌, ◌^◌, List, [], ◌∷◌, length, Option}
 use Rattle.std.specs.List.{Contains}
 use Rattle.ask_specs.specs.Asking.{AskValue}
 use Rattle.ask_specs.specs.Mirror.{CopyValue, ToldValue, IsExactOrNone, Keeps}
@@ -33,10 +33,10 @@ module _ (Says : (lanes lane : ℕ) (history : History) → (Turn → Type 0) �
       → Says lanes lane served.ending.history (IsTurnOfAskers rounds served.site served.ending.history ask_runs served.asks_are)
 
 -- A client that asks `steps table router N`, or `changes N S`, S being the number of its copy, is told of the lane what the copy
--- needs.
+-- needs; so is one that asks the same with `full`.
 abbrev pub ClientsAreTold : Meaning → Type 0
-ClientsAreTold meaning = OfEachLane (λ lanes lane history IsTurn. (turn : Turn) (copy : Option CopyValue) (ask : AskValue) → IsTurn turn → length turn.line ≤ 1024 → IsOfferedAsk turn.line ask
-    → AsksAll lane ask ⊎ AsksSince lane copy ask → (told : ToldValue) × TellsOf lanes lane copy told turn) meaning
+ClientsAreTold meaning = OfEachLane (λ lanes lane history IsTurn. (full : Bool) (turn : Turn) (copy : Option CopyValue) (ask : AskValue) → IsTurn turn → length turn.line ≤ 1024 → IsOfferedAsk turn.line ask
+    → AsksAll full lane ask ⊎ AsksSince full lane copy ask → (told : ToldValue) × TellsOf lanes lane copy told turn) meaning
 
 -- By what it is told a copy of the lane's rows that was exact at one reply, of whichever client, is exact at a reply of no lower
 -- revision, or known to be none.
