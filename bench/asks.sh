@@ -33,7 +33,8 @@ table=$(($(instructions table) - reading))
 printf '%-40s %9s %14s %9s %9s\n' query told instructions count table
 for words in count table "count family 4" \
     "count through 1005" "count through 64500" "count through 64500,1005,9327" "table through 1005" \
-    "count community 64500:1234" "table community 64500:1234" "count other 32" "steps table router 0" "changes 0 0"; do
+    "count community 64500:1234" "table community 64500:1234" "count other 32" "steps table router 0" "changes 0 0" \
+    "full table" "full table community 64500:1234" "full changes 0 0"; do
     read -ra asked <<<"$words"
     spent=$(($(instructions "${asked[@]}") - reading))
     awk -v w="$words" -v r="$(told "${asked[@]}")" -v s="$spent" -v c="$count" -v t="$table" \
