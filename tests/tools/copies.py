@@ -5,6 +5,8 @@ table router N` once, and then `changes N S` again and again; where steps are mi
 asks `steps table router N`. The table after T steps, whatever T is that it was told, must be the copy after T steps, row for row
 and in the order of rows. Now and then a router rests, and then the copy must be what the router announced.
 
+Every other lane asks for whole lines, by `steps full table router N` and `full changes N S`.
+
 The last two lanes ask over two connections: one is told the table, another the changes, and that one is opened anew now and then.
 
 Beside each copy stands one that takes no heed of `down`. It must differ in the end, or the comparison has seen nothing.
@@ -14,6 +16,7 @@ import functools
 import ipaddress
 import random
 import re
+import struct
 import threading
 import time
 
@@ -22,6 +25,8 @@ import bmp
 LANES = 8
 ASKERS = 3 * LANES  # a table, its changes and another table of each lane
 APART = (6, 7)  # the lanes whose table and changes come over two connections
+WHOLE = (1, 3, 5, 7)  # the lanes whose clients ask for whole lines
+TIMES = ["seen=-", "told=-"]  # what such a line of a change has behind what it has without them
 SECONDS = 60  # for one wait
 KEPT = 1024  # so many steps of a lane are kept
 VIEWS = ("adj-in-pre", "adj-in-post", "adj-out-pre", "adj-out-post", "loc")
@@ -56,9 +61,9 @@ def order(place):
 
 
 def place_of(words):
-    """The place of a row by its words from the peer on, of which the last may be its path identifier."""
-    last = words[-1]
-    return words[0], words[1], words[2], int(last[3:]) if last.startswith("id=") else None
+    """The place of a row by its words from the peer on, of which one may be its path identifier."""
+    identifiers = [int(word[3:]) for word in words[3:] if word.startswith("id=")]
+    return words[0], words[1], words[2], identifiers[0] if identifiers else None
 
 
 class Copy:
@@ -88,6 +93,20 @@ class Copy:
         return [self.rows[place] for place in sorted(self.rows, key=order)]
 
 
+def asked(lane, query):
+    """A query of a lane's clients: for whole lines in some lanes."""
+    if lane not in WHOLE:
+        return query
+    return query.replace("steps ", "steps full ") if query.startswith("steps ") else f"full {query}"
+
+
+def without_times(words):
+    """The words of a step, without those of its times."""
+    at = [place for place in range(len(words)) if words[place:place + 2] == TIMES]
+    need(len(at) == 1, f"the times of {words}")
+    return words[:at[0]] + words[at[0] + 2:]
+
+
 def told_table(lane, lines):
     """How many steps the lane made, and the texts of its rows, by the reply to `steps table router N`."""
     need(lines and re.fullmatch(f"steps {lane} [0-9]+", lines[0]), f"`steps table router {lane}` begins with {lines[:1]}")
@@ -107,7 +126,7 @@ def told_changes(lane, first, lines):
     steps = [line.split(" ") for line in lines[1 + len(wanted):]]
     numbers = [f"change {lane} {number}" for number in range(max(first, oldest), total)]
     need([" ".join(words[:3]) for words in steps] == numbers, f"of {total} steps from {first} on there are {len(steps)}, or others")
-    return total, missed, [words[3:] for words in steps]
+    return total, missed, [without_times(words[3:]) if lane in WHOLE else words[3:] for words in steps]
 
 
 class Followed:
@@ -170,10 +189,10 @@ def views_of(peer):
 
 
 class Router:
-    """What a router of a lane sends, and the rows that it leaves: for each place the text of its row."""
+    """What a router of a lane sends, and the rows that it leaves: for each place the text of its row, a whole line or not."""
 
-    def __init__(self, draw):
-        self.draw = draw
+    def __init__(self, draw, is_whole):
+        self.draw, self.is_whole = draw, is_whole
         self.up = set()
         self.rows = {}
         self.messages = 0
@@ -214,12 +233,12 @@ class Router:
         gone = {family: self.places(peer, view, family, 4) for family in (4, 6)}
         come = {family: self.places(peer, view, family, 8) for family in (4, 6)}
         path = [bmp.ASN, *(self.draw.randrange(1, 1 << 32) for _ in range(self.draw.randrange(4)))]
-        med = self.draw.choice([None, self.draw.randrange(1 << 32)])
+        med, large = (self.draw.choice([None, self.draw.randrange(1 << 32)]) for _ in range(2))
         if peer in self.up:
             for place, _ in gone[4] + gone[6]:
                 self.rows.pop(place, None)
             for next_hop, (place, _) in [("192.0.2.9", it) for it in come[4]] + [("2001:db8::9", it) for it in come[6]]:
-                self.rows[place] = row_text(place, next_hop, path, med)
+                self.rows[place] = row_text(place, next_hop, path, med, large, self.is_whole)
         unreached, reached = (b"".join(octets for _, octets in places) for places in (gone[6], come[6]))
         attributes = b""
         if come[4] or come[6]:
@@ -229,6 +248,8 @@ class Router:
             attributes += bmp.attribute(0x80, 14, b"\0\2\1" + bytes([len(next_hop)]) + next_hop + b"\0" + reached)
         if gone[6]:
             attributes += bmp.attribute(0x80, 15, b"\0\2\1" + unreached)
+        if large is not None and (come[4] or come[6]):
+            attributes += bmp.attribute(0xc0, 32, struct.pack(">III", bmp.ASN, 1, large))
         withdrawn, routes = (b"".join(octets for _, octets in places) for places in (gone[4], come[4]))
         return self.sent(bmp.monitoring(peer, view, withdrawn, attributes, routes))
 
@@ -247,12 +268,17 @@ class Router:
         return [self.rows[place] for place in sorted(self.rows, key=order)]
 
 
-def row_text(place, next_hop, path, med):
-    """The row of a route of ours, as a reply has it behind its lane."""
+def row_text(place, next_hop, path, med, large, is_whole):
+    """The row of a route of ours, as a reply has it behind its lane; `large` is the last number of its large community."""
     key, view, prefix, identifier = place
     text = (f"{key} {view} {prefix} next={next_hop} origin=igp path={'_'.join(map(str, path))} med={'-' if med is None else med} pref=- "
-            "atomic=no agg=- comm=- other=-")
-    return text if identifier is None else f"{text} id={identifier}"
+            f"atomic=no agg=- comm=- other={'-' if large is None else 32}")
+    if identifier is not None:
+        text += f" id={identifier}"
+    if is_whole:
+        text += f" flags={'-' if large is None else 'c0'} large={'-' if large is None else f'{bmp.ASN}:1:{large}'}"
+        text += " ext=- otc=- aigp=- originator=- clusters=- raw=-"
+    return text
 
 
 class Copies:
@@ -278,7 +304,7 @@ class Copies:
     def router(self, lane):
         draw = self.draws[0][lane]
         while True:
-            router = Router(draw)
+            router = Router(draw, lane in WHOLE)
             with self.feed(lane) as connection:
                 connection.sendall(router.open())
                 for _ in range(draw.randrange(40)):
@@ -323,7 +349,7 @@ class Copies:
                 resting = self.resting[lane]
                 # A client that is late asks once more steps were made than are kept.
                 is_late = (is_late or draw.random() < 0.005) and not resting and not followed.is_left_behind(waiting)
-                turn = [lambda: waiting.append(told_table(lane, second.ask(f"steps table router {lane}")[1]))]
+                turn = [lambda: waiting.append(told_table(lane, second.ask(asked(lane, f"steps table router {lane}"))[1]))]
                 if not is_late:
                     turn.append(lambda: self.poll(lane, followed, first, apart))
                 draw.shuffle(turn)
@@ -344,11 +370,11 @@ class Copies:
     def poll(self, lane, followed, first, apart):
         """Asks for the table, or for the changes since."""
         if followed.now is None:
-            followed.begin(first.ask(f"steps table router {lane}")[1])
+            followed.begin(first.ask(asked(lane, f"steps table router {lane}"))[1])
             self.count("begun")
             return
         since = followed.now.number
-        total, missed, steps = told_changes(lane, since, apart.ask(f"changes {lane} {since}")[1])
+        total, missed, steps = told_changes(lane, since, apart.ask(asked(lane, f"changes {lane} {since}"))[1])
         if total < since:
             # What is told last on one connection may be what was told first on another.
             need(lane in APART, f"{total} steps of lane {lane} after {since}")
@@ -379,7 +405,7 @@ class Copies:
         router, done, is_last = resting
         if f" live peers={len(router.up)} messages={router.messages} " not in client.ask("routers")[1][lane]:
             return
-        number, texts = told_table(lane, client.ask(f"steps table router {lane}")[1])
+        number, texts = told_table(lane, client.ask(asked(lane, f"steps table router {lane}"))[1])
         need(texts == router.texts(), f"the table of lane {lane} isn't what was sent: {first_difference(texts, router.texts())}")
         if followed.now is None or followed.now.number != number:
             return
