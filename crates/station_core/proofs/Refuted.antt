@@ -51,7 +51,7 @@ telling_lowers_nothing meaning reply (inl (unmarked, (inl (named, told), none)))
     omega (arith, seen, now)
 
 -- All changes of a lane are asked for: something is written.
-all_changes_have_a_reply : (meaning : Meaning) (new : MachineValue) → Steps meaning (Ask 0 (Changes 0 0)) (with_one_asker 3) new [] → ⊥
+all_changes_have_a_reply : (meaning : Meaning) (new : MachineValue) → Steps meaning (Ask 0 (Changes false 0 0 None)) (with_one_asker 3) new [] → ⊥
 unfolding with_one_asker
 all_changes_have_a_reply meaning new (inr (marked, still)) = marked tt
 all_changes_have_a_reply meaning new (inl (unmarked, inl answered)) = omega (arith, ap (λ (l : List ℕ). get_or l 0 0) answered.is_reply.told)
