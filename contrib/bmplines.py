@@ -26,8 +26,13 @@ VIEWS = ("adj-in-pre", "adj-in-post", "adj-out-pre", "adj-out-post", "loc")
 SELECTED = ("marks", "table", "count", "prefix", "match", "within", "origin")
 # The selectors of path attributes, which stand behind these, in their order.
 ATTRIBUTE_SELECTORS = ("through", "community", "other")
+# The words that stand in front of a query, in their order.
+FRONT = ("steps", "full")
 
 ROUTE_FIELDS = ("next", "origin", "path", "med", "pref", "atomic", "agg", "comm", "other")
+# What a whole line has of a route behind these, each with its name among the fields.
+FULL_FIELDS = {"flags": "flags", "large": "large_communities", "ext": "ext_communities", "otc": "otc", "aigp": "aigp",
+               "originator": "originator", "clusters": "clusters", "raw": "raw"}
 SEGMENTS = {"{": ("}", "set"), "(": (")", "confed-sequence"), "[": ("]", "confed-set")}
 STOPS = {"ended": (), "terminated": (), "full": (), "cutshort": ("offset",), "readfault": ("offset",),
          "broken": ("offset", "why")}
@@ -142,6 +147,32 @@ def asked_community(text):
     return text
 
 
+@functools.lru_cache(maxsize=65536)
+def large_community_of(text):
+    parts = text.split(":")
+    if len(parts) != 3 or max(map(number, parts)) > MOST_NUMBER:
+        raise ValueError(text)
+    return text
+
+
+@functools.lru_cache(maxsize=65536)
+def ext_community_of(text):
+    ext_octets(text)
+    return text
+
+
+def ext_octets(text):
+    """The eight octets, in hexadecimal, of an extended community that `asked_community` takes (RFC 4360, RFC 5668)."""
+    if re.fullmatch("[0-9a-f]{16}", text):
+        return text
+    kind, administrator, local = text.split(":")
+    subtype = {"rt": 2, "ro": 3}[kind]
+    if "." in administrator:
+        return f"01{subtype:02x}{int(ipaddress.IPv4Address(administrator)):08x}{number(local):04x}"
+    asn = number(administrator)
+    return f"00{subtype:02x}{asn:04x}{number(local):08x}" if asn <= 0xFFFF else f"02{subtype:02x}{asn:08x}{number(local):04x}"
+
+
 def aggregator_of(text):
     asn, colon, identifier = text.partition(":")
     if not colon:
@@ -169,11 +200,36 @@ def cause_of(words):
     return fields
 
 
+def hexadecimal(text):
+    if not re.fullmatch("(?:[0-9a-f]{2})*", text):
+        raise ValueError(text)
+    return text
+
+
+def flags_of(text, codes):
+    """The flags of each attribute by its type code, which is a text as in JSON."""
+    flags = listed(text, hexadecimal)
+    if len(flags) != len(codes) or any(len(one) != 2 for one in flags):
+        raise ValueError(text)
+    return {str(code): one for code, one in zip(codes, flags)}
+
+
+def raw_of(text):
+    """The value of each attribute that has no other field, by its type code."""
+    found = {}
+    for code, colon, value in (item.partition(":") for item in listed(text, str)):
+        if not colon or code in found:
+            raise ValueError(text)
+        found[str(number(code))] = hexadecimal(value)
+    return found
+
+
 @functools.lru_cache(maxsize=16384)
 def attributes_of(text):
-    """The attributes of a route line. Routes with the same ones share the lists in them."""
-    values = pairs(text.split(" "), ROUTE_FIELDS)
-    return {
+    """The attributes of a route line, and those of a whole one. Routes with the same ones share the lists in them."""
+    words = text.split(" ")
+    values = pairs(words[:len(ROUTE_FIELDS)], ROUTE_FIELDS)
+    fields = {
         "next": optional(values["next"], str),
         "origin": optional(values["origin"], str),
         "path": optional(values["path"], path_of),
@@ -184,12 +240,31 @@ def attributes_of(text):
         "comm": listed(values["comm"], community_of),
         "other": listed(values["other"], number),
     }
+    if len(words) == len(ROUTE_FIELDS):
+        return fields
+    values = pairs(words[len(ROUTE_FIELDS):], FULL_FIELDS)
+    return fields | {
+        "flags": flags_of(values["flags"], fields["other"]),
+        "large_communities": listed(values["large"], large_community_of),
+        "ext_communities": listed(values["ext"], ext_community_of),
+        "otc": optional(values["otc"], number),
+        "aigp": optional(values["aigp"], number),
+        "originator": optional(values["originator"], str),
+        "clusters": listed(values["clusters"], str),
+        "raw": raw_of(values["raw"]),
+    }
+
+
+def is_whole(route):
+    """Whether a route, or an announcement, is of a whole line: with all of its path attributes."""
+    return "raw" in route
 
 
 def split_attributes(text):
-    """The attributes of a route line as it has them, and the path identifier behind them."""
-    attributes, found, identifier = text.partition(" id=")
-    return attributes, number(identifier) if found else None
+    """The attributes of a route line as it has them, and the path identifier, which stands among them in a whole line."""
+    attributes, found, rest = text.partition(" id=")
+    identifier, _, more = rest.partition(" ")
+    return f"{attributes} {more}" if more else attributes, number(identifier) if found else None
 
 
 def route_of(words):
@@ -262,9 +337,21 @@ def read_route(words):
     return {"router": number(router)} | route_of(rest)
 
 
+def told_of(text):
+    """The time of a Per-Peer Header, which stays a text: a number of JSON may have fewer digits."""
+    if not re.fullmatch(r"[0-9]+\.[0-9]{6,}", text):
+        raise ValueError(text)
+    return text
+
+
 def read_change(words):
     router, step, what, *rest = words
     fields = {"router": number(router), "step": number(step), "change": what}
+    place = next((at for at, word in enumerate(rest) if word.startswith("seen=")), None)
+    if place is not None:
+        values = pairs(rest[place:place + 2], ("seen", "told"))
+        fields |= {"seen": optional(values["seen"], number), "told": optional(values["told"], told_of)}
+        del rest[place:place + 2]
     if what == "opened" and not rest:
         return fields
     if what == "closed":
@@ -448,9 +535,23 @@ def with_attributes(query, wanted):
     return " ".join([*words, *(word for name in ATTRIBUTE_SELECTORS if name in found for word in (name, found[name]))])
 
 
+def split_front(query):
+    """The words in front of a query, and the query behind them."""
+    words, place = query.split(" "), 0
+    for name in FRONT:
+        place += words[place] == name and len(words) > place + 1
+    return words[:place], " ".join(words[place:])
+
+
+def as_full(query):
+    """The query for whole lines."""
+    front, rest = split_front(query)
+    return " ".join([*(word for word in front if word != "full"), "full", rest])
+
+
 def selectors_of(query):
     """The selectors in a query but those of path attributes, as text for another one."""
-    words = without_attributes(query.removeprefix("steps "))[0]
+    words = without_attributes(split_front(query)[1])[0]
     found = []
     if words[0] in SELECTED or words[0] == "peers":
         while len(words) >= 3 and words[-2] in SELECTORS:

@@ -30,6 +30,16 @@ def route_text(f):
     return text + (f" id={f['id']}" if f["id"] is not None else "")
 
 
+def full_text(f):
+    """What a whole line has behind that, if it is one."""
+    if "raw" not in f:
+        return ""
+    return (f" flags={','.join(f['flags'].values()) or '-'} large={','.join(f['large_communities']) or '-'}"
+            f" ext={','.join(f['ext_communities']) or '-'} otc={or_dash(f['otc'])} aigp={or_dash(f['aigp'])}"
+            f" originator={or_dash(f['originator'])} clusters={','.join(f['clusters']) or '-'}"
+            f" raw={','.join(f'{code}:{value}' for code, value in f['raw'].items()) or '-'}")
+
+
 def cause_text(f):
     return " ".join(str(f[name]) for name in ("cause", "offset", "why") if name in f)
 
@@ -44,7 +54,7 @@ def text_of(f):
     """The line that a JSON object was made of."""
     kind = f["line"]
     if kind == "route":
-        return f"route {f['router']} {route_text(f)}"
+        return f"route {f['router']} {route_text(f)}{full_text(f)}"
     if kind == "count":
         return f"count {f['rows']}"
     if kind == "lane":
@@ -76,10 +86,11 @@ def text_of(f):
         return text
     same(kind, "change", "a line")
     head = f"change {f['router']} {f['step']} {f['change']}"
+    times = f" seen={or_dash(f['seen'])} told={or_dash(f['told'])}" if "seen" in f else ""
     if f["change"] == "announce":
-        return f"{head} {route_text(f)}"
+        return f"{head} {route_text(f)}{times}{full_text(f)}"
     if f["change"] == "closed":
-        return f"{head} {cause_text(f)}"
+        return f"{head} {cause_text(f)}{times}"
     if f["change"] == "withdraw":
-        return f"{head} {f['peer']} {f['view']} {f['prefix']}" + (f" id={f['id']}" if f["id"] is not None else "")
-    return f"{head} {f['peer']}" if "peer" in f else head
+        return f"{head} {f['peer']} {f['view']} {f['prefix']}" + (f" id={f['id']}" if f["id"] is not None else "") + times
+    return (f"{head} {f['peer']}" if "peer" in f else head) + times
