@@ -5,14 +5,19 @@ are written to a file of their own, and the two are read beside each other: memo
 """
 import itertools
 
-from bmplines import ROUTE_FIELDS, UnknownLine, parse
+from bmplines import FULL_FIELDS, ROUTE_FIELDS, UnknownLine, is_whole, parse
 from bmprows import prefix_in
 
 BEFORE, AFTER = "adj-in-pre", "adj-in-post"
-# A route is `uncompared` where all that is read of both sides is the same, but both have attributes of which the type code
-# alone is known: policy may have changed these. One that is on one side alone is `unknown` where the other table waits for
-# its End-of-RIB.
+# A station that knows no whole lines tells the type codes alone of some attributes. Where both sides have such ones, and all else
+# is the same, a route is `uncompared`: policy may have changed these. One that is on one side alone is `unknown` where the other
+# table waits for its End-of-RIB.
 KINDS = ("kept", "uncompared", "changed", "dropped", "added", "unknown")
+# Each field of a line by its name in JSON, in the order of the line.
+FIELDS = {name: name for name in ROUTE_FIELDS} | {member: name for name, member in FULL_FIELDS.items()}
+# Of an attribute's flags those that say something of it: Optional, Transitive, Partial. The next tells how its length is written,
+# and the last four nothing (RFC 4271, section 4.3).
+TELLING_FLAGS = 0xE0
 
 
 def complete_tables(marks):
@@ -63,16 +68,25 @@ def beside(before, after):
 
 def uncompared(before, after):
     """The type codes of the attributes that both sides have, and of which nothing else is known."""
-    return [code for code in before["other"] if code in after["other"]] if before and after else []
+    if not before or not after or is_whole(before) and is_whole(after):
+        return []
+    return [code for code in before["other"] if code in after["other"]]
 
 
-def attributes(row):
-    return [row[name] for name in ROUTE_FIELDS]
+def differ_in_flags(before, after):
+    """Whether an attribute that both sides have has other flags."""
+    return any((int(before[code], 16) ^ int(after[code], 16)) & TELLING_FLAGS for code in before if code in after)
+
+
+def changes_of(before, after):
+    """The names of the fields that differ. An attribute that one side has not differs in `other`, and in its own field."""
+    return [name for name in FIELDS if name in before and name in after
+            and (differ_in_flags(before[name], after[name]) if name == "flags" else before[name] != after[name])]
 
 
 def pairs(before, after):
     """The routes of a prefix in pairs: those of the same identifier, then any that have the same attributes, then any."""
-    for is_pair in (lambda a, b: a["id"] == b["id"], lambda a, b: attributes(a) == attributes(b),
+    for is_pair in (lambda a, b: a["id"] == b["id"], lambda a, b: not changes_of(a, b),
                     lambda a, b: None in (a["id"], b["id"])):
         for row in list(before):
             found = next((other for other in after if is_pair(row, other)), None)
@@ -90,7 +104,7 @@ def judged(before, after, complete):
     row = before or after
     family = 6 if ":" in row["prefix"] else 4
     if before and after:
-        changes = [name for name in ROUTE_FIELDS if before[name] != after[name]]
+        changes = changes_of(before, after)
         return ("changed" if changes else "uncompared" if uncompared(before, after) else "kept"), changes
     missing, what = (BEFORE, "added") if after else (AFTER, "dropped")
     is_known = complete is None or (row["router"], missing, family) in complete
@@ -108,14 +122,15 @@ def text_of(what, before, after):
     """A line of the comparison: the attributes as the station wrote them, `before>after` where they differ."""
     row = before or after
     sides = [dict(word.split("=", 1) for word in side["text"].split(" ")[5:]) for side in (before, after) if side]
-    words = (f"{name}={'>'.join(dict.fromkeys(side[name] for side in sides))}" for name in ROUTE_FIELDS)
-    identifier = "" if row["id"] is None else f" id={row['id']}"
-    return f"policy {row['router']} {row['peer']} {row['prefix']} {what} {' '.join(words)}{identifier}"
+    words = [f"{name}={'>'.join(dict.fromkeys(side[name] for side in sides))}" for name in FIELDS.values() if all(name in side for side in sides)]
+    identifier = [] if row["id"] is None else [f"id={row['id']}"]
+    text = " ".join([*words[:len(ROUTE_FIELDS)], *identifier, *words[len(ROUTE_FIELDS):]])
+    return f"policy {row['router']} {row['peer']} {row['prefix']} {what} {text}"
 
 
 def fields_of(what, changes, before, after):
     """The same as the members of a JSON object."""
     row = before or after
-    sides = [side and {name: side[name] for name in ROUTE_FIELDS} for side in (before, after)]
+    sides = [side and {name: side[name] for name in FIELDS if name in side} for side in (before, after)]
     return {"line": "policy", "router": row["router"], "peer": row["peer"], "prefix": row["prefix"], "id": row["id"],
             "what": what, "changes": changes, "uncompared": uncompared(before, after), "before": sides[0], "after": sides[1]}

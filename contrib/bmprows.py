@@ -2,7 +2,7 @@
 import ipaddress
 import socket
 
-from bmplines import MOST_NUMBER, UnknownLine, community_of, with_attributes, without_attributes
+from bmplines import MOST_NUMBER, UnknownLine, community_of, ext_octets, is_whole, split_front, with_attributes, without_attributes
 
 WIDTHS = {4: 32, 6: 128}
 BITS = {str(bits): bits for bits in range(129)}
@@ -49,13 +49,20 @@ def is_told(community):
         return False
 
 
+def has_community(route, community):
+    """Whether a route of a whole line has this large or extended community."""
+    if community.count(":") == 2 and not community.startswith("r"):
+        return community in route["large_communities"]
+    return any(ext_octets(one) == ext_octets(community) for one in route["ext_communities"])
+
+
 class Filter:
     """Keeps a route that has all of what is asked for. What a query has words for is asked of the station too, which then tells
     fewer routes: one of the communities, and one AS of the path."""
 
     def __init__(self, communities=(), ases=(), next_hops=(), longer=None):
         self.communities = {community for community in communities if is_told(community)}
-        # What no line tells only the station can look for, of one community.
+        # What a whole line alone tells. Else the station looks for it, of one community.
         self.untold = sorted(set(communities) - self.communities)
         self.ases = ases
         self.next_hops = [str(ipaddress.ip_address(hop)) for hop in next_hops]
@@ -66,8 +73,8 @@ class Filter:
         return not (self.communities or self.untold or self.ases or self.next_hops) and self.longer is None
 
     def can_ask(self, query):
-        """Whether the query has room for what no line tells."""
-        return not self.untold or len(self.untold) == 1 and "community" not in without_attributes(query)[1]
+        """Whether the query is for whole lines, or has room for what no other line tells."""
+        return not self.untold or "full" in split_front(query)[0] or len(self.untold) == 1 and "community" not in without_attributes(query)[1]
 
     def asked(self, query):
         """The query for fewer routes, among which are all that are kept."""
@@ -81,6 +88,8 @@ class Filter:
         if self.longer is not None and prefix_in(route)[2] <= self.longer:
             return False
         if self.communities and not self.communities.issubset(route["comm"]):
+            return False
+        if self.untold and is_whole(route) and not all(has_community(route, one) for one in self.untold):
             return False
         if self.next_hops:
             hops = (route["next"] or "").split(",")

@@ -2,7 +2,7 @@
 import re
 import subprocess
 
-from bmplines import Station, StationError, Unreachable, check_reply, parse
+from bmplines import Station, StationError, Unreachable, as_full, check_reply, parse
 
 SECONDS = 5  # for what the program says of a line
 
@@ -84,6 +84,18 @@ class Recorded:
 
 def source_of(given):
     return Recorded(given) if given.file else Live(given)
+
+
+def ask_whole(source, query):
+    """The reply to the query for whole lines, or to the query itself where the station knows no such lines."""
+    try:
+        lines = source.ask(as_full(query))
+        first = next(lines)
+    except StationError:
+        lines = source.ask(query)
+        first = next(lines)
+    yield first
+    yield from lines
 
 
 def rows_of(source, query):

@@ -8,11 +8,15 @@ import datetime
 import functools
 import re
 
-from bmplines import attributes_of, origin_of
+from bmplines import attributes_of, is_whole, origin_of
 
 STATION = r"[A-Za-z0-9][A-Za-z0-9_.-]{0,31}"
 
 ROUTER, PEER, ROUTE = "bmp_router", "bmp_peer", "bmp_route"
+
+# What whole lines tell. A table of before has these columns added, and the rows in it have nothing there.
+WHOLE = ("flags integer[]", "large_communities text[]", "ext_communities text[]", "otc bigint", "aigp numeric", "originator inet",
+         "clusters inet[]", "raw text[]")
 
 # Of each table its columns behind `station` and `revision`, and its indexes.
 TABLES = {
@@ -26,7 +30,7 @@ TABLES = {
     ROUTE: (("router bigint NOT NULL", "peer text NOT NULL", "view text NOT NULL", "prefix cidr NOT NULL", "path_id bigint",
              "next_hop inet", "next_hops text", "origin text", "path bigint[]", "path_text text", "origin_as bigint",
              "med bigint", "local_pref bigint", "atomic boolean NOT NULL", "aggregator_as bigint", "aggregator_id inet",
-             "communities text[] NOT NULL", "other_types integer[] NOT NULL"),
+             "communities text[] NOT NULL", "other_types integer[] NOT NULL") + WHOLE,
             ("USING gist (prefix inet_ops)", "(origin_as)", "(router, peer, view)")),
 }
 
@@ -59,6 +63,9 @@ def schema():
         yield f"CREATE TABLE IF NOT EXISTS {table} ({columns_of(table)}) PARTITION BY LIST (station);"
         for place, index in enumerate(indexes):
             yield f"CREATE INDEX IF NOT EXISTS {table}_{place} ON {table} {index};"
+    # Only where they are missing: to add a column waits for all who read.
+    yield (f"DO $$ BEGIN IF NOT EXISTS (SELECT FROM pg_attribute WHERE attrelid = '{ROUTE}'::regclass AND attname = 'raw') THEN "
+           f"ALTER TABLE {ROUTE} {', '.join(f'ADD COLUMN {column}' for column in WHOLE)}; END IF; END $$;")
     yield "COMMIT;"
 
 
@@ -134,7 +141,15 @@ def attribute_cells(text):
     path_text = text.split(" ", 3)[2].removeprefix("path=")
     return joined([hops.split(",")[0] if is_address(hops) else None, hops, row["origin"], numbers_of(path),
                    None if path is None else path_text, origin_of(path), row["med"], row["pref"], row["atomic"],
-                   aggregator["asn"], aggregator["id"], words_of(row["comm"]), row["other"]])
+                   aggregator["asn"], aggregator["id"], words_of(row["comm"]), row["other"], *whole_cells(row)])
+
+
+def whole_cells(row):
+    """The columns of what whole lines tell: the flags as numbers, in the order of `other_types`, and nothing of another line."""
+    if not is_whole(row):
+        return [None] * len(WHOLE)
+    return [[int(flags, 16) for flags in row["flags"].values()], row["large_communities"], row["ext_communities"], row["otc"], row["aigp"],
+            row["originator"], row["clusters"], [f"{code}:{value}" for code, value in row["raw"].items()]]
 
 
 def route_line(row, attributes):

@@ -63,3 +63,89 @@ def whole_lines_as_json():
     with file_of(initiation(b"r1") + other) as stream:
         row, _ = objects(bmpq("--json", *recorded(stream), "full table"))
         same({name: row[name] for name in ("id", *WHOLE)}, NOTHING | {"id": 7, "flags": {"32": "c0"}, "raw": {"32": "00" * 11}}, "a malformed attribute")
+
+
+@test
+def whole_lines_are_filtered():
+    """A whole line tells large and extended communities, so each that is given is looked for, however it is written."""
+    with file_of(STREAM) as stream:
+        def prefixes(*words):
+            return [line.split(" ")[4] for line in bmpq(*recorded(stream), *words).decode().splitlines() if line.startswith("route ")]
+
+        for communities, wanted in ((("64500:1:2", "64500:3:4"), True), (("64500:1:2", "64500:3:5"), False), (("64500:1:2", "rt:64500:100"), True),
+                                    (("rt:64500:100", "0103c00002070005", "ro:192.0.2.7:5"), True), (("0002fbf400000064", "02020000fbf40064"), True),
+                                    (("rt:64500:100", "rt:64500:101"), False), (("rt:64500:100", "ro:64500:100"), False), (("64500:1:2", "64500:1"), False)):
+            words = [word for community in communities for word in ("--community", community)]
+            same(prefixes(*words, "full", "table"), ["10.0.0.0/8"] * wanted, communities)
+            same(prefixes(*words, "full", "table", "community", "64500:3:4"), ["10.0.0.0/8"] * wanted, communities)
+        same(prefixes("--community", "64500:1:2", "table"), ["10.0.0.0/8"], "of a line that doesn't tell it, by the station")
+        same(prefixes("--longer-than", 8, "full", "within", "0.0.0.0/0"), ["10.1.0.0/16"], "another filter")
+        lines = bmpq(*recorded(stream), "--community", "64500:1:2", "full table").decode().splitlines()
+        same(lines[1].endswith(" raw=25:000220010db80000000000000000000001000064"), True, "the line as it came")
+    bmpq("--community", "1:2:3", "--community", "1:2:4", "steps", "full", "table", status=2)
+
+
+def policy_of(before, after):
+    """What bmpq says of a route with these attributes before and after policy: the kind, the fields that differ, and its line."""
+    stream = initiation(b"r1") + peer_up(PEER)
+    for view, attributes in ("adj-in-pre", before), ("adj-in-post", after):
+        stream += announced("10.0.0.0/8", attributes, view) + monitoring(PEER, view)
+    with file_of(stream) as file:
+        words = ("--policy", KEY, *recorded(file))
+        line, counts, changes, _ = objects(bmpq("--json", *words))[:3] + [None]
+        same([name for name, n in changes.items() if n == 1], line["changes"], "policy-changes")
+        same((counts[line["what"]], line["uncompared"]), (1, []), "policy-counts")
+        return line["what"], line["changes"], bmpq(*words).decode().splitlines()[1]
+
+
+@test
+def a_policy_is_compared_by_whole_lines():
+    """Each attribute by itself, changed, added or taken: what is seen of it by hand."""
+    other_large = attribute(0xE0, 32, bytes.fromhex("0000fbf40000000100000002" "0000fbf40000000300000005"))
+    wide = bytes([0xF0, 32, 0, 24]) + LARGE[3:]
+    for before, after, what, changes in (
+            (ALL, ALL, "kept", []), (b"", b"", "kept", []),
+            (b"", LARGE, "changed", ["other", "large_communities"]), (LARGE, b"", "changed", ["other", "large_communities"]),
+            (LARGE, other_large, "changed", ["large_communities"]), (CUSTOMER, CUSTOMER[:-1] + b"\x00", "changed", ["otc"]),
+            (ORIGINATOR, ORIGINATOR[:-1] + b"\x08", "changed", ["originator"]), (CLUSTERS, attribute(0x80, 10, CLUSTERS[3:7]), "changed", ["clusters"]),
+            (AIGP, AIGP[:-1] + b"\x01", "changed", ["aigp"]), (IPV6, IPV6[:-1] + b"\x65", "changed", ["raw"]),
+            (EXTENDED, attribute(0xC0, 16, EXTENDED[3:19]), "changed", ["ext_communities"]),
+            # The Partial bit alone; and what says only that the length has two octets.
+            (LARGE, b"\xc0" + LARGE[1:], "changed", ["flags"]), (LARGE, wide, "kept", [])):
+        found = policy_of(before, after)
+        same(found[:2], (what, changes), (before, after))
+    line = policy_of(LARGE, other_large + CUSTOMER)[2]
+    same(line, f"policy 0 {KEY} 10.0.0.0/8 changed next=192.0.2.1 origin=igp path=64500 med=- pref=- atomic=no agg=- comm=- other=32>32,35 "
+         "flags=e0>e0,c0 large=64500:1:2,64500:3:4>64500:1:2,64500:3:5 ext=- otc=->64501 aigp=- originator=- clusters=- raw=-", "a line")
+
+
+def printed(station, *words, polls):
+    done = run([harness.CONTRIB / "bmpq", "--port", station.ask_port, "--interval", 0.01, "--polls", polls, *words])
+    same((done.returncode, done.stderr), (0, b""), words)
+    return done.stdout.decode().splitlines()
+
+
+@test
+def whole_lines_are_followed():
+    """First the rows, and then what changes: as the queries tell them."""
+    route = "next=192.0.2.1 origin=igp path=64500 med=- pref=- atomic=no agg=- comm=-"
+    nothing = "flags=- large=- ext=- otc=- aigp=- originator=- clusters=- raw=-"
+    with Serving(1, 2) as station:
+        link = station.feed(0, initiation(b"r1") + peer_up(PEER) + announced("10.1.0.0/16") + announced("10.0.0.0/8", CUSTOMER))
+        station.wait(0, 4)
+        row = f"10.0.0.0/8 {route} other=35", "flags=c0 large=- ext=- otc=64501 aigp=- originator=- clusters=- raw=-"
+        rows = [f"route 0 {KEY} adj-in-pre {row[0]} {row[1]}", f"route 0 {KEY} adj-in-pre 10.1.0.0/16 {route} other=- {nothing}"]
+        for router in "0", "r1":
+            same(printed(station, "--full", "--rows", "--follow", router, polls=2), ["steps 0 4", *rows, "end 3"], router)
+            same(printed(station, "--full", "--rows", "--follow", router, "10.0.0.0/8", polls=1), ["steps 0 4", rows[0], "end 2"], "of a prefix")
+            same(printed(station, "--rows", "--follow", router, "10.0.0.0/8", polls=1), ["steps 0 4", f"route 0 {KEY} adj-in-pre {row[0]}", "end 2"], "today's")
+        changes = [f"change 0 2 announce {KEY} adj-in-pre 10.1.0.0/16 {route} other=- seen=- told=- {nothing}",
+                   f"change 0 3 announce {KEY} adj-in-pre {row[0]} seen=- told=- {row[1]}"]
+        same(printed(station, "--full", "--from", 2, "--follow", 0, polls=1), changes, "changes alone")
+        same(printed(station, "--full", "--from", 0, "--follow", "r1", "10.0.0.0/8", polls=1),
+             ["change 0 0 opened seen=- told=-", f"change 0 1 up {KEY} seen=- told=-", changes[1]], "of a prefix")
+        told = objects(bmpq("--json", "--port", station.ask_port, "--polls", 1, "--full", "--rows", "--follow", "r1"))
+        same([(line["line"], line["revision"]) for line in told], [("steps", 5), ("route", 5), ("route", 5), ("end", 5)], "JSON")
+        link.close()
+    for words in (("--full", "table"), ("--rows", "table"), ("--rows", "--from", 3, "--follow", "r1")):
+        bmpq(*words, status=2)

@@ -40,8 +40,11 @@ def routers_by_their_names():
                               (("table", "router", "r1", "other", "35"), ["table router 0 other 35"]),
                               (("--wait-complete", "table", "router", "r1"), ["marks router 0", "table router 0"]),
                               (("--wait-complete", "steps", "table", "router", "r1"), ["marks router 0", "steps table router 0"]),
-                              (("--policy", KEY, "router", "r1"), [f"marks router 0 peer {KEY}", f"table router 0 peer {KEY}", f"marks router 0 peer {KEY}"]),
-                              (("--sql", "--station", "s", "table", "router", "r1"), ["routers", "peers", "marks", "table router 0"])):
+                              (("--policy", KEY, "router", "r1"), [f"marks router 0 peer {KEY}", f"full table router 0 peer {KEY}", f"marks router 0 peer {KEY}"]),
+                              (("--sql", "--station", "s", "table", "router", "r1"), ["routers", "peers", "marks", "full table router 0"]),
+                              (("full", "table", "router", "r1"), ["full table router 0"]), (("full changes r1 0",), ["full changes 0 0"]),
+                              (("steps full table router r1",), ["steps full table router 0"]),
+                              (("--wait-complete", "steps", "full", "table", "router", "r1"), ["marks router 0", "steps full table router 0"])):
             queries.clear()
             connections = stub.connections
             bmpq("--port", stub.port, *words)

@@ -19,9 +19,9 @@ def recorded(stream):
     return ("--file", stream, "--program", harness.PROGRAM)
 
 
-def table_of(stream, *options):
+def table_of(stream, *options, query="table"):
     """The words of each route of a stream: key, view, prefix, and the attributes by name; read here by other means."""
-    for line in replay(stream, "table", *options).decode().splitlines():
+    for line in replay(stream, query, *options).decode().splitlines():
         if line.startswith("route "):
             _, _, key, view, prefix, *words = line.split(" ")
             yield line, key, view, prefix, dict(word.split("=", 1) for word in words)
@@ -119,7 +119,7 @@ def the_station_filters():
             same(found, [b"at 7", *kept, b"end %d" % len(kept)], words)
         queries.clear()
         bmpq("--port", stub.port, "--sql", "--station", "s", *one)
-        same(queries[-1], "table community 64500:1", "--sql")
+        same(queries[-1], "full table community 64500:1", "--sql")
 
 
 # Origin validation.
@@ -289,18 +289,16 @@ def files_of_payloads():
 
 
 def compared(stream, key):
-    """What became of each route of a peer, by other means, where both tables are complete. Of what stands in `other=` the values
-    aren't known."""
+    """What became of each route of a peer, by other means, where both tables are complete. The flags of these streams are alike."""
     sides = {"adj-in-pre": {}, "adj-in-post": {}}
-    for _, found, view, prefix, attributes in table_of(stream):
+    for _, found, view, prefix, attributes in table_of(stream, query="full table"):
         if found == key and view in sides:
             sides[view][prefix, attributes.pop("id", None)] = attributes
     before, after = sides.values()
     wanted = {}
     for place in before.keys() | after.keys():
         if place in before and place in after:
-            alike = "kept" if before[place]["other"] == "-" else "uncompared"
-            wanted[place] = alike if before[place] == after[place] else "changed"
+            wanted[place] = "kept" if before[place] == after[place] else "changed"
         else:
             wanted[place] = "dropped" if place in before else "added"
     return wanted
@@ -324,12 +322,14 @@ def what_a_policy_does():
             same(counts, {kind: str(list(wanted.values()).count(kind)) for kind in counts}, f"{stream.name}: {key}")
             same(lines[-1], f"end {len(wanted) + 2}", key)
             seen |= set(wanted.values())
-    same(seen >= {"kept", "uncompared", "changed", "dropped"}, True, f"what was seen: {seen}")
+    same(seen >= {"kept", "changed", "dropped"}, True, f"what was seen: {seen}")
     stream = EXAMPLES / "frr10-sessions-come-and-go.bmp"
     lines = bmpq("--policy", KEY, "--only", "changed", *recorded(stream), "router 0", "family 4").decode().splitlines()
     same(lines[1], f"policy 0 {KEY} 198.51.100.0/24 changed next=10.0.0.11 origin=igp path=65001_65011_64500_64501 med=50>77 pref=- "
-         "atomic=no agg=- comm=65011:1,65011:2,65535:65281>65001:999,65011:1,65011:2,65535:65281 other=32", "beside each other")
-    same(lines[-2], "policy-changes next=0 origin=0 path=1 med=1 pref=0 atomic=0 agg=0 comm=1 other=0", "attributes")
+         "atomic=no agg=- comm=65011:1,65011:2,65535:65281>65001:999,65011:1,65011:2,65535:65281 other=32 "
+         "flags=c0 large=65011:1:2,65011:4294967295:7 ext=- otc=- aigp=- originator=- clusters=- raw=-", "beside each other")
+    same(lines[-2], "policy-changes next=0 origin=0 path=1 med=1 pref=0 atomic=0 agg=0 comm=1 other=0 flags=0 large=0 ext=0 otc=0 aigp=0 "
+         "originator=0 clusters=0 raw=0", "attributes")
     [first, *_] = [json.loads(line) for line in bmpq("--json", "--policy", KEY, "--only", "changed", *recorded(stream)).splitlines()]
     same((first["prefix"], first["changes"], first["before"]["med"], first["after"]["med"], first["revision"]),
          ("198.51.100.0/24", ["med", "comm"], 50, 77, 565), "JSON")
@@ -356,7 +356,7 @@ def a_policy_of_paths_with_identifiers():
                                 (up, (row + b" id=7", other + b" id=9", after), ["7 kept", "9 dropped"]),
                                 (up[:1], (row + b" id=7", other + b" id=9", after), ["7 kept", "9 unknown"]),
                                 (up, (after,), ["- added"]), (up[1:], (after,), ["- unknown"]), ((), (row, after), ["- kept"]), (up, (), [])):
-        said = {"marks": reply(*(mark.replace(b" k ", b" " + key + b" ") for mark in marks)), "table": reply(*rows)}
+        said = {"marks": reply(*(mark.replace(b" k ", b" " + key + b" ") for mark in marks)), "full": reply(*rows)}
         with Stub(lambda query: said[query.split(" ")[0]]) as stub:
             lines = [json.loads(line) for line in bmpq("--json", "--port", stub.port, "--policy", key.decode()).splitlines()]
             found = sorted(f"{'-' if line['id'] is None else line['id']} {line['what']}" for line in lines if line["line"] == "policy")
@@ -364,8 +364,8 @@ def a_policy_of_paths_with_identifiers():
 
 
 @test
-def what_a_policy_does_to_attributes_that_are_not_read():
-    """Of attributes in `other=` the codes alone are known: nothing is said of their values but that they aren't compared."""
+def what_a_policy_does_by_a_station_without_whole_lines():
+    """Of attributes in `other=` it tells the codes alone: nothing is said of their values but that they aren't compared."""
     marks = reply(*(b"mark 0 0-0000000000000000-192.0.2.1 %s 4 complete" % view for view in (b"adj-in-pre", b"adj-in-post")))
     key = b"0-0000000000000000-192.0.2.1"
     row = ROUTE % (key, b"10.0.0.0/8", b"64500")
@@ -375,12 +375,14 @@ def what_a_policy_does_to_attributes_that_are_not_read():
             (b"32", b"-", b"-", "changed", ["other"], []), (b"32", b"32", b"5", "changed", ["med"], [32]), (b"-", b"-", b"5", "changed", ["med"], [])):
         first, second = (row.replace(b"other=-", b"other=" + other) for other in (before, after))
         second = second.replace(b"adj-in-pre", b"adj-in-post").replace(b"med=-", b"med=" + med)
-        with Stub({"marks peer " + key.decode(): marks, "table peer " + key.decode(): reply(first, second)}.get) as stub:
+        said = {"marks": marks, "full": b"error query\n", "table": reply(first, second)}
+        with Stub(lambda query: said[query.split(" ")[0]]) as stub:
             words = ("--port", stub.port, "--policy", key.decode())
             [line, counts, told] = [json.loads(line) for line in bmpq("--json", *words).splitlines()]
             same((line["what"], line["changes"], line["uncompared"]), (what, changes, codes), f"{before} {after} {med}")
             same({kind: counts[kind] for kind in counts if counts[kind] == 1}, {what: 1}, "counts")
             same([name for name in told if told[name] == 1], changes, "changes")
+            same(list(told)[2:], ["next", "origin", "path", "med", "pref", "atomic", "agg", "comm", "other"], "fields that were compared")
             same(bmpq(*words, "--only", what).splitlines()[1].split(b" ")[4], what.encode(), "text")
             same(len(bmpq(*words, "--only", "dropped").splitlines()), 4, "others")
 
@@ -414,7 +416,7 @@ def bmpq_of_a_station_that_fails():
               "prefixes out of order": (reply(row, row.replace(b"10.0.0.0/8", b"9.0.0.0/8")), None),
               "an endless line": (b"at 7\n" + b"x" * (2 << 20), 1), "nothing": ([b""], 3), "control": (reply(row.replace(b"comm=-", b"comm=\t")), 1)}
     said = b""
-    with Stub(lambda query: said if query.startswith("table") else reply()) as stub, file_of(HEAD + "AS1,10.0.0.0/8,8\n") as path:
+    with Stub(lambda query: said if "table" in query else reply()) as stub, file_of(HEAD + "AS1,10.0.0.0/8,8\n") as path:
         for name, (said, status) in faults.items():
             for words in (("--longer-than", 3, "table"), ("--vrps", path, "table"), ("--policy", key.decode()), ("--sql", "--station", "a")):
                 done = run([CONTRIB / "bmpq", "--port", stub.port, "--timeout", 5, *words])
@@ -437,13 +439,15 @@ def a_stream_for_psql():
     copied = re.search(r'^COPY "bmp_route:fra1:new" \((.*?)\) FROM stdin;\n(.*?)^\\\.$', text, re.M | re.S)
     names = copied[1].split(", ")
     rows = [dict(zip(names, line.split("\t"))) for line in copied[2].splitlines()]
-    wanted = list(table_of(stream))
+    wanted = list(table_of(stream, query="full table"))
     same(len(rows), len(wanted), "rows")
     for row, (_, key, view, prefix, attributes) in zip(rows, wanted):
         numbers = "{" + ",".join(re.findall(r"\d+", attributes["path"])) + "}"
         same((row["station"], row["revision"], row["peer"], row["view"], row["prefix"], row["path_text"], row["path"]),
              ("fra1", "565", key, view, prefix, attributes["path"], numbers), prefix)
         same((row["communities"], row["med"].replace("\\N", "-")), ("{" + attributes["comm"].strip("-") + "}", attributes["med"]), prefix)
+        same((row["large_communities"], row["ext_communities"], row["raw"]),
+             tuple("{" + attributes[name].strip("-") + "}" for name in ("large", "ext", "raw")), prefix)
     with Serving(1, 2) as station:
         link = station.feed(0, initiation(HOSTILE + b"'; DROP TABLE bmp_route; --\\.\n\\.\n", HOSTILE) + loc_rib_up(HOSTILE))
         station.wait(0, 2)
