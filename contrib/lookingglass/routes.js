@@ -5,6 +5,22 @@ import {addressOf, distinguisherOf} from './names.js';
 
 const SHOWN = 200; // prefixes at once
 const ATTRIBUTES = ['next', 'origin', 'path', 'med', 'pref', 'atomic', 'agg', 'comm', 'other'];
+// What a whole line of the station has beside these, but its flags.
+const FURTHER = ['large_communities', 'ext_communities', 'otc', 'aigp', 'originator', 'clusters', 'raw'];
+// Of an attribute's flags those that say something of it: Optional, Transitive, Partial (RFC 4271, section 4.3).
+const TELLING = 0xe0, PARTIAL = 0x20;
+const OCTETS = 64; // of an attribute that nobody reads
+const TYPES = {2: 'AS path', 9: 'originator', 10: 'cluster list', 16: 'extended communities', 25: 'IPv6 extended communities', 26: 'AIGP',
+  32: 'large communities', 35: 'only to customer'};
+
+const typeOf = code => TYPES[code] || 'attribute ' + code;
+const isWhole = route => route.raw !== undefined;
+const areWhole = (a, b) => Boolean(a && b && isWhole(a) && isWhole(b));
+const same = (a, b) => JSON.stringify(a) === JSON.stringify(b);
+const communitiesOf = route => [...route.comm, ...route.large_communities || [], ...route.ext_communities || []];
+// The attributes that both routes have, with other flags.
+const otherFlags = (a, b) => Object.keys(a.flags).filter(code => code in b.flags
+  && (parseInt(a.flags[code], 16) ^ parseInt(b.flags[code], 16)) & TELLING);
 
 function pathOf(route, other) {
   if (route.path === null) return h('span', {class: 'path soft'}, 'no AS path');
@@ -15,20 +31,40 @@ function pathOf(route, other) {
     const [left, right] = {set: '{}', 'confed-sequence': '()', 'confed-set': '[]'}[kind];
     return [left, numbers.map((n, i) => [i ? ',' : '', look(String(n), 'AS' + n)]), right];
   });
-  const differs = other && JSON.stringify(other.path) !== JSON.stringify(route.path);
+  const differs = other && !same(other.path, route.path);
   const spaced = pieces.map((piece, i) => [i ? ' ' : '', piece]);
   return h('span', {class: 'path'}, h('span', {class: differs ? 'changed' : null}, spaced));
 }
 
-function fact(name, route, other, text) {
-  const differs = other && JSON.stringify(other[name]) !== JSON.stringify(route[name]);
+function fact(differs, text) {
   return h('b', {class: differs ? 'changed' : null}, text);
+}
+
+// What a whole line tells: names, texts, and whether each differs from what `other` has, where that is whole too.
+function* furtherOf(route, other) {
+  const is = (r, name) => r && r[name] !== null && r[name].length !== 0;
+  const show = {otc: asn => 'AS' + asn, clusters: list => list.join(', ')};
+  for (const [label, name] of [['originator', 'originator'], ['clusters', 'clusters'], ['only to customer', 'otc'], ['AIGP', 'aigp']]) {
+    if (!is(route, name) && !is(other, name)) continue;
+    yield [label, is(route, name) ? (show[name] || String)(route[name]) : 'none', other && !same(other[name], route[name])];
+  }
+  for (const code of new Set([...Object.keys(route.raw), ...Object.keys(other ? other.raw : {})])) {
+    const value = route.raw[code];
+    const text = value === undefined ? 'not so' : value.length <= 2 * OCTETS ? value || 'empty' : `${value.slice(0, 2 * OCTETS)}… (${value.length / 2} octets)`;
+    yield [typeOf(code), text, other && other.raw[code] !== value];
+  }
+  for (const code of Object.keys(route.flags)) {
+    const differs = other && otherFlags(route, other).includes(code);
+    if (differs) yield ['flags of ' + typeOf(code), `${route.flags[code]} (before ${other.flags[code]})`, true];
+    else if (parseInt(route.flags[code], 16) & PARTIAL) yield [typeOf(code), 'partial', false];
+  }
 }
 
 // A route; where `other` is there, what differs from it is marked.
 export function routeOf(route, other) {
   const facts = [];
-  const add = (label, name, text) => facts.push(facts.length ? ', ' : '', label + ' ', fact(name, route, other, text));
+  const put = (label, differs, text) => facts.push(facts.length ? ', ' : '', label + ' ', fact(differs, text));
+  const add = (label, name, text) => put(label, other && !same(other[name], route[name]), text);
   if (route.next !== null) add('next hop', 'next', route.next.split(',').map(addressOf).join(', '));
   if (route.med !== null || other && other.med !== null) add('MED', 'med', route.med === null ? 'none' : String(route.med));
   if (route.pref !== null || other && other.pref !== null) {
@@ -37,25 +73,30 @@ export function routeOf(route, other) {
   if (route.origin !== null) add('origin', 'origin', route.origin);
   if (route.agg !== null) add('aggregator', 'agg', `AS${route.agg.asn} ${route.agg.id}`);
   if (route.atomic || other && other.atomic) add('atomic aggregate', 'atomic', route.atomic ? 'yes' : 'no');
-  if (route.other.length || other && other.other.length) add('other attributes', 'other', route.other.join(', ') || 'none');
+  if (isWhole(route)) {
+    for (const [label, text, differs] of furtherOf(route, areWhole(route, other) ? other : null)) put(label, differs, text);
+  } else if (route.other.length || other && other.other.length) add('other attributes', 'other', route.other.join(', ') || 'none');
   if (route.id !== null) facts.push(', path identifier ', h('b', {}, String(route.id)));
-  const before = other ? new Set(other.comm) : null;
-  const communities = route.comm.map(c => h('span', {class: 'comm' + (before && !before.has(c) ? ' changed' : '')}, c));
-  const gone = other ? other.comm.filter(c => !route.comm.includes(c)) : [];
+  const before = other ? new Set(communitiesOf(other)) : null, has = communitiesOf(route);
+  const community = c => h('a', {class: 'comm' + (before && !before.has(c) ? ' changed' : ''), href: '/?' + new URLSearchParams({q: c})}, c);
+  const gone = other ? communitiesOf(other).filter(c => !has.includes(c)) : [];
   return h('div', {class: 'route'}, pathOf(route, other), h('span', {class: 'facts'}, facts),
-    communities.length ? h('span', {}, communities) : null,
+    has.length ? h('span', {}, has.map(community)) : null,
     gone.length ? h('span', {class: 'facts'}, 'without ', gone.map(c => h('span', {class: 'comm changed'}, h('s', {}, c)))) : null);
 }
 
-// The type codes of the attributes that both have: the station tells nothing else of these, so they can't be compared.
-const uncompared = (a, b) => a.other.filter(code => b.other.includes(code));
+// The type codes of the attributes that both have and of which nothing else is told: by a station that has no whole lines.
+const uncompared = (a, b) => areWhole(a, b) ? [] : a.other.filter(code => b.other.includes(code));
 
 function uncomparedText(a, b) {
   const codes = a && b ? uncompared(a, b) : [];
   return codes.length ? h('span', {class: 'facts'}, `other attributes ${codes.join(', ')}: not compared`) : null;
 }
 
-const sameRoute = (a, b) => ATTRIBUTES.every(name => JSON.stringify(a[name]) === JSON.stringify(b[name]));
+function sameRoute(a, b) {
+  const names = areWhole(a, b) ? [...ATTRIBUTES, ...FURTHER] : ATTRIBUTES;
+  return names.every(name => same(a[name], b[name])) && !(areWhole(a, b) && otherFlags(a, b).length);
+}
 
 // The routes by router, by prefix and VRF, by peer and path identifier.
 function grouped(rows) {

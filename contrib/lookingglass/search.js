@@ -5,11 +5,28 @@ import {Names} from './names.js';
 import {routersPage, stateOf} from './routers.js';
 import {Answer, completeness} from './routes.js';
 
+// The path attributes by which routes are asked for, each with what a title says of it.
+const BY_ATTRIBUTE = {
+  through: numbers => 'through ' + numbers.split(',').map(n => 'AS' + n).join(' '),
+  community: community => 'with the community ' + community,
+  other: type => 'with an attribute of type ' + type,
+};
+
+const numbersOf = text => text.trim().replace(/as\s*/gi, '').split(/[\s,]+/).map(n => n.replace(/^0+(?=.)/, '')).join(',');
+
 // What was typed: the parameters of the question, and its name.
 function asked(q, kind) {
-  if (/^(as\s*)?[0-9]+$/i.test(q)) {
-    const origin = q.replace(/^as\s*/i, '').replace(/^0+(?=.)/, '');
+  if (/^([0-9]+:[0-9]+(:[0-9]+)?|r[to]:[0-9.]+:[0-9]+|[0-9a-f]{16})$/i.test(q)) {
+    const community = q.toLowerCase();
+    return {parameters: {community}, title: 'Routes ' + BY_ATTRIBUTE.community(community)};
+  }
+  if (/^(as\s*)?[0-9]+$/i.test(q) && kind !== 'through') {
+    const origin = numbersOf(q);
     return {parameters: {origin}, title: `Routes that AS${origin} originates`};
+  }
+  if (/^(as\s*)?[0-9]+([\s,]+(as\s*)?[0-9]+){0,3}$/i.test(q)) {
+    const through = numbersOf(q);
+    return {parameters: {through}, title: 'Routes ' + BY_ATTRIBUTE.through(through)};
   }
   if (q.includes('/')) {
     const prefix = q.toLowerCase();
@@ -22,33 +39,50 @@ function asked(q, kind) {
   return null;
 }
 
+// The attributes that are asked for beside what was typed; their fields are filled in.
+function attributesOf(parameters) {
+  const found = {};
+  for (const name of Object.keys(BY_ATTRIBUTE)) {
+    const text = (parameters.get(name) || '').trim();
+    $('q-' + name).value = text;
+    if (text) found[name] = name === 'through' ? numbersOf(text) : text.toLowerCase();
+  }
+  $('only').open = Object.keys(found).length > 0;
+  return found;
+}
+
 export async function searchPage(parameters) {
   $('search').hidden = false;
   const q = (parameters.get('q') || '').trim();
   $('q').value = q;
-  if (!q) {
+  const attributes = attributesOf(parameters);
+  const isByAttributes = Object.keys(attributes).length > 0;
+  if (!q && !isByAttributes) {
     $('q').focus();
     const names = await Names.ask();
     $('answer').replaceChildren(routerLinks(names));
     return;
   }
-  document.title = `${q} – Looking glass`;
+  document.title = `${q || 'Routes'} – Looking glass`;
   $('status').textContent = 'Asking the station';
   const names = await Names.ask();
-  const named = [...names.routers.values()].filter(row => row.name && row.name.toLowerCase().includes(q.toLowerCase()));
-  const question = asked(q, parameters.get('with'));
+  const named = q ? [...names.routers.values()].filter(row => row.name && row.name.toLowerCase().includes(q.toLowerCase())) : [];
+  const question = q ? asked(q, parameters.get('with')) : {parameters: {}, title: 'Routes'};
   if (!question) {
     $('status').textContent = '';
     if (named.length) return routersPage(new URLSearchParams(named.map(row => ['router', row.router])), `Routers named ${q}`);
-    const why = 'That is no prefix, no address and no AS number, and no connected router has such a name.';
+    const why = 'That is no prefix, no address, no AS number and no community, and no connected router has such a name.';
     $('answer').replaceChildren(h('h1', {}, q), h('p', {class: 'note'}, why), routerLinks(names));
     return;
   }
   const chosen = ['router', 'peer', 'view'].filter(name => parameters.has(name));
   const only = Object.fromEntries(chosen.map(name => [name, parameters.get(name)]));
-  const answer = await api('/api/routes', {...question.parameters, ...only});
+  const wanted = {...question.parameters, ...attributes};
+  const answer = await api('/api/routes', {...wanted, ...only});
   const many = answer.rows.length;
-  const isWhole = !answer.truncated && !chosen.includes('peer') && !chosen.includes('view') && !question.parameters.origin;
+  const isPart = Boolean(wanted.origin || wanted.through || wanted.community || wanted.other);
+  const isWhole = !answer.truncated && !chosen.includes('peer') && !chosen.includes('view') && !isPart;
+  const title = [question.title, ...Object.keys(attributes).filter(name => !question.parameters[name]).map(name => BY_ATTRIBUTE[name](attributes[name]))];
   $('status').textContent = many ? plural(many, 'route') : 'No route';
   const links = [];
   if (question.prefix && question.parameters.prefix) {
@@ -56,13 +90,14 @@ export async function searchPage(parameters) {
       link('Watch its changes', '/live', {prefix: question.prefix}));
   }
   if (question.parameters.within) links.push(look('This prefix alone', question.prefix));
+  if (question.parameters.origin) links.push(link('Routes through it', '/', {q, with: 'through'}));
   if (named.length) links.push(link(`Routers named ${q}`, '/routers', named.map(row => ['router', row.router])));
   $('answer').replaceChildren(...[
-    h('h1', {}, question.title),
+    h('h1', {}, title.join(', ')),
     told(answer, many ? `: ${plural(many, 'route')}` : ''),
     links.length ? h('p', {class: 'more'}, links) : null,
-    many && question.parameters.origin ? h('p', {class: 'told'},
-      'A route whose path ends in another AS after policy isn’t here: follow its prefix.') : null,
+    many && isPart ? h('p', {class: 'told'},
+      'A route that has other attributes after policy, or before it, may not be here: follow its prefix.') : null,
     answer.truncated ? h('p', {class: 'note'},
       `There are more: only the first ${plural(many, 'route')} were read. Ask for a longer prefix.`) : null,
     many ? null : h('p', {class: 'note'}, `No table has such a route${answer.counts && !answer.counts.waiting ? '' : ' so far'}.`),

@@ -34,11 +34,15 @@ def lines_of(query, stream=STREAM):
 @test
 def a_looking_glass_answers_what_the_station_does():
     key = "0-0000000000000000-10.0.0.11"
-    questions = [("routes?prefix=203.0.113.0/24", "prefix 203.0.113.0/24"), ("routes?address=198.51.100.7", "match 198.51.100.7"),
-                 ("routes?within=2001:DB8::/32&view=loc", "within 2001:db8::/32 view loc"), ("routes?origin=64501", "origin 64501"),
+    questions = [("routes?prefix=203.0.113.0/24", "full prefix 203.0.113.0/24"), ("routes?address=198.51.100.7", "full match 198.51.100.7"),
+                 ("routes?within=2001:DB8::/32&view=loc", "full within 2001:db8::/32 view loc"), ("routes?origin=64501", "full origin 64501"),
                  (f"routes?origin=64501&router=0&peer={key}&view=adj-in-pre&family=4",
-                  f"origin 64501 router 0 peer {key} view adj-in-pre family 4"),
-                 ("routes?prefix=192.0.2.77/32", "prefix 192.0.2.77/32"), ("routes?origin=64501&router=5", "origin 64501 router 5"),
+                  f"full origin 64501 router 0 peer {key} view adj-in-pre family 4"),
+                 ("routes?prefix=192.0.2.77/32", "full prefix 192.0.2.77/32"), ("routes?origin=64501&router=5", "full origin 64501 router 5"),
+                 ("routes?through=65011,64500", "full table through 65011,64500"), ("routes?other=32&view=loc", "full table view loc other 32"),
+                 ("routes?community=65011:1:2&router=0", "full table router 0 community 65011:1:2"),
+                 ("routes?within=192.0.0.0/8&community=rt:65011:5&through=65011&other=16",
+                  "full within 192.0.0.0/8 family 4 through 65011 community rt:65011:5 other 16"),
                  ("routers", "routers"), ("peers", "peers"), (f"peers?router=0&peer={key}", f"peers router 0 peer {key}"),
                  ("marks?view=loc", "marks view loc")]
     with Serving(1, 2) as station, LookingGlass(station.ask_port, "--connections", 1) as glass:
@@ -50,8 +54,11 @@ def a_looking_glass_answers_what_the_station_does():
             same([text_of(row) for row in answer["rows"]], lines_of(query), target)
             same((answer["revision"], answer["truncated"]), (565, False), target)
         same(asked(glass, "/api/count?view=adj-in-post")["count"], 30, "count")
+        rows = asked(glass, "/api/routes?community=65011:1:2")["rows"]
+        same((len(rows) > 0, {tuple(row["large_communities"]) for row in rows}), (True, {("65011:1:2", "65011:4294967295:7")}), "large communities")
+        same(asked(glass, "/api/count?community=65011:1:2")["count"], len(rows), "count with a community")
         answer = asked(glass, "/api/changes?router=0&from=168&prefix=203.0.113.0/24")
-        wanted = lines_of("changes 0 168 203.0.113.0/24")
+        wanted = lines_of("full changes 0 168 203.0.113.0/24")
         same([f"steps 0 {answer['steps']}"] + [text_of(row) for row in answer["rows"]], wanted, "changes")
         same(asked(glass, "/api/changes?router=0&from=258&prefix=203.0.113.0/24")["rows"], [], "no change since")
         told = asked(glass, "/api/routes?prefix=203.0.113.0/24")
@@ -72,14 +79,14 @@ def a_router_by_its_name():
     def say(query):
         queries.append(query)
         return reply(*routers, b"router 6 idle") if query == "routers" else reply(b"count 3") if query.startswith("count") else \
-            reply(b"steps 3 7") if query.startswith("changes") else reply()
+            reply(b"steps 3 7") if query.startswith("full changes") else reply()
 
     with Stub(say) as stub, LookingGlass(stub.port, "--connections", 1) as glass:
         for name, lane in (("r1", 0), ("a b\u00e9", 3), ("a%20b%C3%A9", 3)):
             for target, wanted in (("routes?prefix=10.0.0.0/8&view=loc", [f"marks router {lane} view loc family 4",
-                                    f"prefix 10.0.0.0/8 router {lane} view loc family 4", f"marks router {lane} view loc family 4"]),
+                                    f"full prefix 10.0.0.0/8 router {lane} view loc family 4", f"marks router {lane} view loc family 4"]),
                                    ("count?family=6", [f"count router {lane} family 6"]), ("peers", [f"peers router {lane}"]),
-                                   ("marks", [f"marks router {lane}"]), ("changes?prefix=10.0.0.0/8&from=5", [f"changes {lane} 5 10.0.0.0/8"])):
+                                   ("marks", [f"marks router {lane}"]), ("changes?prefix=10.0.0.0/8&from=5", [f"full changes {lane} 5 10.0.0.0/8"])):
                 queries.clear()
                 sign = "&" if "?" in target else "?"
                 asked(glass, f"/api/{target}{sign}{urllib.parse.urlencode({'router': name})}")
@@ -107,6 +114,9 @@ def a_looking_glass_refuses_with_a_reason():
                        "routes?prefix=10.0.0.0/8&view=LOC", "routes?prefix=10.0.0.0/8&family=6", "routes?prefix=10.0.0.0/8&peer=x",
                        "routes?prefix=10.0.0.0/8&router=01", "routes?%ff=1", "routes?color=red", "routers?router=0", "peers?view=loc",
                        "changes?router=0", "changes?prefix=10.0.0.0/8", "changes?router=0&prefix=10.0.0.0/8&from=18446744073709551616",
+                       "routes?view=loc", "routes?through=", "routes?through=1,2,3,4,5", "routes?through=AS1", "routes?through=1,4294967296",
+                       "routes?community=1", "routes?community=1:65536", "routes?community=rt:1", "routes?community=no-export", "routes?other=256",
+                       "routes?other=-1", "routes?prefix=10.0.0.0/8&community=1:2&community=1:2", "peers?community=1:2", "marks?through=1",
                        "count?from=1", "routes?prefix=" + long[:9000], "routes?" + "&".join(f"a{n}=1" for n in range(99))):
             answer = asked(glass, f"/api/{target}", 400)
             same((list(answer), answer["error"] != ""), (["error"], True), target[:80])
@@ -161,6 +171,28 @@ def a_station_that_fails_is_no_answer():
     with closed_port() as port, LookingGlass(port) as glass:
         asked(glass, "/api/routes?prefix=10.0.0.0/8", 503)
         same(glass.get("/")[0], 200, "the page without a station")
+
+
+@test
+def a_station_without_whole_lines():
+    """It is asked for the lines that it has; a router that isn't there is no such fault."""
+    queries = []
+
+    def say(query):
+        queries.append(query)
+        return b"error query\n" if query.startswith("full ") else reply(b"steps 0 7") if query.startswith("changes") else \
+            reply(ROW % b"10.0.0.0/8") if query.startswith("prefix") else reply()
+
+    with Stub(say) as stub, LookingGlass(stub.port, "--connections", 1) as glass:
+        for target, query in (("routes?prefix=10.0.0.0/8", "prefix 10.0.0.0/8 family 4"), ("changes?router=0&prefix=10.0.0.0/8&from=5", "changes 0 5 10.0.0.0/8")):
+            queries.clear()
+            answer = asked(glass, f"/api/{target}")
+            same([one for one in queries if not one.startswith("marks")], ["full " + query, query], target)
+        queries.clear()
+        asked(glass, "/api/routes?prefix=10.0.0.0/8&router=nobody", 400)
+        same(queries, ["routers"], "no router of this name")
+        [row] = asked(glass, "/api/routes?prefix=10.0.0.0/8")["rows"]
+        same("raw" in row, False, "a row")
 
 
 @test
@@ -237,6 +269,18 @@ def fifty_visitors_at_once():
 
 # The page.
 
+# What whole lines have from `other=` on: nothing; a large community with the Partial bit; seven attributes.
+NOTHING = b" other=- flags=- large=- ext=- otc=- aigp=- originator=- clusters=- raw=-"
+LARGE = b" other=32 flags=e0 large=64500:1:2 ext=- otc=- aigp=- originator=- clusters=- raw=-"
+SEVEN = (b" other=9,10,16,25,26,32,35 flags=80,80,c0,c0,80,c0,c0 large=64500:1:2 ext=rt:64500:100 otc=64501 aigp=4294967296 originator=192.0.2.9"
+         b" clusters=192.0.2.10,192.0.2.11 raw=25:000220010db8")
+
+
+def word_of(query):
+    """The first word of a query, whether it is for whole lines or not."""
+    return query.removeprefix("full ").split(" ")[0]
+
+
 CHROMIUM = shutil.which("chromium")
 
 
@@ -272,7 +316,13 @@ def the_page_in_a_browser():
         for target, words in (
                 ("/?q=198.51.100.7", ("As of revision", "AS65011", "64500", "changed by policy", "table complete", "65001:999", "77", "Loc-RIB")),
                 ("/?q=203.0.113.0/24", ("{", "200", "}", "More specifics")),
-                ("/?q=AS64501", ("Routes that AS64501 originates", "198.51.100.0/24")),
+                ("/?q=AS64501", ("Routes that AS64501 originates", "198.51.100.0/24", "Routes through it")),
+                ("/?q=65011:1:2", ("Routes with the community 65011:1:2", "198.51.100.0/24", "65011:4294967295:7")),
+                ("/?q=AS65011+as64501", ("Routes through AS65011 AS64501", "198.51.100.0/24")),
+                ("/?q=AS64501&with=through", ("Routes through AS64501", "198.51.100.0/24")),
+                ("/?q=&other=16&through=&community=", ("Routes, with an attribute of type 16", "192.0.2.1/32", "rt:65011:5")),
+                ("/?q=198.51.100.0/24&community=65011:1&through=65011+64500",
+                 ("Routes of 198.51.100.0/24, through AS65011 AS64500, with the community 65011:1", "As of revision", "table complete")),
                 ("/?q=192.0.2.77/32", ("No table has such a route so far", "wait for their End-of-RIB")),
                 (f"/live?router={lane}&prefix=203.0.113.0/24&past=1", ("announced", "peer down", "Loc-RIB"))):
             text, _ = dom(glass, target)
@@ -290,10 +340,11 @@ def the_page_in_a_browser():
     for target, are_complete, wanted in (("/?q=10.0.0.0/8", True, "dropped by policy"), ("/?q=10.0.0.0/8", False, "not known"),
                                          ("/?q=AS64500", True, "not in this answer"), ("/?q=10.0.0.0/8&view=adj-in-pre", True, "not in this answer")):
         said["marks"] = reply(*(b"mark 0 %s %s 4 %s" % (key, view, state) for view, state in zip((b"adj-in-pre", b"adj-in-post"), tables[are_complete])))
-        with Stub(lambda query: said[query.split(" ")[0]]) as stub, LookingGlass(stub.port) as glass:
+        with Stub(lambda query: said[word_of(query)]) as stub, LookingGlass(stub.port) as glass:
             text, _ = dom(glass, target)
             same((wanted in text, "dropped by policy" in text), (True, wanted == "dropped by policy"), f"{target}: {text}")
-    # Attributes of which the code alone is known aren't compared, and the page says so; an IPv4 address in a next hop is shown as one.
+    # Of a station that has no whole lines attributes of which the code alone is known aren't compared, and the page says so; an IPv4
+    # address in a next hop is shown as one.
     before = ROW.replace(b"next=192.0.2.1", b"next=::ffff:c000:201,fe80::1") % b"2001:db8::/32"
     said["marks"] = reply(*(b"mark 0 %s %s 6 complete" % (key, view) for view in (b"adj-in-pre", b"adj-in-post")))
     for one, other, med, wanted, unwanted in (
@@ -304,16 +355,32 @@ def the_page_in_a_browser():
         first, second = (before.replace(b"other=-", b"other=" + codes) for codes in (one, other))
         second = second.replace(b"adj-in-pre", b"adj-in-post").replace(b"med=-", b"med=" + med)
         said["prefix"] = reply(first, second)
-        with Stub(lambda query: said[query.split(" ")[0]]) as stub, LookingGlass(stub.port) as glass:
+        with Stub(lambda query: b"error query\n" if query.startswith("full ") else said[word_of(query)]) as stub, LookingGlass(stub.port) as glass:
             text, _ = dom(glass, "/?q=2001:db8::/32")
             same(([word for word in (*wanted, "::ffff:192.0.2.1, fe80::1") if word not in text], [word for word in unwanted if word in text]),
                  ([], []), f"{one} {other}: {text}")
+    # Whole lines are compared attribute by attribute, and what a policy changed is marked.
+    for one, other, wanted, unwanted in (
+            (NOTHING, NOTHING, ("as before policy",), ("not compared", "changed by", "partial")),
+            (LARGE, LARGE, ("as before policy", "64500:1:2", "partial"), ("changed by",)),
+            (NOTHING, LARGE, ("changed by policy", "64500:1:2"), ("as before policy", "without")),
+            (LARGE, LARGE.replace(b"64500:1:2", b"64500:1:3"), ("changed by policy", "without", "64500:1:3"), ("as before policy",)),
+            (LARGE, LARGE.replace(b"flags=e0", b"flags=f0"), ("as before policy",), ("changed by",)),
+            (LARGE, LARGE.replace(b"flags=e0", b"flags=c0"), ("changed by policy", "flags of large communities", "c0 (before e0)"), ("as before policy",)),
+            (SEVEN, SEVEN.replace(b"otc=64501", b"otc=64502"),
+             ("changed by policy", "AS64502", "192.0.2.9", "192.0.2.10, 192.0.2.11", "4294967296", "rt:64500:100", "IPv6 extended communities"), ("as before",)),
+            (SEVEN, NOTHING, ("changed by policy", "only to customer", "none", "not so", "without"), ("as before",))):
+        first, second = before.replace(b" other=-", one), before.replace(b" other=-", other).replace(b"adj-in-pre", b"adj-in-post")
+        said["prefix"] = reply(first, second)
+        with Stub(lambda query: said[word_of(query)]) as stub, LookingGlass(stub.port) as glass:
+            text, _ = dom(glass, "/?q=2001:db8::/32")
+            same(([word for word in wanted if word not in text], [word for word in unwanted if word in text]), ([], []), f"{one} {other}: {text}")
     # Two connections of a name are told apart, and it is said; a name that one has leads to it.
     said["count"] = reply(b"count 0")
     live = b"router %d live peers=0 messages=1 bytes=1 orphans=0 unread=0 mirrored=0 passed=0 name=%s descr="
     said["routers"] = reply(live % (0, b"twice"), live % (1, b"once"), live % (2, b"twice"))
     note = "Routers 0 and 2 have the name twice"
-    with Stub(lambda query: said[query.split(" ")[0]] if not query.startswith("changes") else reply(b"steps 1 0")) as stub, \
+    with Stub(lambda query: said[word_of(query)] if "changes" not in query else reply(b"steps 1 0")) as stub, \
             LookingGlass(stub.port) as glass:
         for target, wanted, unwanted in (("/routers", (note, "twice (router 0)", "twice (router 2)", "once"), ("once (router",)),
                                          ("/routers?router=once", ("once",), (note, "(router 0)")),
@@ -332,9 +399,9 @@ def the_page_in_a_browser():
     def say(query):
         if query == "routers":
             return reply(b"router 0 idle")
-        if not query.startswith("changes"):
+        if not query.startswith("full changes"):
             return reply()
-        asked_from.append(query.split(" ")[2])
+        asked_from.append(query.split(" ")[3])
         turns = [reply(b"steps 0 100"), reply(b"steps 0 2000", b"missed 876"), reply(b"steps 0 50"), [b""]]
         return turns[min(len(asked_from), len(turns)) - 1]
 
