@@ -27,7 +27,8 @@ export async function api(path, parameters) {
   let reply, body;
   try {
     reply = await fetch(path + '?' + new URLSearchParams(parameters || {}), {signal: stop.signal});
-    body = await reply.json();
+    // A number of 64 bits would be rounded, and two that differ be taken as one: it is kept as a text.
+    body = JSON.parse((await reply.text()).replace(/("aigp": )([0-9]{16,})/g, '$1"$2"'));
   } catch (fault) {
     throw new Error('The looking glass doesn’t answer; so nothing is known of the routes.', {cause: fault});
   } finally {

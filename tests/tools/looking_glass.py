@@ -369,6 +369,8 @@ def the_page_in_a_browser():
             (LARGE, LARGE.replace(b"flags=e0", b"flags=c0"), ("changed by policy", "flags of large communities", "c0 (before e0)"), ("as before policy",)),
             (SEVEN, SEVEN.replace(b"otc=64501", b"otc=64502"),
              ("changed by policy", "AS64502", "192.0.2.9", "192.0.2.10, 192.0.2.11", "4294967296", "rt:64500:100", "IPv6 extended communities"), ("as before",)),
+            (SEVEN.replace(b"4294967296", b"18446744073709551615"), SEVEN.replace(b"4294967296", b"18446744073709551614"),
+             ("changed by policy", "18446744073709551615", "18446744073709551614"), ("as before",)),
             (SEVEN, NOTHING, ("changed by policy", "only to customer", "none", "not so", "without"), ("as before",))):
         first, second = before.replace(b" other=-", one), before.replace(b" other=-", other).replace(b"adj-in-pre", b"adj-in-post")
         said["prefix"] = reply(first, second)
