@@ -2,9 +2,10 @@
 import json
 
 import harness
-from harness import Serving, bmpq, run, same, test
+from harness import SECONDS, Serving, Stub, bmpq, reply, run, same, test
 from bmp import Peer, attribute, initiation, monitoring, nlri, peer_up, usual_attributes
-from bmpq_routes import file_of, recorded
+from bmpq_routers import followed, routers, withdraw
+from bmpq_routes import ROUTE, file_of, recorded
 
 PEER = Peer(0, 0, "192.0.2.1")
 KEY = "0-0000000000000000-192.0.2.1"
@@ -149,3 +150,40 @@ def whole_lines_are_followed():
         link.close()
     for words in (("--full", "table"), ("--rows", "table"), ("--rows", "--from", 3, "--follow", "r1")):
         bmpq(*words, status=2)
+
+
+@test
+def rows_are_told_anew():
+    """Where changes are lost, where a reply of rows breaks off, and where the station began anew; a name's, where it has another lane."""
+    row = ROUTE.replace(b"route 0", b"route 3") % (KEY.encode(), b"10.0.0.0/8", b"64500")
+    other = row.replace(b"path=64500", b"path=64501")
+    turns = [reply(b"steps 3 10", row), reply(b"steps 3 2000", b"missed 966", withdraw(3, 976)), [b"at 7\nsteps 3 2000\n" + row + b"\n"],
+             reply(b"steps 3 2000", row), reply(b"steps 3 2001", withdraw(3, 2000)), [b""], reply(b"steps 3 5"), reply(b"steps 3 5", other),
+             reply(b"steps 3 5")]
+    status, lines, asked, said = followed(turns, "--retry", SECONDS, "--rows", "--follow", 3, polls=6)
+    table, changes = "steps table router 3", "changes 3 "
+    same(asked, [table, changes + "10", table, table, changes + "2000", changes + "2001", changes + "2001", table, changes + "5"], "queries")
+    same((status, lines), (0, [b"steps 3 10", row, b"end 2", b"missed 966", b"steps 3 2000", row, b"steps 3 2000", row, b"end 2", withdraw(3, 2000),
+                               b"steps 3 5", other, b"end 2"]), said)
+    same("the station began anew" in said, True, said)
+    # The router goes, and is on another lane a moment later.
+    names = [(b"r1", b"other"), (b"r1", b"other"), (b"x", b"other"), (b"x", b"other", b"r1"), (b"x", b"other", b"r1")]
+    turns = {"steps full prefix 10.0.0.0/8 router 0": reply(b"steps 0 10"), "steps full prefix 10.0.0.0/8 router 2": reply(b"steps 2 7"),
+             "full changes 0 10 10.0.0.0/8": reply(b"steps 0 11", b"change 0 10 closed ended seen=- told=-"),
+             "full changes 2 7 10.0.0.0/8": reply(b"steps 2 7")}
+    asked = []
+
+    def say(query):
+        asked.append(query)
+        return routers(*names.pop(0)) if query == "routers" else turns[query]
+
+    with Stub(say) as stub:
+        done = run([harness.CONTRIB / "bmpq", "--port", stub.port, "--interval", 0.01, "--polls", 4, "--retry", SECONDS, "--full", "--rows",
+                    "--follow", "r1", "10.0.0.0/8"])
+        same((done.returncode, done.stdout.splitlines()),
+             (0, [b"steps 0 10", b"end 1", b"change 0 10 closed ended seen=- told=-", b"steps 2 7", b"end 1"]), done.stderr)
+        same([query for query in asked if query != "routers"], list(turns)[:1] + list(turns)[2:3] + list(turns)[1:2] + list(turns)[3:], "queries")
+    # No such lane, and one of a reply that isn't whole.
+    for turn, wanted in (reply(), "the station has no lane 3"), (b"at 7\nsteps 3 1\nend 2\n", "another number than its lines"):
+        status, lines, asked, said = followed([turn], "--rows", "--follow", 3, polls=1)
+        same((status, wanted in said), (1, True), said)
