@@ -1,0 +1,245 @@
+"""What the tests of bmp-mirror stand on: histories of a router, the tables that they leave, and readers of the copies.
+
+One lane serves one connection after another, so the revision says which messages had come: each connection is an opening, its messages
+and a closing. The table at each revision is that of `replay` on the messages of that connection up to there.
+"""
+import collections
+import contextlib
+import functools
+import json
+import socket
+import struct
+import subprocess
+import sys
+import tempfile
+import threading
+import urllib.request
+
+import bmp
+import copies
+import harness
+from harness import CONTRIB, SECONDS, same
+from texts import full_text, route_text
+
+STATION = "fra1"
+
+
+# What a router sends.
+
+
+class Router(copies.Router):
+    """A router whose routes have attributes of all kinds, some of them malformed, which an update withdraws or has as they are."""
+
+    def further(self):
+        """Some of the attributes that a whole line tells behind `other=`, in the order of their types."""
+        draw = self.draw
+        found = [(0x80, 9, bytes(3) + bytes([draw.randrange(4)])), (0x80, 10, bytes(range(4 * draw.randrange(1, 4)))),
+                 (0xC0, 16, b"".join(draw.choice([b"\0\2\xfb\xf4\0\0\0d", b"\2\3\0\1\0\0\0d", b"\3\x0c" + bytes(5) + b"\7"]) for _ in range(draw.randrange(1, 3)))),
+                 (0x80, 26, b"\1\0\x0b" + draw.randrange(1 << 64).to_bytes(8, "big")), (0xE0, 32, struct.pack(">3I", *(draw.randrange(1 << 32) for _ in range(3)))),
+                 (0xC0, 32, bytes(5)), (0xC0, 35, struct.pack(">I", draw.randrange(1 << 32))), (0xC0, 99, bytes(draw.randrange(9)))]
+        chosen = {kind: (flags, value) for flags, kind, value in draw.sample(found, draw.randrange(4))}
+        return b"".join(bmp.attribute(flags, kind, value) for kind, (flags, value) in sorted(chosen.items()))
+
+    def update(self):
+        draw = self.draw
+        peer = draw.choice(copies.PEERS)
+        view = draw.choice(copies.views_of(peer))
+        gone, come = ([octets for _, octets in self.places(peer, view, 4, most)] for most in (4, 8))
+        attributes = b""
+        if come:
+            path = [bmp.ASN, *(draw.randrange(1, 1 << 32) for _ in range(draw.randrange(4)))]
+            attributes = bmp.usual_attributes(path, draw.choice([None, draw.randrange(1 << 32)]), "192.0.2.9") + self.further()
+        if draw.random() < 0.3:
+            return super().update()
+        return self.sent(bmp.monitoring(peer, view, b"".join(gone), attributes, b"".join(come)))
+
+
+def history(draw):
+    """The messages of one connection, in pieces that are sent with a pause between them, and its end, which is no message."""
+    router = Router(draw)
+    pieces = [router.open()] + [router.some() for _ in range(draw.randrange(12))]
+    end = draw.choice([b"", b"", bmp.termination(), bmp.peer_up(copies.PEERS[0])[:-5], b"\4" + bytes(20)])
+    return pieces, end
+
+
+def messages(data):
+    found, at = [], 0
+    while at < len(data):
+        end = at + int.from_bytes(data[at + 1:at + 5], "big")
+        found.append(data[at:end])
+        at = end
+    return found
+
+
+class Tables:
+    """The tables of a station with one lane, by its revisions: `opened` is told of each connection, before it is made."""
+
+    def __init__(self):
+        self.connections = []
+        self.revision = 0
+
+    def opened(self, sent):
+        """A connection that will send these messages whole."""
+        self.connections.append((self.revision, sent))
+        self.revision += len(sent) + 2
+
+    @functools.lru_cache(maxsize=None)
+    def at(self, revision):
+        """The rows at a revision: of each the text of its line from the peer on."""
+        begun, sent = next(((begun, sent) for begun, sent in reversed(self.connections) if begun < revision), (0, None))
+        if sent is None or revision - begun - 1 > len(sent):
+            return frozenset()
+        done = subprocess.run([harness.PROGRAM, "replay", "full", "table"], input=b"".join(sent[:revision - begun - 1]), capture_output=True)
+        at, *lines = done.stdout.decode().splitlines()
+        same(at, f"at {revision - begun}", "the revision of a replay")
+        return frozenset(line.split(" ", 2)[2] for line in lines if line.startswith("route "))
+
+
+def difference(found, wanted):
+    """What is too much and what is missing, in a few words."""
+    return f"too much {sorted(found - wanted)[:2]}, missing {sorted(wanted - found)[:2]}"
+
+
+# Who runs.
+
+
+class Mirror:
+    """A bmp-mirror, in a block. It may be killed and started again."""
+
+    def __init__(self, output, port, *options, python=sys.executable, stdout=None, environment=None):
+        self.http_port = harness.free_ports(1)
+        self.words = [python, CONTRIB / "bmp-mirror", output, "--station", STATION, "--port", port, "--http-port", self.http_port, "--timeout", 20,
+                      *options]
+        self.stdout, self.environment = stdout, environment
+        self.child = None
+
+    def __enter__(self):
+        self.start()
+        return self
+
+    def __exit__(self, *_):
+        self.kill()
+
+    def start(self):
+        self.said = tempfile.TemporaryFile()
+        self.child = subprocess.Popen([str(word) for word in self.words], stdout=self.stdout, stderr=self.said, env=self.environment)
+
+    def kill(self):
+        if self.child is not None:
+            self.child.kill()
+            self.child.wait()
+            if self.child.stdout:
+                self.child.stdout.close()
+            self.said.seek(0)
+            text = self.said.read().decode()
+            self.said.close()
+            self.child = None
+            if "Traceback" in text:
+                raise AssertionError(text[-2000:])
+            return text
+
+    def metrics(self):
+        """Each metric by its name and its labels' text."""
+        text = urllib.request.urlopen(f"http://127.0.0.1:{self.http_port}/metrics", timeout=SECONDS).read().decode()
+        return {name: float(value) for name, value in (line.rsplit(" ", 1) for line in text.splitlines() if not line.startswith("#"))}
+
+
+class Lines:
+    """A mirror whose lines are read, and what they leave: at each mark the rows of its lane are kept, to be judged."""
+
+    name = "lines"
+
+    def __init__(self, port, *options):
+        self.mirror = Mirror("lines", port, *options, stdout=subprocess.PIPE)
+        self.marks = []
+        self.faults = []
+        self.may_read = threading.Event()
+        self.may_read.set()
+
+    def start(self):
+        self.mirror.start()
+        self.thread = threading.Thread(target=self.read, args=(self.mirror.child.stdout,))
+        self.thread.start()
+
+    def kill(self):
+        self.may_read.set()
+        self.mirror.child.kill()
+        self.thread.join()
+        return self.mirror.kill()
+
+    def read(self, lines):
+        state = collections.defaultdict(dict)
+        self.count = 0
+        try:
+            for number, line in enumerate(lines):
+                self.may_read.wait()
+                if not line.endswith(b"\n"):
+                    return  # it was killed in the middle
+                self.take(state, number, line)
+                self.count += 1
+        except Exception as fault:  # told in the end
+            self.faults.append(f"{fault!r} of {line[:300]!r}")
+
+    def take(self, state, number, line):
+        fields = json.loads(line)
+        same(list(fields), ["key", "value"], "names")
+        same(json.dumps(fields, separators=(",", ":")).encode() + b"\n", line, "the one form of a line")
+        key, value = fields["key"], fields["value"]
+        station, *words = key.split(" ")
+        same((station, number == 0), (STATION, value is not None and value["kind"] == "begin"), key)
+        if not words:
+            return
+        lane = state[int(words[0])]
+        if len(words) > 3:
+            place = " ".join(words[1:])
+            if value is None:
+                del lane[place]
+            else:
+                same(place, f"{value['peer']} {value['view']} {value['prefix']}" + (f" id={value['id']}" if value["id"] is not None else ""), "key")
+                lane[place] = route_text(value) + full_text(value)
+        elif len(words) == 1:
+            same(value["rows"], len(lane), "rows of a mark")
+            self.marks.append((value["run"], value["step"], value["revision"], int(words[0]), frozenset(lane.values())))
+
+    def last(self, router=0):
+        return next((mark for mark in reversed(self.marks) if mark[3] == router), None)
+
+
+class Cut:
+    """A port that hands on to a station's, and now and then ends a connection in the middle of what the station says."""
+
+    def __init__(self, port, draw, most):
+        self.port_behind, self.draw, self.most = port, draw, most
+        self.listener = socket.create_server(("127.0.0.1", 0))
+        self.port = self.listener.getsockname()[1]
+        self.cuts = 0
+        threading.Thread(target=self.accept, daemon=True).start()
+
+    def accept(self):
+        with contextlib.suppress(OSError):
+            while True:
+                link, _ = self.listener.accept()
+                threading.Thread(target=self.hand_on, args=(link,), daemon=True).start()
+
+    def hand_on(self, link):
+        with contextlib.suppress(OSError), link, socket.create_connection(("127.0.0.1", self.port_behind)) as behind:
+            left = self.draw.randrange(self.most)
+            threading.Thread(target=self.pump, args=(link, behind), daemon=True).start()
+            while data := behind.recv(1 << 16):
+                link.sendall(data[:left])
+                left -= len(data)
+                if left <= 0:
+                    self.cuts += 1
+                    break
+            for one in link, behind:
+                one.shutdown(socket.SHUT_RDWR)
+
+    def pump(self, link, behind):
+        with contextlib.suppress(OSError):
+            while data := link.recv(1 << 16):
+                behind.sendall(data)
+            behind.shutdown(socket.SHUT_RDWR)
+
+    def close(self):
+        self.listener.shutdown(socket.SHUT_RDWR)
+        self.listener.close()
