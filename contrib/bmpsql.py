@@ -38,6 +38,11 @@ TABLES = {
 STATIONS = "bmp_station"
 STATION_COLUMNS = "station text PRIMARY KEY, taken_at timestamptz NOT NULL, revision numeric NOT NULL"
 
+# Of each lane of a station that bmp-mirror keeps, the step and the revision at which its rows are the station's table.
+MIRRORS = "bmp_mirror"
+MIRROR_COLUMNS = ("station text, router bigint, run text NOT NULL, step numeric NOT NULL, revision numeric NOT NULL, rows bigint NOT NULL, "
+                  "at timestamptz NOT NULL, PRIMARY KEY (station, router)")
+
 # Who makes the tables at the same time as another waits for it; so does who writes the same station.
 SCHEMA_LOCK = "DO $$ BEGIN PERFORM pg_advisory_xact_lock(hashtext('bmpstation')); END $$;"
 STATION_LOCK = "DO $$ BEGIN PERFORM pg_advisory_xact_lock(hashtext('bmpstation'), hashtext('{station}')); END $$;"
@@ -59,6 +64,7 @@ def schema():
     yield "BEGIN;"
     yield SCHEMA_LOCK
     yield f"CREATE TABLE IF NOT EXISTS {STATIONS} ({STATION_COLUMNS});"
+    yield f"CREATE TABLE IF NOT EXISTS {MIRRORS} ({MIRROR_COLUMNS});"
     for table, (_, indexes) in TABLES.items():
         yield f"CREATE TABLE IF NOT EXISTS {table} ({columns_of(table)}) PARTITION BY LIST (station);"
         for place, index in enumerate(indexes):
@@ -158,6 +164,12 @@ def route_line(row, attributes):
     return f"{row['router']}\t{row['peer']}\t{row['view']}\t{row['prefix']}\t{identifier}\t{attribute_cells(attributes)}"
 
 
+def refuse(station):
+    """What fails where bmp-mirror keeps the station: a snapshot would take its partitions away."""
+    yield (f"DO $$ BEGIN IF EXISTS (SELECT FROM {MIRRORS} WHERE station = '{station}') THEN RAISE EXCEPTION 'bmpq: bmp-mirror keeps the "
+           f"station {station}: DELETE FROM {MIRRORS} WHERE station = ''{station}'' hands it back'; END IF; END $$;")
+
+
 def load(station, table, revision, lines):
     """What fills a new partition of a table with these lines. They don't touch the table itself: so nobody waits for them."""
     new = f'"{table}:{station}:new"'
@@ -202,6 +214,7 @@ def transaction(station, taken_at, routers, peers, marks, routes):
     yield from schema()
     yield "BEGIN;"
     yield STATION_LOCK.format(station=station)
+    yield from refuse(station)
     yield from load(station, ROUTER, routers[0], (joined(router_cells(row)) for row in routers[1]))
     yield from load(station, PEER, peers[0], (joined(peer_cells(row, complete)) for row in peers[1]))
     yield from load(station, ROUTE, routes[0], (route_line(row, attributes) for row, attributes in routes[1]))
