@@ -266,7 +266,9 @@ class Copy:
     """What the writer knows of the copy of a lane."""
 
     def __init__(self):
-        # The mark that stands at the engine, and what was handed on behind it of which nobody knows whether it is there.
+        # Whether the engine has anything of it; the mark that stands there, and what was handed on behind it of which nobody knows whether
+        # it is there.
+        self.is_there = False
         self.held = None
         self.unsure = None
         # In which run of the station it was begun, and when it is looked at again, and at last begun, where it is held.
@@ -319,13 +321,14 @@ class Writer:
         self.output.open()
         marks = self.output.have()
         for router in marks.keys() | self.copies.keys():
-            self.judge(run, router, self.copies[router], marks.get(router))
+            self.judge(run, router, self.copies[router], marks.get(router), router in marks)
         self.is_open = True
         self.facts_at = None
 
-    def judge(self, run, router, copy, found):
+    def judge(self, run, router, copy, found, is_there):
         """What the copy of a lane is by the mark that the engine has: what was handed on last, what was before it, or another's."""
         unsure, copy.unsure = copy.unsure, None
+        copy.is_there = copy.is_there or is_there
         if unsure is not None and found is not None and found[:2] == unsure.after[:2]:
             copy.held, copy.run = found, found.run
         elif copy.held is None or copy.run is None:
@@ -352,7 +355,7 @@ class Writer:
         lane, copy = run.lanes.get(router), self.copies[router]
         if lane is None or not lane.entries and not lane.total:
             # The station has no such lane, or it was never opened: it has no rows.
-            if copy.held is not None and copy.run != run.name and self.is_free(run, router, copy, None):
+            if copy.is_there and copy.run != run.name and self.is_free(run, router, copy, None):
                 self.put(run, copy, router, lambda mark_of, held: self.output.table(router, (), mark_of, held), None, 0, run.revision)
             return
         if copy.run == run.name and lane.fold is not None:
@@ -383,7 +386,7 @@ class Writer:
 
     def put(self, run, copy, router, write, fold, step, revision):
         """Hands on, and keeps in mind what isn't known to be there until it is."""
-        copy.unsure = Unsure(Mark(run.name, step, revision, 0), fold)
+        copy.unsure, copy.is_there = Unsure(Mark(run.name, step, revision, 0), fold), True
         try:
             copy.held, count = write(lambda rows: Mark(run.name, step, revision, rows), copy.held)
         except Broken:
