@@ -17,6 +17,7 @@ import urllib.request
 
 import bmp
 import copies
+import database
 import harness
 from harness import CONTRIB, SECONDS, same
 from texts import full_text, route_text
@@ -107,7 +108,8 @@ class Mirror:
     """A bmp-mirror, in a block. It may be killed and started again."""
 
     def __init__(self, output, port, *options, python=sys.executable, stdout=None, environment=None):
-        self.http_port = harness.free_ports(1)
+        with harness.closed_port() as self.http_port:
+            pass
         self.words = [python, CONTRIB / "bmp-mirror", output, "--station", STATION, "--port", port, "--http-port", self.http_port, "--timeout", 20,
                       *options]
         self.stdout, self.environment = stdout, environment
@@ -201,6 +203,9 @@ class Lines:
             same(value["rows"], len(lane), "rows of a mark")
             self.marks.append((value["run"], value["step"], value["revision"], int(words[0]), frozenset(lane.values())))
 
+    def end(self):
+        """Nothing more is read."""
+
     def last(self, router=0):
         return next((mark for mark in reversed(self.marks) if mark[3] == router), None)
 
@@ -243,3 +248,76 @@ class Cut:
     def close(self):
         self.listener.shutdown(socket.SHUT_RDWR)
         self.listener.close()
+
+
+def joined(values, form="{}"):
+    return ",".join(form.format(value) for value in values) or "-"
+
+
+def or_dash(value):
+    return "-" if value is None else value
+
+
+def route_of(row):
+    """The line of a route from the peer on, by the columns of bmp_route."""
+    aggregator = None if row["aggregator_as"] is None else f"{row['aggregator_as']}:{row['aggregator_id']}"
+    text = (f"{row['peer']} {row['view']} {row['prefix']} next={or_dash(row['next_hops'])} origin={or_dash(row['origin'])} "
+            f"path={or_dash(row['path_text'])} med={or_dash(row['med'])} pref={or_dash(row['local_pref'])} "
+            f"atomic={'yes' if row['atomic'] else 'no'} agg={or_dash(aggregator)} comm={joined(row['communities'])} other={joined(row['other_types'])}")
+    if row["path_id"] is not None:
+        text += f" id={row['path_id']}"
+    return (f"{text} flags={joined(row['flags'], '{:02x}')} large={joined(row['large_communities'])} ext={joined(row['ext_communities'])} "
+            f"otc={or_dash(row['otc'])} aigp={or_dash(row['aigp'])} originator={or_dash(row['originator'])} clusters={joined(row['clusters'])} "
+            f"raw={joined(row['raw'])}")
+
+
+class PostgreSQL:
+    """A mirror into a database, which psql reads again and again: a mark and its rows in one statement."""
+
+    name = "postgresql"
+
+    def __init__(self, server, port, *options):
+        self.server = server
+        self.mirror = Mirror("postgresql", port, *options, python=database.python_with("psycopg"), environment=server.environment)
+        self.marks = []
+        self.faults = []
+        self.is_over = threading.Event()
+        self.thread = threading.Thread(target=self.watch)
+
+    def start(self):
+        self.mirror.start()
+        same(self.faults, [], self.name)
+        if not self.thread.is_alive():
+            self.thread.start()
+
+    def kill(self):
+        return self.mirror.kill()
+
+    def end(self):
+        self.is_over.set()
+        if self.thread.is_alive():
+            self.thread.join()
+
+    def watch(self):
+        while not self.is_over.wait(0.02):
+            try:
+                self.read()
+            except OSError:
+                pass  # the server is away, or has no tables yet
+            except Exception as fault:  # told in the end
+                self.faults.append(repr(fault))
+                return
+
+    def read(self):
+        found = self.server.ask("SELECT row_to_json(found) FROM (SELECT router, run, step, revision, rows, (SELECT coalesce(jsonb_agg(r), '[]') FROM "
+                                "bmp_route r WHERE (r.station, r.router) = (m.station, m.router)) AS routes "
+                                f"FROM bmp_mirror m WHERE station = '{STATION}') found")
+        for mark in found:
+            rows = [route_of(row) for row in mark["routes"]]
+            same((len(rows), len(set(rows))), (mark["rows"], len(rows)), "rows of a mark")
+            told = (mark["run"], mark["step"], mark["revision"], mark["router"], frozenset(rows))
+            if not self.marks or told[:4] != self.last(mark["router"])[:4]:
+                self.marks.append(told)
+
+    def last(self, router=0):
+        return next((mark for mark in reversed(self.marks) if mark[3] == router), None)
