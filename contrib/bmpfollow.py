@@ -14,9 +14,10 @@ from bmplines import Station, StationError, UnknownLine, Unreachable, check_repl
 
 # The step that no lane reaches: asked from there, a lane tells its number of steps alone.
 NO_STEP = 2**64 - 1
-# How long to wait between two rounds: less where many steps came, more where few did.
-LEAST_WAIT, MOST_WAIT = 0.002, 0.25
-FEW, MANY, VERY_MANY = 128, 400, 512
+# How long to wait between two rounds: less where many steps came, more where few did. A lane keeps 1,024 steps, so none is missed where
+# a router that said nothing begins to make 10,000 a second.
+LEAST_WAIT, MOST_WAIT = 0.002, 0.1
+FEW, MANY, VERY_MANY = 64, 256, 512
 # How long to wait before a connection is tried for again, at first and at most.
 FIRST_PAUSE, MOST_PAUSE = 0.1, 10.0
 

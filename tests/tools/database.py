@@ -1,5 +1,6 @@
 """A PostgreSQL server of a test's own: the one that is installed (Debian's postgresql), in a temporary folder, at a socket there alone. It
 can be killed, started again and paused."""
+import contextlib
 import glob
 import json
 import os
@@ -9,6 +10,7 @@ import signal
 import subprocess
 import sys
 import tempfile
+import time
 
 SETTINGS = ("listen_addresses=''", "max_wal_size=4GB", "logging_collector=off", "fsync=off")
 
@@ -27,11 +29,20 @@ def python_with(module):
     return None
 
 
+def is_running(process):
+    """Whether there is such a process that hasn't ended: one that nobody has waited for stays in the list."""
+    try:
+        return pathlib.Path(f"/proc/{process}/stat").read_text().rpartition(") ")[2][0] != "Z"
+    except OSError:
+        return False
+
+
 class Server:
     """A server in a folder, in a block."""
 
     def __init__(self):
         self.programs = programs()
+        self.database, self.count = "postgres", 0
         # The server refuses to run as root.
         self.user = "postgres" if os.geteuid() == 0 else None
 
@@ -56,31 +67,41 @@ class Server:
 
     def processes(self):
         """The server's first process and its children."""
-        first = pathlib.Path(self.folder.name, "data/postmaster.pid").read_text().split()[0]
-        children = pathlib.Path(f"/proc/{first}/task/{first}/children").read_text().split()
+        try:
+            first = pathlib.Path(self.folder.name, "data/postmaster.pid").read_text().split()[0]
+            children = pathlib.Path(f"/proc/{first}/task/{first}/children").read_text().split()
+        except FileNotFoundError:
+            return []
         return [int(first), *map(int, children)]
 
     def kill(self):
         """Ends all of it at once, by SIGKILL."""
-        for process in self.processes():
-            try:
-                os.kill(process, signal.SIGKILL)
-            except ProcessLookupError:
-                pass
-        while pathlib.Path(f"/proc/{process}").exists():
-            pass
+        processes = self.processes()
+        self.send(signal.SIGKILL)
+        end = time.monotonic() + 10
+        while any(map(is_running, processes)) and time.monotonic() < end:
+            time.sleep(0.01)
 
     def pause(self):
-        for process in self.processes():
-            os.kill(process, signal.SIGSTOP)
+        self.send(signal.SIGSTOP)
 
     def go_on(self):
+        self.send(signal.SIGCONT)
+
+    def send(self, number):
         for process in self.processes():
-            os.kill(process, signal.SIGCONT)
+            with contextlib.suppress(ProcessLookupError):
+                os.kill(process, number)
+
+    def new_database(self):
+        """Another one, with nothing in it, is asked from now on."""
+        self.count += 1
+        self.database = f"d{self.count}"
+        self.call("createdb", "-h", self.folder.name, "-U", "tester", self.database)
 
     @property
     def environment(self):
-        return os.environ | {"PGCLIENTENCODING": "UTF8", "PGHOST": self.folder.name, "PGUSER": "tester", "PGDATABASE": "postgres"}
+        return os.environ | {"PGCLIENTENCODING": "UTF8", "PGHOST": self.folder.name, "PGUSER": "tester", "PGDATABASE": self.database}
 
     def ask(self, query):
         """The rows of a query, each as JSON."""

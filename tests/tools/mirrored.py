@@ -203,6 +203,12 @@ class Lines:
             same(value["rows"], len(lane), "rows of a mark")
             self.marks.append((value["run"], value["step"], value["revision"], int(words[0]), frozenset(lane.values())))
 
+    def pause(self):
+        self.may_read.clear()
+
+    def go_on(self):
+        self.may_read.set()
+
     def end(self):
         """Nothing more is read."""
 
@@ -295,8 +301,15 @@ class PostgreSQL:
 
     def end(self):
         self.is_over.set()
+        self.server.go_on()
         if self.thread.is_alive():
             self.thread.join()
+
+    def pause(self):
+        self.server.pause()
+
+    def go_on(self):
+        self.server.go_on()
 
     def watch(self):
         while not self.is_over.wait(0.02):
