@@ -13,7 +13,7 @@ import time
 import harness
 from harness import CONTRIB, EXAMPLES, SECONDS, TOP, run, same, test
 
-TOOLS = ("bmpq", "bmp-exporter", "bmp-lookingglass")
+TOOLS = ("bmpq", "bmp-exporter", "bmp-lookingglass", "bmp-mirror")
 PROMPT = "<prompt>"
 
 
@@ -133,6 +133,7 @@ def completion_by_bash():
             same(offered(tool, "-"), helped_of_tool(tool), tool)
             same(offered(tool, "--port", ""), set(), tool)
         same(offered("bmpq", "--file", ""), files, "bmpq --file")
+        same("postgresql" in offered("bmp-mirror", ""), True, "bmp-mirror")
         same(offered("bmpq", "--json", ""), queries | selectors, "bmpq")
         same(offered("bmpq", "table", "view", ""), set(re.findall(r"adj-[a-z-]+", page)) | {"loc"}, "bmpq table view")
 

@@ -63,7 +63,16 @@ class Server:
 
     def start(self):
         options = " ".join(f"-c {setting}" for setting in (*SETTINGS, f"unix_socket_directories={self.folder.name}"))
-        self.call("pg_ctl", "-D", "data", "-w", "-o", options, "-l", "log", "start")
+        end = time.monotonic() + 30
+        while True:
+            try:
+                self.call("pg_ctl", "-D", "data", "-w", "-o", options, "-l", "log", "start")
+                return
+            except subprocess.CalledProcessError:
+                # What a killed one leaves behind isn't gone yet.
+                if time.monotonic() > end:
+                    raise
+            time.sleep(0.2)
 
     def processes(self):
         """The server's first process and its children."""

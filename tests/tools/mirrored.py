@@ -7,13 +7,16 @@ import collections
 import contextlib
 import functools
 import json
+import signal
 import socket
 import struct
 import subprocess
 import sys
 import tempfile
 import threading
+import time
 import urllib.request
+import uuid
 
 import bmp
 import copies
@@ -142,7 +145,16 @@ class Mirror:
 
     def metrics(self):
         """Each metric by its name and its labels' text."""
-        text = urllib.request.urlopen(f"http://127.0.0.1:{self.http_port}/metrics", timeout=SECONDS).read().decode()
+        end = time.monotonic() + SECONDS
+        while True:
+            try:
+                text = urllib.request.urlopen(f"http://127.0.0.1:{self.http_port}/metrics", timeout=SECONDS).read().decode()
+                break
+            except OSError:
+                # It has just been started.
+                if time.monotonic() > end:
+                    raise
+            time.sleep(0.05)
         return {name: float(value) for name, value in (line.rsplit(" ", 1) for line in text.splitlines() if not line.startswith("#"))}
 
 
@@ -288,6 +300,7 @@ class PostgreSQL:
         self.marks = []
         self.faults = []
         self.is_over = threading.Event()
+        self.reading = threading.Lock()
         self.thread = threading.Thread(target=self.watch)
 
     def start(self):
@@ -314,7 +327,8 @@ class PostgreSQL:
     def watch(self):
         while not self.is_over.wait(0.02):
             try:
-                self.read()
+                with self.reading:
+                    self.read()
             except OSError:
                 pass  # the server is away, or has no tables yet
             except Exception as fault:  # told in the end
@@ -329,8 +343,193 @@ class PostgreSQL:
             rows = [route_of(row) for row in mark["routes"]]
             same((len(rows), len(set(rows))), (mark["rows"], len(rows)), "rows of a mark")
             told = (mark["run"], mark["step"], mark["revision"], mark["router"], frozenset(rows))
-            if not self.marks or told[:4] != self.last(mark["router"])[:4]:
+            last = self.last(mark["router"])
+            if last is None or told[:4] != last[:4]:
                 self.marks.append(told)
 
     def last(self, router=0):
         return next((mark for mark in reversed(self.marks) if mark[3] == router), None)
+
+
+class NatsServer:
+    """A NATS server with JetStream, in a block, where one is installed."""
+
+    def __enter__(self):
+        self.folder = tempfile.TemporaryDirectory()
+        self.port = harness.free_ports(1)
+        self.start()
+        return self
+
+    def __exit__(self, *_):
+        self.kill()
+        self.folder.cleanup()
+
+    def start(self):
+        words = ["nats-server", "-a", "127.0.0.1", "-p", str(self.port), "-js", "-sd", self.folder.name]
+        self.child = subprocess.Popen(words, stdout=subprocess.DEVNULL, stderr=subprocess.DEVNULL)
+        harness.wait_for(self.answers, "a NATS server")
+
+    def answers(self):
+        try:
+            with NatsLink(self.port):
+                return True
+        except OSError:
+            return False
+
+    def kill(self):
+        self.child.kill()
+        self.child.wait()
+
+    def pause(self):
+        self.child.send_signal(signal.SIGSTOP)
+
+    def go_on(self):
+        self.child.send_signal(signal.SIGCONT)
+
+    def new_stream(self):
+        with NatsLink(self.port) as link:
+            link.ask("$JS.API.STREAM.DELETE.BMP", b"")
+
+
+class NatsLink:
+    """A client of a NATS server, by its text protocol."""
+
+    def __init__(self, port):
+        self.socket = socket.create_connection(("127.0.0.1", port), SECONDS)
+        self.lines = self.socket.makefile("rb")
+        self.answers = f"answers.{uuid.uuid4().hex}"
+        self.socket.sendall(b'CONNECT {"verbose":false,"headers":true}\r\nSUB %s 1\r\nPING\r\n' % self.answers.encode())
+        while self.line() != b"PONG":
+            pass
+
+    def __enter__(self):
+        return self
+
+    def __exit__(self, *_):
+        self.lines.close()
+        self.socket.close()
+
+    def line(self):
+        line = self.lines.readline()
+        if not line:
+            raise ConnectionError("the server closed the connection")
+        return line.rstrip()
+
+    def messages(self):
+        """The subject and the body of each message."""
+        while True:
+            words = self.line().split()
+            if words[0] == b"PING":
+                self.socket.sendall(b"PONG\r\n")
+            elif words[0] in (b"MSG", b"HMSG"):
+                head = int(words[-2]) if words[0] == b"HMSG" else 0
+                yield words[1].decode(), self.lines.read(int(words[-1]) + 2)[head:-2]
+
+    def send(self, subject, body):
+        self.socket.sendall(b"PUB %s %s %d\r\n%s\r\n" % (subject.encode(), self.answers.encode(), len(body), body))
+
+    def ask(self, subject, body):
+        self.send(subject, body)
+        return next(body for subject, body in self.messages() if subject == self.answers)
+
+
+class Nats:
+    """A mirror into a stream. One client takes what goes to the stream as it comes, and at rest another reads what is kept there."""
+
+    name = "nats"
+
+    def __init__(self, server, port, *options):
+        self.server = server
+        self.mirror = Mirror("nats", port, "--to", f"127.0.0.1:{server.port}", *options)
+        self.marks = []
+        self.faults = []
+        self.kept = {}
+        self.is_over = False
+        self.thread = threading.Thread(target=self.watch)
+
+    def start(self):
+        if not self.thread.is_alive():
+            self.is_there = threading.Event()
+            self.thread.start()
+            self.is_there.wait(SECONDS)
+        self.mirror.start()
+
+    def kill(self):
+        return self.mirror.kill()
+
+    def pause(self):
+        self.server.pause()
+
+    def go_on(self):
+        self.server.go_on()
+
+    def end(self):
+        self.is_over = True
+        self.server.go_on()
+        with contextlib.suppress(OSError), NatsLink(self.server.port) as link:
+            link.send(f"bmp.{STATION}.over", b"")
+            link.ask("$JS.API.STREAM.INFO.BMP", b"")
+        self.thread.join()
+
+    def watch(self):
+        while not self.is_over:
+            try:
+                with NatsLink(self.server.port) as link:
+                    # What was kept before is read again: who was away has missed what came.
+                    link.socket.sendall(f"SUB bmp.{STATION}.> 2\r\nPING\r\n".encode())
+                    while link.line() != b"PONG":
+                        pass
+                    self.kept = self.stored()
+                    self.is_there.set()
+                    for subject, body in link.messages():
+                        if self.is_over:
+                            return
+                        self.take(subject, body)
+            except OSError:
+                time.sleep(0.05)  # the server is away
+            except Exception as fault:  # told in the end
+                self.faults.append(repr(fault))
+                self.is_there.set()
+                return
+
+    def take(self, subject, body):
+        if not body:
+            self.kept.pop(subject, None)
+            return
+        value = json.loads(body)
+        same(json.dumps(value, separators=(",", ":")).encode(), body, "the one form of a value")
+        if value["kind"] == "mark":
+            rows = frozenset(text for text, router in self.kept.values() if router == value["router"])
+            same(len(rows), value["rows"], "rows of a mark")
+            self.marks.append((value["run"], value["step"], value["revision"], value["router"], rows))
+        elif value["kind"] == "route":
+            self.kept[subject] = nats_row(subject, value)
+
+    def stored(self):
+        """The rows that the stream keeps."""
+        found = {}
+        with NatsLink(self.server.port) as link:
+            made = json.loads(link.ask("$JS.API.CONSUMER.CREATE.BMP", json.dumps({"stream_name": "BMP", "config": {
+                "deliver_policy": "last_per_subject", "ack_policy": "none", "filter_subject": f"bmp.{STATION}.>"}}).encode()))
+            left = made.get("num_pending", 0)
+            if left:
+                link.send(f"$JS.API.CONSUMER.MSG.NEXT.BMP.{made['name']}", json.dumps({"batch": left, "expires": 10**10}).encode())
+            for subject, body in link.messages() if left else ():
+                left -= 1
+                if body:
+                    value = json.loads(body)
+                    if value["kind"] == "route":
+                        found[subject] = nats_row(subject, value)
+                if not left:
+                    break
+        return found
+
+    def last(self, router=0):
+        return next((mark for mark in reversed(self.marks) if mark[3] == router), None)
+
+
+def nats_row(subject, value):
+    """The line of a route from the peer on, and its lane; its subject is the one that it must have."""
+    words = [value["peer"], value["view"], value["prefix"].replace("/", "-"), *([str(value["id"])] if value["id"] is not None else [])]
+    same(subject, ".".join(["bmp", STATION, str(value["router"]), *(word.replace(".", "_") for word in words)]), "a subject")
+    return route_text(value) + full_text(value), value["router"]
