@@ -533,3 +533,86 @@ def nats_row(subject, value):
     words = [value["peer"], value["view"], value["prefix"].replace("/", "-"), *([str(value["id"])] if value["id"] is not None else [])]
     same(subject, ".".join(["bmp", STATION, str(value["router"]), *(word.replace(".", "_") for word in words)]), "a subject")
     return route_text(value) + full_text(value), value["router"]
+
+
+class KafkaBroker:
+    """librdkafka's mock of a broker, in a block: it has no compaction, and what is in it is gone with it."""
+
+    def __init__(self):
+        self.python = database.python_with("confluent_kafka")
+
+    def __enter__(self):
+        self.child = subprocess.Popen([self.python, harness.TOP / "tests/tools/kafka.py", "broker"], stdin=subprocess.PIPE, stdout=subprocess.PIPE,
+                                      stderr=subprocess.DEVNULL)
+        self.address = self.child.stdout.readline().decode().strip()
+        return self
+
+    def __exit__(self, *_):
+        self.child.kill()
+        self.child.wait()
+        self.child.stdin.close()
+        self.child.stdout.close()
+
+
+class Kafka:
+    """A mirror into a topic of a broker of its own, of which all messages are read as they come."""
+
+    name = "kafka"
+
+    def __init__(self, port, *options):
+        self.broker = KafkaBroker()
+        self.broker.__enter__()
+        self.mirror = Mirror("kafka", port, "--to", self.broker.address, *options, python=self.broker.python)
+        self.marks = []
+        self.faults = []
+        self.kept = collections.defaultdict(dict)
+        self.partitions = {}
+        self.reader = subprocess.Popen([self.broker.python, harness.TOP / "tests/tools/kafka.py", "read", self.broker.address], stdout=subprocess.PIPE,
+                                       stderr=subprocess.DEVNULL)
+        same(self.reader.stdout.readline(), b"ready\n", "a reader of Kafka")
+        self.thread = threading.Thread(target=self.watch)
+        self.thread.start()
+
+    def start(self):
+        self.mirror.start()
+
+    def kill(self):
+        return self.mirror.kill()
+
+    def pause(self):
+        self.broker.child.send_signal(signal.SIGSTOP)
+
+    def go_on(self):
+        self.broker.child.send_signal(signal.SIGCONT)
+
+    def end(self):
+        self.go_on()
+        self.reader.kill()
+        self.reader.wait()
+        self.thread.join()
+        self.reader.stdout.close()
+        self.broker.__exit__()
+
+    def watch(self):
+        try:
+            for line in self.reader.stdout:
+                if line.endswith(b"\n"):
+                    self.take(*json.loads(line))
+        except Exception as fault:  # told in the end
+            self.faults.append(repr(fault))
+
+    def take(self, partition, key, text):
+        station, router, *words = key.split(" ")
+        same((station, self.partitions.setdefault(router, partition)), (STATION, partition), "the partition of a lane")
+        rows, value = self.kept[int(router)], text and json.loads(text)
+        if len(words) > 2:
+            if value is None:
+                rows.pop(key, None)
+            else:
+                rows[key] = route_text(value) + full_text(value)
+        elif not words:
+            same(len(rows), value["rows"], "rows of a mark")
+            self.marks.append((value["run"], value["step"], value["revision"], value["router"], frozenset(rows.values())))
+
+    def last(self, router=0):
+        return next((mark for mark in reversed(self.marks) if mark[3] == router), None)
