@@ -6,11 +6,15 @@ same run of the station, while the changes go on: of these the ones from the tab
 exact at each reply is proved (docs/PROOFS.md).
 """
 import contextlib
+import os
+import re
+import socket
 import threading
 import time
+import traceback
 import uuid
 
-from bmplines import Station, StationError, UnknownLine, Unreachable, check_reply, parse
+from bmplines import Station, StationError, UnknownLine, Unreachable, check_reply, key_of, parse
 
 # The step that no lane reaches: asked from there, a lane tells its number of steps alone.
 NO_STEP = 2**64 - 1
@@ -18,6 +22,7 @@ NO_STEP = 2**64 - 1
 # a router that said nothing begins to make 10,000 a second.
 LEAST_WAIT, MOST_WAIT = 0.002, 0.1
 FEW, MANY, VERY_MANY = 64, 256, 512
+PLACE = re.compile(r"(?:adj-in-pre|adj-in-post|adj-out-pre|adj-out-post|loc) [0-9a-f.:]+/[0-9]+(?: id=[0-9]+)?")
 # How long to wait before a connection is tried for again, at first and at most.
 FIRST_PAUSE, MOST_PAUSE = 0.1, 10.0
 
@@ -74,11 +79,13 @@ class Fold:
         if what == "announce":
             peer, view, rest = words[1:]
             prefix, _, text = rest.partition(" ")
-            place, attributes = split_place(text)
-            self.put(peer, f"{view} {prefix}{place}", attributes)
+            identifier, attributes = split_attributes(text)
+            self.put(*place_of(peer, view, prefix, identifier), attributes)
         elif what == "withdraw":
             peer, view, rest = words[1:]
-            self.put(peer, " ".join([view, *(word for word in rest.split(" ") if not word.startswith(("seen=", "told=")))]), None)
+            prefix, *more = rest.split(" ")
+            identifier = f" {more[0]}" if more and more[0].startswith("id=") else ""
+            self.put(*place_of(peer, view, prefix, identifier), None)
         elif what in ("up", "down"):
             self.clear_peer(words[1])
         elif what in ("opened", "closed"):
@@ -87,8 +94,16 @@ class Fold:
             raise UnknownLine(" ".join(words))
 
 
-def split_place(text):
-    """The path identifier of a whole line's attributes as the end of a place, ` id=I` or nothing, and the attributes without it and
+def place_of(peer, view, prefix, identifier):
+    """A peer's key and a place of it."""
+    place = f"{view} {prefix}{identifier}"
+    if not PLACE.fullmatch(place):
+        raise UnknownLine(place)
+    return key_of(peer), place
+
+
+def split_attributes(text):
+    """The path identifier in a whole line's attributes as the end of a place, ` id=I` or nothing, and the attributes without it and
     without the times of the step, as a `route` line has them."""
     other, flags = text.find(" other="), text.find(" flags=")
     if not 0 < other < flags:
@@ -96,13 +111,13 @@ def split_place(text):
     end = text.index(" ", other + 1)
     if end == flags:
         return "", text
-    place = ""
+    identifier = ""
     for word in text[end + 1:flags].split(" "):
         if word.startswith("id="):
-            place = " " + word
+            identifier = " " + word
         elif not word.startswith(("seen=", "told=")):
             raise UnknownLine(text)
-    return place, text[:end] + text[flags:]
+    return identifier, text[:end] + text[flags:]
 
 
 class Lane:
@@ -261,10 +276,12 @@ class Run:
                     return
                 if not text.startswith(front):
                     raise UnknownLine(text)
-                peer, view, prefix, rest = text[len(front):].split(" ", 3)
-                place, attributes = split_place(rest)
+                words = text[len(front):].split(" ", 3)
+                if len(words) != 4:
+                    raise UnknownLine(text)
+                identifier, attributes = split_attributes(words[3])
                 count += 1
-                yield peer, f"{view} {prefix}{place}", attributes
+                yield *place_of(*words[:3], identifier), attributes
 
     def take(self, lane):
         """What waits, with the step and the revision after it: None where nothing came, or a table is wanted."""
@@ -308,7 +325,7 @@ class Run:
         """Faults of the second connection end the run."""
         try:
             yield
-        except (Unreachable, StationError, UnknownLine) as fault:
+        except (Unreachable, StationError, UnknownLine, ValueError) as fault:
             if not self.is_broken:
                 self.follower.say(fault)
             self.end()
@@ -348,7 +365,7 @@ class Link(Station):
 
     def shut(self):
         with contextlib.suppress(OSError):
-            self.socket.shutdown(2)
+            self.socket.shutdown(socket.SHUT_RDWR)
 
 
 class Follower:
@@ -369,7 +386,15 @@ class Follower:
         self.counts[what, router] = self.counts.get((what, router), 0) + number
 
     def start(self):
-        threading.Thread(target=self.follow, daemon=True).start()
+        threading.Thread(target=self.guarded, daemon=True).start()
+
+    def guarded(self):
+        """A copy that nobody keeps up is worse than none."""
+        try:
+            self.follow()
+        except BaseException:
+            traceback.print_exc()
+            os._exit(1)
 
     def follow(self):
         pause, said = FIRST_PAUSE, None

@@ -13,7 +13,7 @@ import os
 import time
 
 from bmpfollow import FIRST_PAUSE, MOST_PAUSE, Broken
-from bmplines import attributes_of
+from bmplines import UnknownLine, attributes_of
 
 # How long the rows of routers and peers may be old, and how often a lane that is held is looked at.
 FACTS_SECONDS = 10
@@ -311,8 +311,12 @@ class Writer:
                 if str(fault) != said:
                     self.say(fault)
                     said = str(fault)
-                self.is_open = False
-                self.output.close()
+            except (UnknownLine, ValueError, KeyError) as fault:
+                # A station that is newer than its mirror.
+                self.say(f"attributes of no known form: {fault}")
+                run.end()
+            self.is_open = False
+            self.output.close()
             time.sleep(pause)
             pause = min(2 * pause, MOST_PAUSE)
 
