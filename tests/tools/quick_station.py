@@ -22,7 +22,7 @@ def step_of(number, rows):
     place = number * 7919 % rows if number > rows else number - 1
     if number > rows and number % 5 == 0:
         return place, None
-    return place, (f"next=192.0.2.1 origin=igp path=64500_{number % 1009} med={number} pref=- atomic=no agg=- comm=- other=- flags=- large=- ext=- "
+    return place, (f"next=192.0.2.1 origin=igp path=64500_{number % 97} med={number % 11} pref=- atomic=no agg=- comm=- other=- flags=- large=- ext=- "
                    "otc=- aigp=- originator=- clusters=- raw=-")
 
 
@@ -68,7 +68,7 @@ class Quick:
             self.total += 1
 
     def answer(self, query):
-        words = query.split(" ")
+        words, rows = query.split(" "), ()
         with self.lock:
             if self.rate:
                 self.make(self.base + int((time.monotonic() - self.since) * self.rate))
@@ -81,12 +81,15 @@ class Quick:
                 lines = [f"steps 0 {self.total}"] + [f"missed {oldest - since}"] * (since < oldest)
                 lines += [self.kept[number - oldest] for number in range(max(since, oldest), self.total)]
             elif words[:2] == ["steps", "full"]:
-                lines = [f"steps 0 {self.total}"] + [f"route 0 {PEER} adj-in-pre {prefix_of(place)} {text}" for place, text in self.table.items()]
+                lines, rows = [f"steps 0 {self.total}"], list(self.table.items())
             elif query == "cut":
                 lines = [f"lane 0 {self.total}"]
             else:
                 lines = []
-            return "".join(line + "\n" for line in (f"at {self.total}", *lines, f"end {len(lines)}")).encode()
+            total = self.total
+        # Who asks for changes doesn't wait for a table.
+        lines += [f"route 0 {PEER} adj-in-pre {prefix_of(place)} {text}" for place, text in rows]
+        return "".join(line + "\n" for line in (f"at {total}", *lines, f"end {len(lines)}")).encode()
 
 
 def talk(quick, link):
