@@ -60,7 +60,7 @@ class Router(copies.Router):
 
 def history(draw):
     """The messages of one connection, in pieces that are sent with a pause between them, and its end, which is no message."""
-    router = Router(draw)
+    router = Router(draw, False)
     pieces = [router.open()] + [router.some() for _ in range(draw.randrange(12))]
     end = draw.choice([b"", b"", bmp.termination(), bmp.peer_up(copies.PEERS[0])[:-5], b"\4" + bytes(20)])
     return pieces, end
