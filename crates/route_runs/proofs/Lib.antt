@@ -27,4 +27,7 @@ pub mod NumberOrder
 pub mod NumberBytes
 pub mod ChangesOfHalves
 pub mod Setwise
+pub mod Sifting
+pub mod SiftingRows
+pub mod SiftingRuns
 mod Refuted

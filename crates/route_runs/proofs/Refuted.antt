@@ -1,5 +1,5 @@
 -- Wrong tables and walks, which the clauses of their calls refuse.
-use Rattle.std.proofs.Common.{◌≡◌, ℕ, false, List, [], ◌∷◌, ◌++◌, take, replicate, length, Option, None, Some, option_to_list, ap, refl, arith, nat_cmp}
+use Rattle.std.proofs.Common.{◌≡◌, ℕ, Bool, false, nat_eq, List, [], ◌∷◌, ◌++◌, take, replicate, length, Option, None, Some, option_to_list, ap, refl, arith, nat_cmp}
 use Rattle.bmp_specs.specs.declared.wire.Family.TheVariants.{V4}
 use Rattle.bmp_specs.specs.declared.wire.SegmentKind.TheVariants.{Sequence}
 use Rattle.bmp_specs.specs.Values.{AttrsValue, NlriValue}
@@ -7,6 +7,7 @@ use Rattle.route_runs.specs.Origins.{with_origin}
 use Rattle.route_runs.specs.Override.{value_at}
 use Rattle.route_runs.specs.Places.{IsFirst, is_after}
 use Rattle.route_runs.specs.Runs.{IsChanged, IsSettled, contents}
+use Rattle.route_runs.specs.Sift.{sifted}
 
 some_not_none : (n : ℕ) → Some n ≡ None → ⊥
 some_not_none n e = absurd (cc)
@@ -56,3 +57,27 @@ a_row_of_the_origin_is_given = refl
 -- A walk over the routes of AS 0 gives a route of another origin: it is none of those that are left.
 a_row_of_another_origin_is_not_given : (rest : List (NlriValue × AttrsValue)) → with_origin 0 of_64500 ≡ option_to_list (Some (ten, by_path (64496 ∷ 64500 ∷ []))) ++ rest → ⊥
 a_row_of_another_origin_is_not_given rest e = omega (arith, ap length e)
+
+-- whether a set passes
+abbrev is_seven : ℕ → Bool
+is_seven n = nat_eq n 7
+
+-- two runs of a table: both keys of the oldest pass, and the later one overrides the first of them with a set that doesn't
+abbrev overridden : List (List (ℕ × Option ℕ))
+overridden = ((1, Some 7) ∷ (2, Some 7) ∷ []) ∷ ((1, Some 8) ∷ []) ∷ []
+
+-- A walk over the pairs that pass gives one that a later run overrides.
+an_overridden_row_is_not_given : (rest : List (ℕ × ℕ)) → sifted is_seven (contents nat_cmp overridden) ≡ option_to_list (Some (1, 7)) ++ rest → ⊥
+an_overridden_row_is_not_given rest e = omega (arith, ap (λ (l : List (ℕ × ℕ)). first_key l) e)
+  where
+    first_key : List (ℕ × ℕ) → ℕ
+    first_key [] = 0
+    first_key (p ∷ ps) = p.0
+
+-- It ends at a pair that fails, though one behind it passes.
+a_row_that_fails_ends_nothing : sifted is_seven (contents nat_cmp (((1, Some 8) ∷ (2, Some 7) ∷ []) ∷ [])) ≡ [] → ⊥
+a_row_that_fails_ends_nothing e = omega (arith, ap length e)
+
+-- It gives a pair that fails.
+a_row_that_fails_is_not_given : (rest : List (ℕ × ℕ)) → sifted is_seven (contents nat_cmp (((1, Some 8) ∷ []) ∷ [])) ≡ option_to_list (Some (1, 8)) ++ rest → ⊥
+a_row_that_fails_is_not_given rest e = omega (arith, ap length e)

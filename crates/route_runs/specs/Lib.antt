@@ -16,3 +16,4 @@ pub mod Origins
 pub mod Spots
 pub mod AddressOrder
 pub mod Sets
+pub mod Sift

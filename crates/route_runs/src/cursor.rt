@@ -234,8 +234,8 @@ fn first_row<'a, K: RunKey, A>(
     first
 }
 
-// The first live pair after a place.
-fn first_near<'a, K: RunKey, A>(
+/// The first live pair after a place.
+pub(crate) fn first_near<'a, K: RunKey, A>(
     runs: &'a [Arc<Run<K, A>>],
     place: Option<K>,
     hints: &mut [usize; 40],
@@ -254,8 +254,11 @@ fn first_near<'a, K: RunKey, A>(
     }
 }
 
-// The key of the pair that was found, or the place before.
-fn place_of_next<K: RunKey, A>(place: Option<K>, found: &Option<(K, &Arc<A>)>) -> Option<K>
+/// The key of the pair that was found, or the place before.
+pub(crate) fn place_of_next<K: RunKey, A>(
+    place: Option<K>,
+    found: &Option<(K, &Arc<A>)>,
+) -> Option<K>
     ensures { result ≡ moved place (option_map shown found.now) }
 {
     match found {

@@ -15,10 +15,11 @@
 //! look-up, `walk` gives the pairs from a place on in the order of NLRI, each once, `count` is their number; `longest` is
 //! the longest prefix that holds an address (RFC 1812, section 5.2.4.3), in at most 33 or 129 looks, which `Steps` of
 //! `prefix_trie` counts; `origin` gives the routes of an origin AS (RFC 6811, section 2) from a place on, with an index or
-//! without one. How runs are merged, and how long the index by origin is, is in no contract of a public call.
-//! Begin with `src/table.rt`, `src/family.rt` and `src/changes.rt`, then `specs/Runs.antt`, `specs/Longest.antt` and
-//! `specs/Origins.antt`; the rows of a run are in `specs/Rows.antt`, their merging in `src/weave.rt` and
-//! `proofs/Merging.antt`.
+//! without one; `sift` gives the routes whose attributes pass a test of the caller. How runs are merged, and how long the
+//! index by origin is, is in no contract of a public call.
+//! Begin with `src/table.rt`, `src/family.rt` and `src/changes.rt`, then `specs/Runs.antt`, `specs/Longest.antt`,
+//! `specs/Origins.antt` and `specs/Sift.antt`; the rows of a run are in `specs/Rows.antt`, their merging in
+//! `src/weave.rt` and `proofs/Merging.antt`.
 #![tactic(auto)]
 
 mod back;
@@ -48,6 +49,8 @@ mod run;
 mod runs;
 mod see;
 mod sets;
+mod sift;
+mod spots;
 mod table;
 mod table_cursor;
 mod tidy;
@@ -58,5 +61,6 @@ mod weave;
 pub use changes::Changes;
 pub use origin_walk::OriginWalk;
 pub use sets::SetTest;
+pub use sift::{RouteTest, SiftWalk};
 pub use table::RouteTable;
 pub use walk::{Place, Walk};

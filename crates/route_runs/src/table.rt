@@ -12,6 +12,7 @@ ghost use Rattle.route_runs.specs.Override.{value_at};
 ghost use Rattle.route_runs.specs.Places.{is_after, is_from};
 ghost use Rattle.route_runs.specs.Runs.{shared, IsChanged};
 ghost use Rattle.route_runs.specs.Sets.{RoutePasses};
+ghost use Rattle.route_runs.specs.Sift.{of_named, sifted};
 ghost use Rattle.route_runs.specs.Walk.{left, pairs_from};
 
 use crate::changes::Changes;
@@ -22,6 +23,7 @@ use crate::looks::Looks;
 use crate::nlri_key::{Key4, Key6};
 use crate::origin_walk::{OriginWalk, least};
 use crate::sets::{SetTest, all_pass};
+use crate::sift::{RouteTest, Sift, SiftWalk};
 use crate::table_cursor::{TableCursor, family_of};
 use crate::walk::{Place, Walk};
 use ip_prefix::{Addr, Family, Nlri, Prefix};
@@ -195,6 +197,37 @@ impl RouteTable {
             asn,
             place,
             at,
+        }
+    }
+
+    /// The routes whose attributes pass a test, in the order of NLRI: those of a family where one is named, else all. It
+    /// takes no memory. Routes beside each other with the same list of attributes cost one test, and routes that don't pass
+    /// aren't compared.
+    pub fn sift<'a, T: RouteTest>(&'a self, family: Option<Family>, test: &'a T) -> SiftWalk<'a, T>
+        ensures { result ≡ sifted (T.passes test.now) (of_named family self.now) }
+    {
+        match family {
+            None => SiftWalk {
+                ipv4: Some(Sift::new(self.ipv4.rows(), test)),
+                ipv6: Some(Sift::new(self.ipv6.rows(), test)),
+            },
+            Some(family) => self.sift_of(family, test),
+        }
+    }
+
+    // The same of one family.
+    fn sift_of<'a, T: RouteTest>(&'a self, family: Family, test: &'a T) -> SiftWalk<'a, T>
+        ensures { result ≡ sifted (T.passes test.now) (with_family family self.now) }
+    {
+        match family {
+            Family::V4 => SiftWalk {
+                ipv4: Some(Sift::new(self.ipv4.rows(), test)),
+                ipv6: None,
+            },
+            Family::V6 => SiftWalk {
+                ipv4: None,
+                ipv6: Some(Sift::new(self.ipv6.rows(), test)),
+            },
         }
     }
 

@@ -14,8 +14,8 @@ use crate::runs::Runs;
 use std::sync::Arc;
 
 impl<K: RunKey, A> Run<K, A> {
-    // Whether the run has a key with a set, or says that the key is gone; and where the keys after it begin.
-    fn has_set(&self, key: &K, hint: usize) -> (Option<bool>, usize)
+    /// Whether the run has a key with a set, or says that the key is gone; and where the keys after it begin.
+    pub(crate) fn has_set(&self, key: &K, hint: usize) -> (Option<bool>, usize)
         ensures { result.0 ≡ option_map is_some (value_at K.cmp key.now self.now) }
     {
         let at = near_key(&self.keys, key, hint);
