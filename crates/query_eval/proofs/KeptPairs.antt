@@ -9,17 +9,21 @@ use Rattle.std.specs.Ordering.{is_eq}
 use Rattle.std.specs.Prelude.{◌&&◌}
 use Rattle.bmp_specs.specs.declared.wire.Family.{Family}
 use Rattle.bmp_specs.specs.declared.wire.Family.TheVariants.{V4, V6}
-use Rattle.bmp_specs.specs.Orders.{family_cmp}
+use Rattle.bmp_specs.specs.Orders.{family_cmp, nlri_cmp}
 use Rattle.bmp_specs.specs.Values.{AttrsValue, NlriValue}
 use Rattle.ask_specs.specs.Traits.{TraitsValue, no_traits, HasTraits}
 use Rattle.route_runs.specs.Nlri.{is_family, is_same, with_family}
+use Rattle.route_runs.specs.Runs.{in_order}
+use Rattle.route_runs.specs.Sift.{of_named, sifted}
 use Rattle.route_runs.proofs.Left.{all_pass}
+use Rattle.route_runs.proofs.Merging.{Rising}
 use Rattle.router_tables.specs.Views.{Table}
 use Rattle.query_eval.specs.declared.run.Part.TheVariants.{Whole}
 use Rattle.query_eval.specs.Rows.{Asking, asked_of, asks_run, kept, passes, row_of}
 use Rattle.query_eval.specs.RowRuns.{front_of}
 use Rattle.query_eval.specs.RowTables.{PeerTableValue}
 use Rattle.query_eval.proofs.RowLists.{kept_twice}
+use Rattle.query_eval.proofs.RowOrder.{in_order_rising}
 use Rattle.query_eval.proofs.TraitLaws.{traits_decide}
 use Rattle.query_eval.specs.TraitTests.{has_traits}
 
@@ -74,3 +78,15 @@ pub family_asked : (f : Family) (family : Option Family) (traits : TraitsValue) 
 family_asked f family traits t named nothing =
     rw (named, nothing)
     (ap length (filter_agree (λ (e : NlriValue × AttrsValue). is_family f e.0) (λ (e : NlriValue × AttrsValue). is_eq (family_cmp f e.0.prefix.address.family) && true) (λ e. asks_one f e.0.prefix.address.family) t.pairs) ∙ sym (length-map _ (row_of t.key t.view)))
+
+-- what a sift of a table gives is what is asked for of the whole table, or of its rows of a family
+both_true : (b : Bool) → b ≡ (b && true)
+both_true true = refl
+both_true false = refl
+
+sifted_whole : (family : Option Family) (traits : TraitsValue) (es : Table) → sifted (has_traits traits) (of_named family es) ≡ filter (whole family traits es) es
+sifted_whole None traits es = filter_agree (passes traits) (whole None traits es) (λ e. both_true (passes traits e)) es
+sifted_whole (Some f) traits es = kept_twice (passes traits) (λ (e : NlriValue × AttrsValue). is_family f e.0) (whole (Some f) traits es) (λ e. ap (λ (b : Bool). passes traits e && b) (asks_one f e.0.prefix.address.family)) es
+
+pub sift_told : (family : Option Family) (traits : TraitsValue) (es walk : Table) → Rising nlri_cmp es → walk ≡ sifted (has_traits traits) (of_named family es) → walk ≡ filter (whole family traits (in_order nlri_cmp es)) (in_order nlri_cmp es)
+sift_told family traits es walk rising w = w ∙ sifted_whole family traits es ∙ ap (λ (l : Table). filter (whole family traits l) l) (sym (in_order_rising nlri_cmp es rising))

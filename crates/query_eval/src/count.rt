@@ -4,27 +4,17 @@ ghost use Rattle.bmp_specs.specs.Reply.{told_count};
 ghost use Rattle.query_lang.specs.TraitValues.{traits_value};
 ghost use Rattle.route_runs.specs.Nlri.{with_family};
 ghost use Rattle.router_tables.specs.Tables.{StandsFor};
+ghost use Rattle.query_eval.specs.declared.run.Part.{Part};
 ghost use Rattle.query_eval.specs.Puts.{CountsKeptRows};
 ghost use Rattle.query_eval.specs.Rows.{asked_of, asks_run, kept};
 ghost use Rattle.query_eval.specs.RowTables.{table_value};
 
-use crate::kept::count_kept;
-use crate::run::{Part, Run};
+use crate::sifted::count_sifted;
 use crate::tables::{AskedTables, PeerTable};
 use crate::traits::asks_nothing;
 use bmp_specs::Family;
 use query_lang::{Select, Traits};
 use router_tables::RouterTables;
-
-// How many routes of a table are in a run and have what is asked, or 2^64 - 1 where there are more.
-fn count_run(table: &PeerTable<'_>, run: &Run, traits: &Traits) -> u64
-    ensures { result ≡ told_count (length (asked_of (kept (traits_value traits.now) (asks_run run.now)) (table_value table.now))) }
-{
-    let routes = table.table;
-    // for the proof: the pairs stand in the order of NLRI
-    routes.see_order();
-    count_kept(routes.walk(run.begin()), run, traits)
-}
 
 // How many routes a table has, or 2^64 - 1 where there are more.
 fn count_all(table: &PeerTable<'_>) -> u64
@@ -54,11 +44,7 @@ fn count_table(table: &PeerTable<'_>, family: Option<Family>, traits: &Traits) -
             None => count_all(table),
         };
     }
-    let run = Run {
-        family,
-        part: Part::Whole,
-    };
-    count_run(table, &run, traits)
+    count_sifted(table, family, traits)
 }
 
 /// How many rows `table` has of one lane with the same selectors, of which those whose routes have what is asked, or

@@ -1,5 +1,4 @@
-ghost use Rattle.std.specs.Prelude.{◌≡◌, ◌∷◌, length, map};
-ghost use Rattle.bmp_specs.specs.Reply.{told_count};
+ghost use Rattle.std.specs.Prelude.{◌≡◌, ◌∷◌, map};
 ghost use Rattle.route_runs.specs.Places.{shown};
 ghost use Rattle.query_eval.specs.Puts.{WritesLines};
 ghost use Rattle.query_eval.specs.RowRuns.{front_of};
@@ -57,16 +56,4 @@ pub(crate) fn put_while_in_run<'a, O: Sink, W: Pairs<'a> + Drop, T: TellsRow>(
         }
         None => Ok(0),
     }
-}
-
-/// How many routes a walk gives, up to the first that isn't in the run.
-pub(crate) fn count_while_in_run<'a, W: Pairs<'a> + Drop>(walk: W, run: &Run) -> u64
-    ensures { result ≡ told_count (length (front_of run.now (W.left walk))) }
-{
-    let mut walk = walk;
-    let mut count: u64 = 0;
-    while let Some(_found) = next_in_run(&mut walk, run) {
-        count = count.saturating_add(1);
-    }
-    count
 }

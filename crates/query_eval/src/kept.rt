@@ -1,5 +1,4 @@
-ghost use Rattle.std.specs.Prelude.{◌≡◌, ◌<◌, ◌∷◌, [], if◌then◌else◌, IfSome, IsNone, length, map};
-ghost use Rattle.bmp_specs.specs.Reply.{told_count};
+ghost use Rattle.std.specs.Prelude.{◌≡◌, ◌<◌, ◌∷◌, [], if◌then◌else◌, IfSome, IsNone, map};
 ghost use Rattle.std.specs.List.{filter};
 ghost use Rattle.query_lang.specs.TraitValues.{traits_value};
 ghost use Rattle.route_runs.specs.Places.{shown};
@@ -8,9 +7,9 @@ ghost use Rattle.query_eval.specs.RowRuns.{front_of};
 ghost use Rattle.query_eval.specs.Rows.{passes, row_of};
 
 use crate::batch::next_in_run;
-use crate::front::{count_while_in_run, put_while_in_run};
+use crate::front::put_while_in_run;
 use crate::pairs::Pairs;
-use crate::run::{Part, Run};
+use crate::run::{ALL, Run};
 use crate::tables::PeerTable;
 use crate::tells::TellsRow;
 use crate::traits::{asks_nothing, has_traits};
@@ -18,12 +17,6 @@ use ip_prefix::Nlri;
 use query_lang::Traits;
 use rib_model::Route;
 use wire_io::{Failed, Sink};
-
-// Every pair is in it.
-const ALL: Run = Run {
-    family: None,
-    part: Part::Whole,
-};
 
 // The next pair of a walk that is in the run and whose route has what is asked.
 fn next_kept<'a, W: Pairs<'a>>(
@@ -88,21 +81,4 @@ pub(crate) fn put_kept<'a, O: Sink, W: Pairs<'a> + Drop, T: TellsRow>(
         ended: false,
     };
     put_while_in_run(out, lane, table, kept, &ALL, tells)
-}
-
-/// How many routes a walk gives, up to the first that isn't in the run, of which those that have what is asked. Where
-/// nothing is asked no route is tested.
-pub(crate) fn count_kept<'a, W: Pairs<'a> + Drop>(walk: W, run: &Run, traits: &Traits) -> u64
-    ensures { result ≡ told_count (length (filter (passes (traits_value traits.now)) (front_of run.now (W.left walk)))) }
-{
-    if asks_nothing(traits) {
-        return count_while_in_run(walk, run);
-    }
-    let kept = Kept {
-        walk,
-        run: *run,
-        traits,
-        ended: false,
-    };
-    count_while_in_run(kept, &ALL)
 }

@@ -31,6 +31,7 @@ mod routers;
 mod run;
 mod run_rows;
 mod selection;
+mod sifted;
 mod stats;
 mod steps;
 mod tables;

@@ -5,7 +5,7 @@ ghost use Rattle.router_tables.specs.Views.{Table};
 
 use ip_prefix::Nlri;
 use rib_model::Route;
-use route_runs::{OriginWalk, Walk};
+use route_runs::{OriginWalk, RouteTest, SiftWalk, Walk};
 
 /// A walk over routes of a table in the order of NLRI.
 pub(crate) trait Pairs<'a> {
@@ -27,6 +27,14 @@ impl<'a> Pairs<'a> for Walk<'a> {
 }
 
 impl<'a> Pairs<'a> for OriginWalk<'a> {
+    ghost left = { λ walk. walk };
+
+    fn next_pair(&mut self) -> Option<(Nlri, &'a Route)> {
+        self.next()
+    }
+}
+
+impl<'a, T: RouteTest> Pairs<'a> for SiftWalk<'a, T> {
     ghost left = { λ walk. walk };
 
     fn next_pair(&mut self) -> Option<(Nlri, &'a Route)> {

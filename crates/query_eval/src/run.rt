@@ -1,4 +1,4 @@
-ghost use Rattle.std.specs.Prelude.{◌≡◌};
+ghost use Rattle.std.specs.Prelude.{◌≡◌, IsTrue};
 ghost use Rattle.bmp_specs.specs.Address.{IsAddressPrefix};
 ghost use Rattle.route_runs.specs.declared.walk.Place.TheVariants.{From as FromNlri};
 ghost use Rattle.std.specs.Prelude.{None as NoId};
@@ -28,6 +28,12 @@ pub(crate) struct Run {
     pub(crate) family: Option<Family>,
     pub(crate) part: Part,
 }
+
+/// Every NLRI is in it.
+pub(crate) const ALL: Run = Run {
+    family: None,
+    part: Part::Whole,
+};
 
 // Whether the prefix is what is asked for.
 fn is_in_part(part: &Part, prefix: &Prefix) -> bool
@@ -80,6 +86,16 @@ impl Run {
     {
         is_family_named(self.family, nlri.prefix.addr().family())
             && is_in_part(&self.part, &nlri.prefix)
+    }
+
+    /// Whether every prefix is asked for.
+    pub(crate) fn is_whole(&self) -> bool
+        ensures { IsTrue result → self.now.part ≡ Part.Whole }
+    {
+        match self.part {
+            Part::Whole => true,
+            _ => false,
+        }
     }
 
     /// The place where the run begins.

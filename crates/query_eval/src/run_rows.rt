@@ -7,13 +7,16 @@ ghost use Rattle.query_eval.specs.RowTables.{table_value};
 use crate::asks::Asks;
 use crate::kept::put_kept;
 use crate::run::Run;
+use crate::sifted::put_sifted;
 use crate::tables::PeerTable;
 use crate::tells::TellsRow;
+use crate::traits::asks_nothing;
 use query_lang::Traits;
 use wire_io::{Failed, Sink};
 
 /// Writes the lines of a table's rows that are in a run and whose routes have what is asked, and answers how many. It looks
-/// at no row but those of the run and the first after them.
+/// at no row but those of the run and the first after them. A whole table, or its rows of a family, it has sift its routes, where
+/// something is asked of them.
 pub(crate) fn put_run<O: Sink, T: TellsRow>(
     out: &mut O,
     lane: u32,
@@ -24,6 +27,9 @@ pub(crate) fn put_run<O: Sink, T: TellsRow>(
 ) -> Result<u64, Failed>
     ensures { WritesLines O.faults O.told O.aside out.old (map (T.line tells.now lane) (asked_of (kept (traits_value traits.now) (asks_run run.now)) (table_value table.now))) result out.new }
 {
+    if run.is_whole() && !asks_nothing(traits) {
+        return put_sifted(out, lane, table, run.family, traits, tells);
+    }
     let routes = table.table;
     // for the proof: the pairs stand in the order of NLRI
     routes.see_order();

@@ -211,8 +211,8 @@ fn has_named(attrs: &Attrs, traits: &Traits) -> bool
     has_named_community(attrs, &traits.community) && has_named_other(attrs, traits.other)
 }
 
-// Whether a route has all that is asked of it.
-fn passes(attrs: &Attrs, traits: &Traits) -> bool
+/// Whether a route has all that is asked of it, as a test.
+pub(crate) fn passes(attrs: &Attrs, traits: &Traits) -> bool
     ensures { result ≡ has_traits (traits_value traits.now) attrs.now }
 {
     has_named_path(attrs, &traits.through) && has_named(attrs, traits)
