@@ -8,7 +8,7 @@ use Rattle.bmp_specs.specs.PrefixText.{IsPrefixText}
 use Rattle.bmp_specs.specs.Values.{PrefixValue}
 use Rattle.station_words.specs.declared.drill_words.DrillWords.{DrillWords}
 use Rattle.station_words.specs.declared.words.Command.TheVariants.{Check, Drill, Relay, Serve, Rov, Archive, Help, Version}
-use Rattle.station_words.specs.Complaints.{AreCall, AreLanes, AreServe, AreMessages, AreSound, IsBeginning, IsBestBeginning, IsSeed, IsTextName, JoinWords, JoinsWords, IsValueOf, Complains, FrontComplains, Follow, IsGiven, Knows, ServeComplains, StandInFront, StandSound, Tells, is_seen, name_of}
+use Rattle.station_words.specs.Complaints.{AreCall, AreFrontWords, AreLanes, AreServe, AreMessages, AreSound, IsBeginning, IsBestBeginning, IsSeed, IsTextName, JoinWords, JoinsWords, IsValueOf, Complains, FrontComplains, Follow, IsGiven, Knows, ServeComplains, StandInFront, StandSound, Tells, is_seen, name_of}
 use Rattle.station_words.specs.ServeWords.{Setting, AreSettings, Gives, IsInFront, MayGive, flag_alone, one_word, two_words, values_of}
 use Rattle.bmp_specs.specs.Query.{space}
 use Rattle.ask_specs.specs.Asking.{AskValue}
@@ -41,10 +41,10 @@ no_texts text (word ∷ words) none = absurd (some_words word words none)
 pub still_best : (asked : List (List ℕ)) (good count : ℕ) → IsBestBeginning good count asked → (IsBeginning count asked → ⊥) → IsBestBeginning good (count + 1) asked
 still_best asked good count (is, none) here = (is, below_more (λ (k : ℕ). good < k → IsBeginning k asked → ⊥) count none (λ above. here))
 
--- words that are neither `steps` alone nor ask something are no beginning
-pub none_begins : (count : ℕ) (asked : List (List ℕ)) → (take count asked ≡ codes "steps" ∷ [] → ⊥) → ((ask : AskValue) → IsAsking (join_with_byte space (take count asked)) ask → ⊥) → IsBeginning count asked → ⊥
-none_begins count asked no_steps no_ask (inl same) = no_steps same
-none_begins count asked no_steps no_ask (inr (ask, is)) = no_ask ask is
+-- words that neither stand in front of a query alone nor ask something are no beginning
+pub none_begins : (count : ℕ) (asked : List (List ℕ)) → (AreFrontWords (take count asked) → ⊥) → ((ask : AskValue) → IsAsking (join_with_byte space (take count asked)) ask → ⊥) → IsBeginning count asked → ⊥
+none_begins count asked no_front no_ask (inl front) = no_front front
+none_begins count asked no_front no_ask (inr (ask, is)) = no_ask ask is
 
 -- one setting more in front
 pub stand_more : (ss : List Setting) (s : Setting) (given words left : List (List ℕ)) → StandInFront ss given words → IsInFront s words left → StandInFront (ss ++ s ∷ []) given left

@@ -183,7 +183,9 @@ a_wrong_seed_comes_before_what_is_missing (no_messages named seed lanes split is
 -- an empty word is no beginning of a query
 an_empty_word_is_no_good_beginning : IsGoodBeginning 1 ([] ∷ []) → ⊥
 an_empty_word_is_no_good_beginning (inl is) = absurd (cc is)
-an_empty_word_is_no_good_beginning (inr (inl same)) = absurd (cc same)
+an_empty_word_is_no_good_beginning (inr (inl (inl same))) = absurd (cc same)
+an_empty_word_is_no_good_beginning (inr (inl (inr (inl same)))) = absurd (cc same)
+an_empty_word_is_no_good_beginning (inr (inl (inr (inr same)))) = absurd (cc same)
 an_empty_word_is_no_good_beginning (inr (inr (ask, asking))) = no_line ask asking.is_offered
 
 -- of words that begin with a query the query is told
@@ -191,9 +193,15 @@ a_query_in_front_is_told : IsBestBeginning 0 2 (codes "cut" ∷ codes "x" ∷ []
 unfolding words_of
 a_query_in_front_is_told (is, none) = none 1 (omega arith) (omega arith) (inr (plain_query cut, record { is_offered = (offers_plain (codes "cut") cut (plain_query cut) (is_query (codes "cut") cut refl)).1 refl; goes_on = λ same. cc same }))
 
--- and `steps` in front of words that are none
+-- and `steps`, `full` and both in front of words that are none
 steps_in_front_is_told : IsBestBeginning 0 2 (codes "steps" ∷ codes "peers" ∷ []) → ⊥
-steps_in_front_is_told (is, none) = none 1 (omega arith) (omega arith) (inl refl)
+steps_in_front_is_told (is, none) = none 1 (omega arith) (omega arith) (inl (inl refl))
+
+full_in_front_is_told : IsBestBeginning 0 2 (codes "full" ∷ codes "cut" ∷ []) → ⊥
+full_in_front_is_told (is, none) = none 1 (omega arith) (omega arith) (inl (inr (inl refl)))
+
+full_behind_steps_is_told : IsBestBeginning 1 3 (codes "steps" ∷ codes "full" ∷ codes "cut" ∷ []) → ⊥
+full_behind_steps_is_told (is, none) = none 2 (omega arith) (omega arith) (inl (inr (inr refl)))
 
 -- ports that begin where the others end don't meet
 ports_side_by_side_do_not_meet : (feed feeds askers : ℕ) (given : List (List ℕ)) → ServeComplains (Meet feed feeds (feed + feeds) askers) given → ⊥

@@ -229,9 +229,13 @@ JoinsWords first = (first ≡ codes "replay") ⊎ (first ≡ codes "recall")
 abbrev pub JoinWords : List (List ℕ) → Type 0
 JoinWords words = (first : List ℕ) × (given : List (List ℕ)) × (words ≡ first ∷ given) × JoinsWords first
 
--- that many of the first words ask something, or are `steps` alone, behind which a query can stand
+-- the words stand in front of a query, and ask nothing by themselves: `steps`, `full` or both
+abbrev pub AreFrontWords : List (List ℕ) → Type 0
+AreFrontWords words = (words ≡ codes "steps" ∷ []) ⊎ ((words ≡ codes "full" ∷ []) ⊎ (words ≡ codes "steps" ∷ codes "full" ∷ []))
+
+-- that many of the first words ask something, or are those alone that stand in front of a query
 abbrev pub IsBeginning : ℕ → List (List ℕ) → Type 0
-IsBeginning count asked = (take count asked ≡ codes "steps" ∷ []) ⊎ ((ask : AskValue) × IsAsking (join_with_byte space (take count asked)) ask)
+IsBeginning count asked = AreFrontWords (take count asked) ⊎ ((ask : AskValue) × IsAsking (join_with_byte space (take count asked)) ask)
 
 -- the same, or 0
 abbrev pub IsGoodBeginning : ℕ → List (List ℕ) → Type 0

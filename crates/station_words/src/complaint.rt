@@ -5,7 +5,7 @@
 
 ghost use Rattle.std.specs.Prelude.{◌≡◌, ◌↔◌, ◌+◌, ◌≤◌, ◌⊎◌, [], ◌∷◌, ℕ, List, IsTrue, IfSome, IfNone, codes, length, map};
 ghost use Rattle.std.specs.String.{string_bytes};
-ghost use Rattle.station_words.specs.Complaints.{AreAsked, AreCall, Complains, IsBestBeginning, IsTextName, JoinWords, JoinsWords};
+ghost use Rattle.station_words.specs.Complaints.{AreAsked, AreCall, AreFrontWords, Complains, IsBestBeginning, IsTextName, JoinWords, JoinsWords};
 ghost use Rattle.station_words.specs.Words.{IsCall};
 ghost use Rattle.station_words.specs.declared.words.Call.{Call as AnyCall};
 
@@ -26,7 +26,8 @@ pub enum Complaint<'a> {
     /// The first is no command.
     NoCommand(&'a str),
 
-    /// These are no query: the first `good` of them are one, or are `steps` alone, and no longer beginning is.
+    /// These are no query: the first `good` of them are one, or are those alone that stand in front of one (`steps`, `full` or
+    /// both), and no longer beginning is.
     NoQuery {
         asked: &'a [String],
         good: usize,
@@ -87,25 +88,26 @@ pub enum Complaint<'a> {
     },
 }
 
-// Whether the words are `steps` alone, behind which a query can stand.
-fn are_steps(words: &[String]) -> bool
-    ensures { IsTrue result ↔ (map string_bytes words.now ≡ codes "steps" ∷ []) }
+// Whether the words are `steps`, `full` or both, behind which a query can stand.
+fn are_front_words(words: &[String]) -> bool
+    ensures { IsTrue result ↔ AreFrontWords (map string_bytes words.now) }
 {
     match words {
-        [word] => is_word(word.as_str(), "steps"),
+        [word] => is_word(word.as_str(), "steps") || is_word(word.as_str(), "full"),
+        [first, second] => is_word(first.as_str(), "steps") && is_word(second.as_str(), "full"),
         _ => false,
     }
 }
 
-// So many words, where the first of these are a query that has a reply, or `steps` alone, or else as many as before: the most of
-// those seen. None where memory is wanting.
+// So many words, where the first of these are a query that has a reply, or those alone that stand in front of one, or else as
+// many as before: the most of those seen. None where memory is wanting.
 fn more_good(alloc: Global, asked: &[String], good: usize, count: usize) -> Option<usize>
     requires within { count ≤ length asked.now }
     requires best { IsBestBeginning good count (map string_bytes asked.now) }
     ensures { IfSome result (λ more. IsBestBeginning more (count + 1) (map string_bytes asked.now)) }
 {
     let beginning = &asked[..count];
-    if are_steps(beginning) {
+    if are_front_words(beginning) {
         return Some(count);
     }
     match read_asked(alloc, beginning) {
@@ -115,8 +117,8 @@ fn more_good(alloc: Global, asked: &[String], good: usize, count: usize) -> Opti
     }
 }
 
-// How many of the first words are a query that has a reply, or `steps` alone: the most that are so, and not all. 0 where none
-// are. None where memory is wanting.
+// How many of the first words are a query that has a reply, or those alone that stand in front of one: the most that are so, and
+// not all. 0 where none are. None where memory is wanting.
 fn good_words(alloc: Global, asked: &[String]) -> Option<usize>
     ensures { IfSome result (λ good. IsBestBeginning good (length asked.now) (map string_bytes asked.now)) }
 {
