@@ -5,12 +5,20 @@ use station_top::{Command, Shown, Status, file_word, read_words, why_no_command}
 use std::alloc::Global;
 use std::fmt;
 use std::fmt::{Display, Formatter};
-use std::io::{self, Eprint};
+use std::io::{self, Eprint, ErrorKind};
+
+// A file that the words name.
+#[derive(Clone, Copy)]
+struct Named<'a> {
+    path: &'a str,
+    // It is an archive that is asked.
+    recalled: bool,
+}
 
 // What couldn't be had: a port, the file that the words name, or the input; and why.
 #[derive(Drop)]
 struct Lacking<'a> {
-    file: Option<&'a str>,
+    file: Option<Named<'a>>,
     fault: Option<&'a HostFault>,
 }
 
@@ -27,21 +35,41 @@ impl Display for Lacking<'_> {
                 at.ip(),
                 fault.error
             ),
-            (None, Some(file)) => write!(f, "{}: {}", Shown(file), fault.error),
+            (None, Some(file)) => {
+                // The lock of a file that is kept is another program's (`flock`).
+                if fault.error.kind() == ErrorKind::WouldBlock {
+                    let cure = if file.recalled {
+                        ": copy it, and ask the copy"
+                    } else {
+                        ""
+                    };
+                    return write!(
+                        f,
+                        "{}: another program is writing it{cure}",
+                        Shown(file.path)
+                    );
+                }
+                write!(f, "{}: {}", Shown(file.path), fault.error)
+            }
             (None, None) => write!(f, "standard input: {}", fault.error),
         }
     }
 }
 
 // The file that the words name, where their command has one.
-fn file_of(alloc: Global, words: &[String]) -> Option<&str> {
+fn file_of(alloc: Global, words: &[String]) -> Option<Named<'_>> {
     match read_words(alloc, words) {
-        Ok(call) => match call.command {
-            Command::Rov(_) | Command::Archive | Command::Recall(_) => {
-                Some(file_word(words, call.lenient))
-            }
-            _ => None,
-        },
+        Ok(call) => {
+            let recalled = match call.command {
+                Command::Recall(_) => true,
+                Command::Rov(_) | Command::Archive => false,
+                _ => return None,
+            };
+            Some(Named {
+                path: file_word(words, call.lenient),
+                recalled,
+            })
+        }
         Err(_) => None,
     }
 }
