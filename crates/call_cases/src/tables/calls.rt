@@ -18,6 +18,7 @@ enum Call {
     Counts,
     Trie,
     Table,
+    Sift,
     Session,
     VrpFile,
     Verdict,
@@ -29,7 +30,7 @@ enum Call {
     Line,
 }
 
-const CALLS: [(&str, Call); 20] = [
+const CALLS: [(&str, Call); 21] = [
     ("lanes", Call::Lanes),
     ("ask", Call::Ask),
     ("ask-failing", Call::AskFailing),
@@ -41,6 +42,7 @@ const CALLS: [(&str, Call); 20] = [
     ("counts", Call::Counts),
     ("trie", Call::Trie),
     ("table", Call::Table),
+    ("sift", Call::Sift),
     ("session", Call::Session),
     ("vrp-file", Call::VrpFile),
     ("verdict", Call::Verdict),
@@ -102,6 +104,7 @@ fn on_tables(line: &mut Line, call: Call, case: &str, words: &[&str]) {
         Call::Counts => statistics::counts(line, words),
         Call::Trie => tries::trie(line, words),
         Call::Table => route_tables::table(line, words),
+        Call::Sift => route_tables::sift(line, words),
         Call::Session => sessions::session(line, words),
         _ => on_lines(line, call, case, words),
     }

@@ -2,14 +2,16 @@
 //! prefixes of 0.0.0.0/32, 0.0.0.1/32 and so on, each with attributes of its own. Each change makes a new table. A
 //! route's origin AS is the rest of its MULTI_EXIT_DISC by seven.
 
-ghost use Rattle.std.specs.Prelude.{◌≡◌, ◌<◌};
+ghost use Rattle.std.specs.Prelude.{◌≡◌, ◌<◌, false, nat_eq, unwrap_or};
+ghost use Rattle.std.specs.Option.{option_map};
 
 use super::routes::{nlri_of, nlris_of, route_of};
-use crate::line::{Line, at, behind, number_at};
-use ip_prefix::{Addr, Nlri, Prefix, parse_addr};
+use crate::line::{Line, at, behind, family_at, number_at};
+use ip_prefix::{Addr, Family, Nlri, Prefix, parse_addr};
+use path_attrs::Attrs;
 use prefix_trie::Steps;
 use rib_model::Route;
-use route_runs::{Changes, Place, RouteTable};
+use route_runs::{Changes, Place, RouteTable, RouteTest};
 use std::alloc::Global;
 use std::marker::Brand;
 use std::sync::ledger::{Blank, Ledger};
@@ -259,4 +261,67 @@ fn put_with<L: Ledger>(out: &mut Line, words: &[&str], blank: Blank)
 
 pub(crate) fn table(out: &mut Line, words: &[&str]) {
     put_with::<Brand>(out, words, Blank::new(1));
+}
+
+// A test of a route's MULTI_EXIT_DISC.
+#[derive(Clone, Copy)]
+struct HasMed {
+    med: u32,
+}
+
+impl RouteTest for HasMed {
+    ghost passes = { λ test attrs. unwrap_or (option_map (λ med. nat_eq med test.med) attrs.med) false };
+
+    fn test(&self, attrs: &Attrs) -> bool {
+        match attrs.med {
+            Some(med) => med == self.med,
+            None => false,
+        }
+    }
+}
+
+// The family of a word, or both where it is `-`.
+fn families_at(words: &[&str], place: usize) -> Option<Family> {
+    if at(words, place) == "-" {
+        None
+    } else {
+        Some(family_at(words, place))
+    }
+}
+
+// How many routes pass a test, and the first of them.
+fn put_sifted(
+    out: &mut Line,
+    table: &RouteTable,
+    family: Option<Family>,
+    test: &HasMed,
+    most: u32,
+) {
+    out.show("", &table.sift(family, test).count());
+    let mut walk = table.sift(family, test);
+    for _ in 0..most {
+        if let Some((nlri, route)) = walk.next() {
+            put_row(out, &nlri, route);
+        } else {
+            break;
+        }
+    }
+}
+
+// Makes the changes after four words, and shows the routes of a family, or of both, that have this MULTI_EXIT_DISC.
+pub(crate) fn sift(out: &mut Line, words: &[&str]) {
+    let mut table = RouteTable::new(out.alloc);
+    if !take_all(out.alloc, &mut table, behind(words, 4)) {
+        out.put("not changed");
+    }
+    let test = HasMed {
+        med: number_at(words, 2),
+    };
+    put_sifted(
+        out,
+        &table,
+        families_at(words, 1),
+        &test,
+        number_at(words, 3),
+    );
 }
