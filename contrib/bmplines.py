@@ -314,11 +314,12 @@ def read_peer(words):
 
 
 def read_mark(words):
-    router, peer, view, family, state = words
+    router, peer, view, family, state, *rest = words
     if state not in ("complete", "waiting"):
         raise ValueError(state)
-    return {"router": number(router), "peer": key_of(peer), "view": view_of(view), "family": number(family),
-            "complete": state == "complete"}
+    fields = {"router": number(router), "peer": key_of(peer), "view": view_of(view), "family": number(family),
+              "complete": state == "complete"}
+    return fields | {"rows": number(pairs(rest, ("rows",))["rows"])} if rest else fields
 
 
 def read_stat(words):

@@ -60,7 +60,8 @@ def text_of(f):
     if kind == "lane":
         return f"lane {f['router']} {f['entries']}"
     if kind == "mark":
-        return f"mark {f['router']} {f['peer']} {f['view']} {f['family']} {'complete' if f['complete'] else 'waiting'}"
+        rows = f" rows={f['rows']}" if "rows" in f else ""
+        return f"mark {f['router']} {f['peer']} {f['view']} {f['family']} {'complete' if f['complete'] else 'waiting'}{rows}"
     if kind == "stat":
         family = f"{f['afi']}/{f['safi']} " if "afi" in f else ""
         return f"stat {f['router']} {f['peer']} {f['code']} {f['name']} {family}{f['value']}"
