@@ -1,4 +1,5 @@
 """Metrics in the text format of Prometheus, and a server that tells them. It is no part of what is proved."""
+import contextlib
 import re
 from http.server import BaseHTTPRequestHandler, ThreadingHTTPServer
 
@@ -39,11 +40,13 @@ def server_of(address, port, scrape):
 
         def reply(self, status, kind, text):
             data = text.encode("utf-8")
-            self.send_response(status)
-            self.send_header("Content-Type", kind)
-            self.send_header("Content-Length", str(len(data)))
-            self.end_headers()
-            self.wfile.write(data)
+            # Who asked may have waited long enough, and have gone.
+            with contextlib.suppress(ConnectionError):
+                self.send_response(status)
+                self.send_header("Content-Type", kind)
+                self.send_header("Content-Length", str(len(data)))
+                self.end_headers()
+                self.wfile.write(data)
 
         def log_message(self, *_):
             pass
