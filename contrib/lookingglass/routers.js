@@ -18,7 +18,8 @@ function downText(row) {
 
 function tablesOf(marks) {
   const name = mark => `${VIEW_NAMES[mark.view]} IPv${mark.family}`;
-  const done = marks.filter(mark => mark.complete), waiting = marks.filter(mark => !mark.complete);
+  // Of a table without a row and without an End-of-RIB no message came: it waits for nothing. Not every station tells the rows.
+  const done = marks.filter(mark => mark.complete), waiting = marks.filter(mark => !mark.complete && mark.rows !== 0);
   const views = [...new Set(waiting.map(mark => mark.view))];
   const families = view => waiting.filter(mark => mark.view === view).map(mark => 'IPv' + mark.family).join(', ');
   const table = mark => h('span', {class: 'badge good', 'data-table': `${mark.view} ${mark.family}`}, name(mark) + ' complete');

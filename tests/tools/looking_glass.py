@@ -44,7 +44,7 @@ def a_looking_glass_answers_what_the_station_does():
                  ("routes?within=192.0.0.0/8&community=rt:65011:5&through=65011&other=16",
                   "full within 192.0.0.0/8 family 4 through 65011 community rt:65011:5 other 16"),
                  ("routers", "routers"), ("peers", "peers"), (f"peers?router=0&peer={key}", f"peers router 0 peer {key}"),
-                 ("marks?view=loc", "marks view loc")]
+                 ("marks?view=loc", "full marks view loc" if lines_of("full marks") else "marks view loc")]
     with Serving(1, 2) as station, LookingGlass(station.ask_port, "--connections", 1) as glass:
         same([row["state"] for row in asked(glass, "/api/routers")["rows"]], ["idle"], "before any router")
         link = station.feed(0, STREAM.read_bytes())
@@ -86,7 +86,7 @@ def a_router_by_its_name():
             for target, wanted in (("routes?prefix=10.0.0.0/8&view=loc", [f"marks router {lane} view loc family 4",
                                     f"full prefix 10.0.0.0/8 router {lane} view loc family 4", f"marks router {lane} view loc family 4"]),
                                    ("count?family=6", [f"count router {lane} family 6"]), ("peers", [f"peers router {lane}"]),
-                                   ("marks", [f"marks router {lane}"]), ("changes?prefix=10.0.0.0/8&from=5", [f"full changes {lane} 5 10.0.0.0/8"])):
+                                   ("marks", [f"full marks router {lane}"]), ("changes?prefix=10.0.0.0/8&from=5", [f"full changes {lane} 5 10.0.0.0/8"])):
                 queries.clear()
                 sign = "&" if "?" in target else "?"
                 asked(glass, f"/api/{target}{sign}{urllib.parse.urlencode({'router': name})}")
