@@ -4,13 +4,13 @@ use Rattle.std.specs.List.{join_with_byte}
 use Rattle.std.proofs.lemmas.Bool.{true≢false}
 use Rattle.std.proofs.lemmas.List.Elements.{All-nil, All-cons, All-head, All-tail}
 use Rattle.bmp_specs.specs.PrefixText.{IsPrefixText}
-use Rattle.bmp_specs.specs.Query.{QueryValue, exact, AreQueryWords, IsQuery, IsSelector, IsWord, space}
-use Rattle.bmp_specs.specs.Selection.{select_all}
+use Rattle.bmp_specs.specs.Query.{QueryValue, exact, marks, AreQueryWords, IsQuery, IsSelector, IsWord, space}
+use Rattle.bmp_specs.specs.Selection.{SelectValue, select_all}
 use Rattle.bmp_specs.specs.Values.{PrefixValue}
-use Rattle.ask_specs.specs.Asking.{AskValue, plain, rows, steps, AreAskWords, AreRowsWords, AreStepsWords, AreTraits, AsksOne, AsksOneQuery, IsAsk, IsConservative, IsFlag, IsPrefixWord}
+use Rattle.ask_specs.specs.Asking.{AskValue, plain, rows, steps, full_marks, AreAskWords, AreFullMarksWords, AreRowsWords, AreStepsWords, AreTraits, AsksOne, AsksOneQuery, AsksForRows, IsAsk, IsConservative, IsFlag, IsPrefixWord}
 use Rattle.ask_specs.specs.Traits.{CommunityValue, TraitsValue, no_traits}
 use Rattle.ask_specs.specs.TraitText.{IsThroughText, IsCommunityText, IsTypeText}
-use Rattle.ask_specs.proofs.PlainWords.{ArePaired, IsHeaded, IsPlain, is_front, headed, alone, told_changes, by_one, by_two, headed_front, headed_one, not_changes, plain_bare, plain_changes, plain_front, query_plain, rows_headed, traits_paired}
+use Rattle.ask_specs.proofs.PlainWords.{ArePaired, IsHeaded, IsPlain, is_front, headed, alone, told_changes, by_one, by_two, headed_front, headed_one, marks_headed, not_changes, plain_bare, plain_changes, plain_front, query_plain, rows_headed, traits_paired}
 use Rattle.ask_specs.proofs.CommunityOne.{community_one}
 use Rattle.ask_specs.proofs.TraitOne.{number_one, through_one, type_one}
 use Rattle.ask_specs.proofs.WordLaws.{Lacks, join_one, word_is_free, words_lack}
@@ -83,6 +83,9 @@ steps_further false lane from None words are =
     (are.spelled ∙ ap (λ (l : List (List ℕ)). l ++ (codes "changes" ∷ are.lane_text ∷ are.from_text ∷ are.prefix_words)) are.is_full ∙ ap (λ (l : List (List ℕ)). codes "changes" ∷ are.lane_text ∷ are.from_text ∷ l) are.is_prefix)
 steps_further false lane from (Some prefix) words are = absurd are.is_further
 
+marks_further : (select : SelectValue) (words : List (List ℕ)) → AreFullMarksWords select words → IsFurther words
+marks_further select words are = fronted (codes "full") are.marks_words are.spelled refl
+
 headed_some : (words : List (List ℕ)) → IsHeaded words → SomeWord words
 headed_some words (by_one v rest is front n p) = (v, rest, is)
 headed_some words (by_two v t rest is front n p) = (v, t ∷ rest, is)
@@ -101,6 +104,7 @@ pub ask_some : (ask : AskValue) (words : List (List ℕ)) → AreAskWords ask wo
 ask_some (plain query) words are = plain_some words (query_plain query words are)
 ask_some (rows s f query traits) words are = further_some words (rows_further s f query traits words are)
 ask_some (steps f lane from prefix) words are = further_some words (steps_further f lane from prefix words are)
+ask_some (full_marks select) words are = further_some words (marks_further select words are)
 
 -- ---- plain lines
 module _ (one : AsksOneQuery) where
@@ -113,6 +117,11 @@ module _ (one : AsksOneQuery) where
       absurd (further_not_plain is.words (subst IsFurther same fresh) old)
   only_plain line query (steps f lane from prefix) is asked =
       let fresh = steps_further f lane from prefix asked.words asked.asks in
+      let old = query_plain query is.words is.asks in
+      let same = words_one line asked.words is.words (further_some asked.words fresh) (plain_some is.words old) asked.are_words is.are_words asked.joined is.joined in
+      absurd (further_not_plain is.words (subst IsFurther same fresh) old)
+  only_plain line query (full_marks select) is asked =
+      let fresh = marks_further select asked.words asked.asks in
       let old = query_plain query is.words is.asks in
       let same = words_one line asked.words is.words (further_some asked.words fresh) (plain_some is.words old) asked.are_words is.are_words asked.joined is.joined in
       absurd (further_not_plain is.words (subst IsFurther same fresh) old)
@@ -281,6 +290,45 @@ module _ (one : AsksOneQuery) where
       (headed_no_front p.query_words p.traits_words (codes "full") hp refl) (changes_no_front (codes "full") (q.lane_text ∷ q.from_text ∷ q.prefix_words) refl) first.1 in
       not_changes p.query_words p.traits_words (q.lane_text ∷ q.from_text ∷ q.prefix_words) hp second.1
 
+  -- `marks` asks for no rows
+  no_rows : (query : QueryValue) (select : SelectValue) → AsksForRows query → ¬ (query ≡ marks select)
+  no_rows query select asks same = subst AsksForRows same asks
+
+  rows_or_marks : (words : List (List ℕ)) (s f : Bool) (query : QueryValue) (traits : TraitsValue) (select : SelectValue) → All IsWord words
+      → AreRowsWords s f query traits words → AreFullMarksWords select words → ⊥
+  rows_or_marks words s f query traits select all p q =
+      let hp = rows_headed query p.query_words p.asks p.is_query in
+      let hq = marks_headed select q.marks_words q.are_marks in
+      let bare = append-nil q.marks_words in
+      let no_front : (word : List ℕ) → is_front word ≡ true → ¬ (Begins word q.marks_words) = λ word new b. headed_no_front q.marks_words [] word hq new (b.0, bare ∙ b.1) in
+      let first = flag_one (codes "steps") s false p.steps_words [] (p.full_words ++ (p.query_words ++ p.traits_words)) (codes "full" ∷ q.marks_words) p.is_steps refl
+      (behind_flag f p.full_words (p.query_words ++ p.traits_words) p.is_full (headed_no_front p.query_words p.traits_words (codes "steps") hp refl))
+      (behind_flag true (codes "full" ∷ []) q.marks_words refl (no_front (codes "steps") refl)) (sym p.spelled ∙ q.spelled) in
+      let second = flag_one (codes "full") f true p.full_words (codes "full" ∷ []) (p.query_words ++ p.traits_words) q.marks_words p.is_full refl
+      (headed_no_front p.query_words p.traits_words (codes "full") hp refl) (no_front (codes "full") refl) first.1 in
+      let parts = headed_one p.query_words q.marks_words p.traits_words [] hp hq (traits_paired traits p.traits_words p.are_traits) tt (second.1 ∙ sym bare) in
+      let are : All IsWord q.marks_words = all_back (codes "full" ∷ []) q.marks_words (subst (All IsWord) q.spelled all) in
+      no_rows query select p.asks (query_one q.marks_words query (marks select) are (subst (AreQueryWords query) parts.0 p.is_query) q.are_marks)
+
+  steps_or_marks : (words : List (List ℕ)) (f : Bool) (lane from : ℕ) (prefix : Option PrefixValue) (select : SelectValue)
+      → AreStepsWords f lane from prefix words → AreFullMarksWords select words → ⊥
+  steps_or_marks words f lane from prefix select p q =
+      let hq = marks_headed select q.marks_words q.are_marks in
+      let bare = append-nil q.marks_words in
+      let tail = p.lane_text ∷ p.from_text ∷ p.prefix_words in
+      let first = flag_one (codes "full") f true p.full_words (codes "full" ∷ []) (codes "changes" ∷ tail) q.marks_words p.is_full refl
+      (changes_no_front (codes "full") tail refl) (λ b. headed_no_front q.marks_words [] (codes "full") hq refl (b.0, bare ∙ b.1)) (sym p.spelled ∙ q.spelled) in
+      not_changes q.marks_words [] tail hq (bare ∙ sym first.1)
+
+  marks_one : (words : List (List ℕ)) (a b : SelectValue) → All IsWord words → AreFullMarksWords a words → AreFullMarksWords b words → full_marks a ≡ full_marks b
+  marks_one words a b all p q =
+      let whole : codes "full" ∷ p.marks_words ≡ codes "full" ∷ q.marks_words = sym p.spelled ∙ q.spelled in
+      let same : p.marks_words ≡ q.marks_words = cc in
+      let are : All IsWord q.marks_words = all_back (codes "full" ∷ []) q.marks_words (subst (All IsWord) q.spelled all) in
+      let queries : marks a ≡ marks b = query_one q.marks_words (marks a) (marks b) are (subst (AreQueryWords (marks a)) same p.are_marks) q.are_marks in
+      let selects : a ≡ b = cc in
+      ap full_marks selects
+
   words_ask_one : (words : List (List ℕ)) (a b : AskValue) → All IsWord words → AreAskWords a words → AreAskWords b words → a ≡ b
   words_ask_one words (plain p) (plain q) all x y = ap plain (query_one words p q all x y)
   words_ask_one words (plain p) (rows s f q t) all x y = absurd (further_not_plain words (rows_further s f q t words y) (query_plain p words x))
@@ -291,6 +339,13 @@ module _ (one : AsksOneQuery) where
   words_ask_one words (steps f l n p) (plain q) all x y = absurd (further_not_plain words (steps_further f l n p words x) (query_plain q words y))
   words_ask_one words (steps f l n p) (rows u g q v) all x y = absurd (rows_or_steps words u g q v f l n p y x)
   words_ask_one words (steps f l n p) (steps g m o q) all x y = steps_one words f l n p g m o q all x y
+  words_ask_one words (plain p) (full_marks b) all x y = absurd (further_not_plain words (marks_further b words y) (query_plain p words x))
+  words_ask_one words (full_marks a) (plain q) all x y = absurd (further_not_plain words (marks_further a words x) (query_plain q words y))
+  words_ask_one words (rows s f p t) (full_marks b) all x y = absurd (rows_or_marks words s f p t b all x y)
+  words_ask_one words (full_marks a) (rows s f q t) all x y = absurd (rows_or_marks words s f q t a all y x)
+  words_ask_one words (steps f l n p) (full_marks b) all x y = absurd (steps_or_marks words f l n p b x y)
+  words_ask_one words (full_marks a) (steps f l n q) all x y = absurd (steps_or_marks words f l n q a y x)
+  words_ask_one words (full_marks a) (full_marks b) all x y = marks_one words a b all x y
 
   pub asks_one : AsksOne
   asks_one line a b p q =

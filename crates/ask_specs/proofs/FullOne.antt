@@ -477,21 +477,21 @@ tells_all lane other_lane row other fl fo p q e =
     (octet_one lane other_lane fl fo h0, fields_one row other p q t0)
 
 -- ---- a full line begins with the plain line
-body : List (List ℕ) → List ℕ
+pub body : List (List ℕ) → List ℕ
 body [] = []
 body (f ∷ fs) = 32 ∷ f ++ body fs
 
-ended : (fs : List (List ℕ)) → further fs ≡ body fs ++ 10 ∷ []
+pub ended : (fs : List (List ℕ)) → further fs ≡ body fs ++ 10 ∷ []
 unfolding body
 ended [] = refl
 ended (f ∷ fs) = ap (λ (l : List ℕ). 32 ∷ f ++ l) (ended fs) ∙ ap (λ (l : List ℕ). 32 ∷ l) (sym (append_assoc f (body fs) (10 ∷ [])))
 
-goes_on : (fs : List (List ℕ)) (g : List ℕ) (gs : List (List ℕ)) → further (fs ++ g ∷ gs) ≡ body fs ++ 32 ∷ (g ++ further gs)
+pub goes_on : (fs : List (List ℕ)) (g : List ℕ) (gs : List (List ℕ)) → further (fs ++ g ∷ gs) ≡ body fs ++ 32 ∷ (g ++ further gs)
 unfolding body
 goes_on [] g gs = refl
 goes_on (f ∷ fs) g gs = ap (λ (l : List ℕ). 32 ∷ f ++ l) (goes_on fs g gs) ∙ ap (λ (l : List ℕ). 32 ∷ l) (sym (append_assoc f (body fs) (32 ∷ (g ++ further gs))))
 
-without_end : (xs : List ℕ) → take (length (xs ++ 10 ∷ []) - 1) (xs ++ 10 ∷ []) ≡ xs
+pub without_end : (xs : List ℕ) → take (length (xs ++ 10 ∷ []) - 1) (xs ++ 10 ∷ []) ≡ xs
 without_end xs = ap (λ (n : ℕ). take n (xs ++ 10 ∷ [])) (omega (arith, length-append xs (10 ∷ []))) ∙ front xs
   where
     front : (us : List ℕ) → take (length us) (us ++ 10 ∷ []) ≡ us

@@ -20,3 +20,5 @@ pub mod ChangeOne
 pub mod NoCommunity
 pub mod LiveLaws
 pub mod OfferLaws
+pub mod FullMarkLaws
+pub mod CountsAdd

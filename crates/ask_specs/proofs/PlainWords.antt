@@ -100,6 +100,9 @@ rows_headed (within prefix select) words asks is = sought_headed (codes "within"
 rows_headed (origin asn select) words asks is = sought_headed (codes "origin") _ asn select words refl refl is
 rows_headed _ words asks is = absurd asks
 
+pub marks_headed : (select : SelectValue) (words : List (List ℕ)) → AreQueryWords (marks select) words → IsHeaded words
+marks_headed select words is = selection_headed (codes "marks") select words refl refl is
+
 pub query_plain : (query : QueryValue) (words : List (List ℕ)) → AreQueryWords query words → IsPlain words
 query_plain routers words is = alone (codes "routers") is refl
 query_plain cut words is = alone (codes "cut") is refl

@@ -18,8 +18,9 @@ use Rattle.bmp_specs.specs.Session.{session_effects}
 use Rattle.bmp_specs.specs.Steps.{steps_of}
 use Rattle.bmp_specs.specs.TableRows.{AreRows}
 use Rattle.bmp_specs.specs.Values.{EntryValue, EffectValue, PrefixValue, StepValue, announce_step}
-use Rattle.ask_specs.specs.Asking.{AskValue, IsAsk, plain, rows, steps}
+use Rattle.ask_specs.specs.Asking.{AskValue, IsAsk, plain, rows, steps, full_marks}
 use Rattle.ask_specs.specs.FullLine.{full_line, further_fields}
+use Rattle.ask_specs.specs.FullMarks.{AreFullMarkLines}
 use Rattle.ask_specs.specs.Traits.{TraitsValue, HasTraits}
 
 -- The plain query asks for the row, and its route has all that the selectors of path attributes ask. So the longest match
@@ -92,6 +93,7 @@ abbrev pub AreAskedLaneLines : AskValue → ℕ → List EntryValue → List (Li
 AreAskedLaneLines (plain query) lane entries lines = ⊥
 AreAskedLaneLines (rows with_steps full query traits) lane entries lines = AreAskedRowLines with_steps full query traits lane entries lines
 AreAskedLaneLines (steps full number from prefix) lane entries lines = MatchBool (number == lane) (AreAskedChangeLines full lane entries from prefix lines) (lines ≡ [])
+AreAskedLaneLines (full_marks select) lane entries lines = AreFullMarkLines lane entries select lines
 
 -- lanes with these entries have these lines in all, lane after lane
 pub record AreAskedLines (ask : AskValue) (lanes : List (List EntryValue)) (lines : List (List ℕ)) : Type 0 where

@@ -1,11 +1,12 @@
 -- Our query language with further words. A plain line is a query of `bmp_specs` (`Query`). A line of the wider language is a
--- plain line, or one with words in front of it and selectors behind it, or asks for all changes of a lane. So no plain line
--- means anything else.
+-- plain line, or one with words in front of it and selectors behind it, or asks for all changes of a lane, or for marks with
+-- the number of their rows. So no plain line means anything else.
 use Rattle.std.specs.Prelude.{◌≡◌, ◌↔◌, ℕ, Bool, true, false, List, [], ◌∷◌, ◌++◌, Option, Some, None, All, codes}
 use Rattle.std.specs.List.{join_with_byte}
 use Rattle.bmp_specs.specs.NumberText.{IsNumberText, IsStepText}
 use Rattle.bmp_specs.specs.PrefixText.{IsPrefixText}
-use Rattle.bmp_specs.specs.Query.{QueryValue, table, count, exact, longest, within, origin, AreQueryWords, IsQuery, IsSelector, IsWord, space}
+use Rattle.bmp_specs.specs.Query.{QueryValue, marks, table, count, exact, longest, within, origin, AreQueryWords, IsQuery, IsSelector, IsWord, space}
+use Rattle.bmp_specs.specs.Selection.{SelectValue}
 use Rattle.bmp_specs.specs.Values.{PrefixValue}
 use Rattle.ask_specs.specs.Traits.{TraitsValue, no_traits}
 use Rattle.ask_specs.specs.TraitText.{IsThroughText, IsCommunityText, IsTypeText}
@@ -20,6 +21,8 @@ pub data AskValue : Type 0 where
   -- The changes on a lane, from the step of this number on: whether each announcement is told with all its path attributes,
   -- and the prefix, where not all changes are asked for
   steps : Bool → ℕ → ℕ → Option PrefixValue → AskValue
+  -- the marks, each with the number of its rows, by these selectors
+  full_marks : SelectValue → AskValue
 
 -- the query asks for rows
 abbrev pub AsksForRows : QueryValue → Type 0
@@ -94,10 +97,17 @@ pub record AreStepsWords (full : Bool) (lane from : ℕ) (prefix : Option Prefix
   pub is_further : IsFurtherChanges full prefix
   pub spelled : words ≡ full_words ++ (codes "changes" ∷ lane_text ∷ from_text ∷ prefix_words)
 
+-- `full`, and the words of `marks` with its selectors
+pub record AreFullMarksWords (select : SelectValue) (words : List (List ℕ)) : Type 0 where
+  pub marks_words : List (List ℕ)
+  pub are_marks : AreQueryWords (marks select) marks_words
+  pub spelled : words ≡ codes "full" ∷ marks_words
+
 abbrev pub AreAskWords : AskValue → List (List ℕ) → Type 0
 AreAskWords (plain query) words = AreQueryWords query words
 AreAskWords (rows with_steps full query traits) words = AreRowsWords with_steps full query traits words
 AreAskWords (steps full lane from prefix) words = AreStepsWords full lane from prefix words
+AreAskWords (full_marks select) words = AreFullMarksWords select words
 
 -- the line asks this
 pub record IsAsk (line : List ℕ) (ask : AskValue) : Type 0 where

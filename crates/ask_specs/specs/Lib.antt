@@ -4,6 +4,7 @@ pub mod TraitText
 pub mod Asking
 pub mod Offer
 pub mod FullLine
+pub mod FullMarks
 pub mod AskReply
 pub mod StepRows
 pub mod Mirror

@@ -4,6 +4,7 @@ ghost use Rattle.bmp_specs.specs.MessageEffects.{strict};
 ghost use Rattle.ask_specs.specs.Asking.{AsksOne, AsksOneQuery, IsConservative};
 ghost use Rattle.ask_specs.specs.AskReply.{KeepsReplies};
 ghost use Rattle.ask_specs.specs.FullLine.{BeginsWithLine, TellsAll};
+ghost use Rattle.ask_specs.specs.FullMarks.{BeginsWithMark, CountsAddUp, CountsOnce};
 ghost use Rattle.ask_specs.specs.Lives.{LivesAnnounceOfUp};
 ghost use Rattle.ask_specs.specs.Mirror.{KeepsExactCopy};
 ghost use Rattle.ask_specs.specs.MirrorReply.{ChangeLinesTell, ChangesTell, RowsTell};
@@ -83,4 +84,19 @@ pub fn replies_tell_changes()
 /// Two changes with the same line of `full changes` are one change of one lane.
 pub fn change_lines_tell_all()
     ensures { ChangeLinesTell }
+{}
+
+/// A line of `full marks` is the line of `marks`, without its end, and then the number of rows.
+pub fn full_marks_begin_with_marks()
+    ensures { BeginsWithMark }
+{}
+
+/// A mark has one number of rows.
+pub fn marks_count_once()
+    ensures { CountsOnce }
+{}
+
+/// The numbers of rows of `full marks` add up to that of `count` with the same selectors.
+pub fn marks_add_up()
+    ensures { CountsAddUp }
 {}

@@ -12,6 +12,11 @@ pub fn full_stands_before_no_count()
     ensures { AsksNothing (codes "full count") }
 {}
 
+/// `full marks` takes no selector of path attributes and no `steps`, and `cut` no `full`.
+pub fn full_marks_take_no_more()
+    ensures { AsksNothing (codes "full marks through 1") × AsksNothing (codes "steps full marks") × AsksNothing (codes "full cut") }
+{}
+
 /// A community of an AS of four octets has no number of more than two.
 pub fn a_number_too_large_names_none()
     ensures { NamesNone (codes "rt:65536:65536") }

@@ -28,4 +28,5 @@ pub mod Batches
 pub mod HistoryLanes
 pub mod TraitLaws
 pub mod KeptPairs
+pub mod FullMarksTold
 mod Refuted

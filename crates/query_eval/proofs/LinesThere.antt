@@ -1,7 +1,7 @@
 -- There are lines of a lane for all entries that its tables stand for.
 use Rattle.std.proofs.Common.{◌≡◌, ℕ, Bool, true, false, List, [], ◌∷◌, length, map, Option, Some, refl}
 use Rattle.std.specs.Prelude.{MatchBool, ◌==◌}
-use Rattle.ask_specs.specs.Asking.{steps}
+use Rattle.ask_specs.specs.Asking.{steps, full_marks}
 use Rattle.ask_specs.specs.AskReply.{AreAskedChangeLines, AreAskedLaneLines}
 use Rattle.ask_specs.specs.Traits.{TraitsValue, no_traits}
 use Rattle.bmp_specs.specs.Counts.{counts_of}
@@ -29,8 +29,9 @@ use Rattle.query_lang.specs.declared.ask.Ask.TheVariants.{Rows}
 use Rattle.query_lang.specs.declared.ask.RowQuery.{RowQuery}
 use Rattle.query_lang.specs.declared.ask.RowQuery.TheVariants.{Table, Exact, Longest, Within, Origin}
 use Rattle.query_eval.specs.Replies.{StandsForLane, TellsByLane}
-use Rattle.query_eval.specs.Told.{states_in, state_lines, up_keys, marks_in, mark_lines}
+use Rattle.query_eval.specs.Told.{states_in, state_lines, up_keys, marks_in, mark_lines, plain_mark}
 use Rattle.query_eval.proofs.InOrder.{by_key, by_key_sorted, peers_by_key, tables_by_key, stand_by_key}
+use Rattle.query_eval.proofs.FullMarksTold.{are_full_mark_lines}
 use Rattle.query_eval.proofs.MarksTold.{are_mark_lines}
 use Rattle.query_eval.proofs.PeerSteps.{states_ordered}
 use Rattle.query_eval.proofs.PeersTold.{are_peer_lines, all_up}
@@ -88,7 +89,7 @@ module _ (lane : ℕ) (tables : TablesValue) (entries : List EntryValue) (stands
   lane_lines_there routers tells = let h = router_there (state_of entries) in (h.0 ∷ [], (h.0, h.1, refl))
   lane_lines_there cut_query tells = (lane_line lane (length entries) ∷ [], refl)
   lane_lines_there (peers router peer) tells = (state_lines router peer lane (states_in book), are_peer_lines router peer lane entries book ordered book_stands)
-  lane_lines_there (marks select) tells = (mark_lines select lane (marks_in book (states_in book)), are_mark_lines select lane entries book ordered book_stands)
+  lane_lines_there (marks select) tells = (mark_lines plain_mark select lane (marks_in book (states_in book)), are_mark_lines select lane entries book ordered book_stands)
   lane_lines_there (table select) tells = row_lines (table select) _ (are_table select no_traits lane in_order entries in_order_stands peers_ordered)
   lane_lines_there (exact prefix select) tells = row_lines (exact prefix select) _ (are_exact select no_traits lane in_order entries in_order_stands peers_ordered prefix)
   lane_lines_there (longest address select) tells = row_lines (longest address select) _ (are_longest select no_traits lane in_order entries in_order_stands peers_ordered address)
@@ -98,6 +99,9 @@ module _ (lane : ℕ) (tables : TablesValue) (entries : List EntryValue) (stands
   lane_lines_there (changes number from prefix) tells = changes_lines number from prefix
   lane_lines_there (count select) tells = absurd tells
   lane_lines_there quit tells = absurd tells
+
+  full_marks_lines : (select : SelectValue) → (lines : List (List ℕ)) × AreAskedLaneLines (full_marks select) lane entries lines
+  full_marks_lines select = (_, are_full_mark_lines select lane in_order entries in_order_stands ordered)
 
   -- the rows of a query that tells rows
   query_rows_there : (rows : RowQuery) (traits : TraitsValue) → (known : List RowValue) × AreKeptRows (row_query_value rows) traits lane entries known
@@ -117,6 +121,9 @@ rows_lines_there ask number lane entries stands =
 
 pub changes_lines_there : (full : Bool) (asked from : ℕ) (prefix : Option PrefixValue) (number : ℕ) (lane : TablesValue × ℕ) (entries : List EntryValue) → StandsForLane lane entries → (lines : List (List ℕ)) × AreAskedLaneLines (steps full asked from prefix) number entries lines
 changes_lines_there full asked from prefix number lane entries stands = asked_changes_lines number lane.0 entries stands.tables full asked from prefix
+
+pub full_marks_lines_there : (select : SelectValue) (number : ℕ) (lane : TablesValue × ℕ) (entries : List EntryValue) → StandsForLane lane entries → (lines : List (List ℕ)) × AreAskedLaneLines (full_marks select) number entries lines
+full_marks_lines_there select number lane entries stands = full_marks_lines number lane.0 entries stands.tables select
 
 pub rows_there : (select : SelectValue) (traits : TraitsValue) (number : ℕ) (lane : TablesValue × ℕ) (entries : List EntryValue) → StandsForLane lane entries → (rows : List RowValue) × AreKeptRows (count select) traits number entries rows
 rows_there select traits number lane entries stands =

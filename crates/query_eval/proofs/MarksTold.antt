@@ -26,7 +26,7 @@ use Rattle.bmp_specs.proofs.OrderLaws.{key_total, view_total}
 use Rattle.bmp_specs.proofs.QueryReplies.{mark_total}
 use Rattle.peer_book.specs.Peers.{Peers, is_complete_at}
 use Rattle.peer_book.specs.Standing.{StandsForPeers}
-use Rattle.query_eval.specs.Told.{states_in, mark_of, view_marks, peer_marks, state_marks, marks_in, keeps_mark, mark_lines}
+use Rattle.query_eval.specs.Told.{states_in, mark_of, view_marks, peer_marks, state_marks, marks_in, keeps_mark, plain_mark, mark_lines}
 use Rattle.query_eval.proofs.Keeping.{keeps_decides, from_filter, to_filter, sorted_kept, from_map, to_map, from_flat, to_flat, all_join, sorted_join}
 use Rattle.query_eval.proofs.PeersTold.{peer_told}
 
@@ -95,7 +95,7 @@ module _ (book : Peers) where
       (λ m p. lifted (λ (n : MarkValue). key_cmp m.key n.key ≡ Less) (λ n. mark_cmp m n ≡ Less) (marks_in book es) (λ n less. before_key m n less) p)
       (of_key P e (behind_peers e.0 es a))
 
-  marks_sorted : (es : List (KeyValue × StateValue)) → IsStrictlySortedBy key_cmp (keys_of es) → IsStrictlySortedBy mark_cmp (marks_in book es)
+  pub marks_sorted : (es : List (KeyValue × StateValue)) → IsStrictlySortedBy key_cmp (keys_of es) → IsStrictlySortedBy mark_cmp (marks_in book es)
   unfolding IsStrictlySortedBy
   marks_sorted [] s = tt
   marks_sorted (e ∷ es) s = sorted_join mark_cmp (state_marks book e) (marks_in book es) (state_sorted e) (marks_sorted es s.1) (each_before e es s.0)
@@ -118,7 +118,7 @@ module _ (book : Peers) where
         subst (IsMark entries) f.2 (record { up = (info, is); view_is = v.1; complete_is = stands.complete key v.0 f.0 })
     from_peer (key, down_state info) m is c = absurd (omega (arith, c.1))
 
-    mark_told : (m : MarkValue) → Contains (marks_in book (states_in book)) m ↔ IsMark entries m
+    pub mark_told : (m : MarkValue) → Contains (marks_in book (states_in book)) m ↔ IsMark entries m
     mark_told m = (
       λ c. let h = from_flat (state_marks book) (states_in book) m c in from_peer h.0 m ((peer_told book ordered (session_effects entries) stands h.0).0 h.1) h.2,
       λ is.
@@ -131,12 +131,12 @@ module _ (book : Peers) where
           (to_flat (state_marks book) (states_in book) (m.key, up_state is.up.0) (mark_of book m.key m.view m.family) there of_view),
     )
 
-same_marks : (ms : List MarkValue) → map (λ m. m) ms ≡ ms
+pub same_marks : (ms : List MarkValue) → map (λ m. m) ms ≡ ms
 same_marks [] = refl
 same_marks (m ∷ ms) = ap (λ (l : List MarkValue). m ∷ l) (same_marks ms)
 
 module _ (select : SelectValue) (lane : ℕ) (entries : List EntryValue) where
-  pub are_mark_lines : (book : Peers) → IsStrictlySortedBy key_cmp (keys_of (states_in book)) → StandsForPeers book (session_effects entries) → AreLaneLines (marks select) lane entries (mark_lines select lane (marks_in book (states_in book)))
+  pub are_mark_lines : (book : Peers) → IsStrictlySortedBy key_cmp (keys_of (states_in book)) → StandsForPeers book (session_effects entries) → AreLaneLines (marks select) lane entries (mark_lines plain_mark select lane (marks_in book (states_in book)))
   are_mark_lines book ordered stands =
       let all = marks_in book (states_in book) in
       record {

@@ -25,8 +25,8 @@ fn count_all(table: &PeerTable<'_>) -> u64
     table.table.count()
 }
 
-// How many of them are of a family.
-fn count_family(table: &PeerTable<'_>, family: Family) -> u64
+/// How many of them are of a family.
+pub(crate) fn count_family(table: &PeerTable<'_>, family: Family) -> u64
     ensures { result ≡ told_count (length (with_family family (table_value table.now).pairs)) }
 {
     // for the proof: the pairs stand in the order of NLRI

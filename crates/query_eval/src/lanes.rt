@@ -13,6 +13,7 @@ ghost use Rattle.query_eval.specs.Replies.{StandsForLane, StandForLanes, AreAskL
 
 use crate::changes::put_changes;
 use crate::count::count_kept_rows;
+use crate::full_marks::put_full_marks;
 use crate::longest::put_longest;
 use crate::marks::put_marks;
 use crate::origin::put_origin;
@@ -113,6 +114,7 @@ fn put_ask_lines<O: Sink>(
             from,
             prefix,
         } => put_lane_changes(out, *full, lane, tables, *number, *from, prefix),
+        Ask::FullMarks(select) => put_full_marks(out, lane, tables, select),
         // excluded by the premise: rows are counted over all lanes together
         Ask::Count(_, _) => unreachable!(),
     }

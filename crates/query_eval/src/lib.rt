@@ -18,6 +18,7 @@ mod batch;
 mod changes;
 mod count;
 mod front;
+mod full_marks;
 mod kept;
 mod lanes;
 mod longest;

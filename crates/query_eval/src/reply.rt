@@ -43,6 +43,7 @@ fn count_asked(ask: &Ask) -> Option<(Select, Traits)>
         Ask::Rows(_) => None,
         Ask::Count(select, traits) => Some((*select, *traits)),
         Ask::Changes { .. } => None,
+        Ask::FullMarks(_) => None,
     }
 }
 

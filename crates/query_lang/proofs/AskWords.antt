@@ -1,16 +1,17 @@
 -- A line asks what its words ask: `steps` and `full`, or none of them, and what stands behind these.
-use Rattle.std.proofs.Common.{◌≡◌, ℕ, ◌≤◌, Bool, true, false, List, [], ◌∷◌, ◌++◌, Option, None, Some, ◌-◌, length, take, drop, codes, refl, sym, ap, subst, ◌∙◌, arith, append-nil}
+use Rattle.std.proofs.Common.{◌≡◌, ℕ, ◌≤◌, Bool, true, false, List, [], ◌∷◌, ◌++◌, Option, None, Some, ◌-◌, get_or, length, take, drop, codes, refl, sym, ap, subst, ◌∙◌, arith, append-nil}
 use Rattle.std.proofs.lemmas.Bool.{true≢false}
 use Rattle.std.proofs.lemmas.List.{take_rest}
 use Rattle.std.specs.Prelude.{IfNone}
 use Rattle.bmp_specs.specs.PrefixText.{IsPrefixText}
-use Rattle.bmp_specs.specs.Query.{QueryValue, changes, AreQueryWords, IsQuery}
+use Rattle.bmp_specs.specs.Query.{QueryValue, changes, marks, table, count, exact, longest, within, origin, AreQueryWords, IsQuery}
+use Rattle.bmp_specs.specs.Selection.{SelectValue}
 use Rattle.bmp_specs.specs.Values.{PrefixValue}
-use Rattle.ask_specs.specs.Asking.{AskValue, plain, rows, steps, AreAskWords, AreTraits, AsksForRows, IsAsk, IsFlag, IsFurtherChanges, IsMore, IsPrefixWord, TellsRows}
+use Rattle.ask_specs.specs.Asking.{AskValue, plain, rows, steps, full_marks, AreAskWords, AreTraits, AsksForRows, IsAsk, IsFlag, IsFurtherChanges, IsMore, IsPrefixWord, TellsRows}
 use Rattle.ask_specs.specs.Offer.{IsOfferedAsk}
 use Rattle.ask_specs.specs.Traits.{TraitsValue, no_traits}
 use Rattle.ask_specs.proofs.AskLaws.{Begins, SomeWord, ask_some, behind_flag, changes_no_front, headed_no_front}
-use Rattle.ask_specs.proofs.PlainWords.{IsHeaded, by_one, by_two, not_changes, rows_headed}
+use Rattle.ask_specs.proofs.PlainWords.{IsHeaded, by_one, by_two, is_front, marks_headed, not_changes, rows_headed}
 use Rattle.query_lang.specs.Reading.{words_of, further_words, AreChangesWords, AsksBehind, AsksWith, EndsWith, TakesFirst, Unnamed}
 use Rattle.query_lang.specs.declared.ask.Ask.{Ask}
 use Rattle.query_lang.proofs.LineWords.{is_query, joined_words, line_joined, query_asks}
@@ -88,22 +89,63 @@ pub changes_none : (s f : Bool) (rest : List (List ℕ)) → (s ≡ false → (l
 changes_none s f rest none (plain q) asks = asks
 changes_none s f rest none (rows u g q t) asks = let with_traits = asks.2 in not_changes with_traits.front with_traits.back rest (rows_headed q with_traits.front with_traits.asks with_traits.is_query) (sym with_traits.spelled)
 changes_none s f rest none (steps g lane from p) asks = none asks.0 lane from p asks.2
+changes_none s f rest none (full_marks select) asks = not_changes (codes "changes" ∷ rest) [] rest (marks_headed select (codes "changes" ∷ rest) asks.2) (append-nil (codes "changes" ∷ rest))
 
--- words other than `changes` ask for rows
-pub rows_none : (s f : Bool) (words : List (List ℕ)) (word : List ℕ) (others : List (List ℕ)) → words ≡ word ∷ others → (word ≡ codes "changes" → ⊥) → ((q : QueryValue) (t : TraitsValue) → AsksWith q t words → (s ≡ true → TellsRows q) → (f ≡ true → TellsRows q) → ⊥)
+-- ---- behind `marks`
+-- a verb with another third letter
+other_verb : (verb : List ℕ) (behind words x others : List (List ℕ)) → ¬ (get_or verb 2 0 ≡ get_or (codes "marks") 2 0) → words ≡ verb ∷ behind → ¬ (words ++ x ≡ codes "marks" ∷ others)
+other_verb verb behind words x others differ is e =
+    let whole : verb ∷ (behind ++ x) ≡ codes "marks" ∷ others = ap (λ (l : List (List ℕ)). l ++ x) (sym is) ∙ e in
+    let same : verb ≡ codes "marks" = cc in
+    differ (ap (λ (l : List ℕ). get_or l 2 0) same)
+
+-- a query for rows doesn't begin so
+not_marks : (q : QueryValue) (words x others : List (List ℕ)) → AsksForRows q → AreQueryWords q words → ¬ (words ++ x ≡ codes "marks" ∷ others)
+not_marks (table select) words x others asks is e = other_verb (codes "table") is.selectors words x others (λ f. omega (arith, f)) is.spelled e
+not_marks (count select) words x others asks is e = other_verb (codes "count") is.selectors words x others (λ f. omega (arith, f)) is.spelled e
+not_marks (exact prefix select) words x others asks is e = other_verb (codes "prefix") (is.text ∷ is.selectors) words x others (λ f. omega (arith, f)) is.spelled e
+not_marks (longest address select) words x others asks is e = other_verb (codes "match") (is.text ∷ is.selectors) words x others (λ f. omega (arith, f)) is.spelled e
+not_marks (within prefix select) words x others asks is e = other_verb (codes "within") (is.text ∷ is.selectors) words x others (λ f. omega (arith, f)) is.spelled e
+not_marks (origin number select) words x others asks is e = other_verb (codes "origin") (is.text ∷ is.selectors) words x others (λ f. omega (arith, f)) is.spelled e
+not_marks _ words x others asks is e = absurd asks
+
+-- behind `marks` only selectors of marks are asked
+marks_none : (s f : Bool) (words : List (List ℕ)) (word : List ℕ) (others : List (List ℕ)) → words ≡ word ∷ others → word ≡ codes "marks" → ((select : SelectValue) → AsksBehind s f words (full_marks select) → ⊥) → (v : AskValue) → AsksBehind s f words v → ⊥
+marks_none s f words word others split named none (plain q) asks = asks
+marks_none s f words word others split named none (rows u g q t) asks =
+    let with_traits = asks.2 in
+    not_marks q with_traits.front with_traits.back others with_traits.asks with_traits.is_query (sym with_traits.spelled ∙ split ∙ ap (λ (w : List ℕ). w ∷ others) named)
+marks_none s f words word others split named none (steps g lane from p) asks =
+    let are = asks.2 in
+    let whole : codes "changes" ∷ are.lane_text ∷ are.from_text ∷ are.prefix_words ≡ word ∷ others = sym are.spelled ∙ split in
+    let same : codes "changes" ≡ word = cc in
+    omega (arith, ap (λ (l : List ℕ). get_or l 0 0) (same ∙ named))
+marks_none s f words word others split named none (full_marks select) asks = none select asks
+
+pub no_marks_behind : (s f : Bool) (words : List (List ℕ)) (word : List ℕ) (others : List (List ℕ)) (r : Option Ask) → words ≡ word ∷ others → word ≡ codes "marks" → IfNone r ((select : SelectValue) → AsksBehind s f words (full_marks select) → ⊥) → IfNone r ((v : AskValue) → AsksBehind s f words v → ⊥)
+no_marks_behind s f words word others (Some a) split named none = tt
+no_marks_behind s f words word others None split named none = marks_none s f words word others split named none
+
+-- words other than `changes` and `marks` ask for rows
+pub rows_none : (s f : Bool) (words : List (List ℕ)) (word : List ℕ) (others : List (List ℕ)) → words ≡ word ∷ others → (word ≡ codes "changes" → ⊥) → (word ≡ codes "marks" → ⊥) → ((q : QueryValue) (t : TraitsValue) → AsksWith q t words → (s ≡ true → TellsRows q) → (f ≡ true → TellsRows q) → ⊥)
     → (v : AskValue) → AsksBehind s f words v → ⊥
-rows_none s f words word others split other none (plain q) asks = asks
-rows_none s f words word others split other none (rows u g q t) asks = none q t asks.2 asks.3 asks.4
-rows_none s f words word others split other none (steps g lane from p) asks =
+rows_none s f words word others split other unmarked none (plain q) asks = asks
+rows_none s f words word others split other unmarked none (rows u g q t) asks = none q t asks.2 asks.3 asks.4
+rows_none s f words word others split other unmarked none (steps g lane from p) asks =
     let are = asks.2 in
     let whole : word ∷ others ≡ codes "changes" ∷ are.lane_text ∷ are.from_text ∷ are.prefix_words = sym split ∙ are.spelled in
     let same : word ≡ codes "changes" = cc in
     other same
+rows_none s f words word others split other unmarked none (full_marks select) asks =
+    let are = asks.2 in
+    let whole : word ∷ others ≡ codes "marks" ∷ are.selectors = sym split ∙ are.spelled in
+    let same : word ≡ codes "marks" = cc in
+    unmarked same
 
-pub no_rows_behind : (s f : Bool) (words : List (List ℕ)) (word : List ℕ) (others : List (List ℕ)) (q : QueryValue) (t : TraitsValue) (r : Option Ask) → words ≡ word ∷ others → (word ≡ codes "changes" → ⊥) → ((v : QueryValue) (u : TraitsValue) → AsksWith v u words → (v ≡ q) × (u ≡ t))
+pub no_rows_behind : (s f : Bool) (words : List (List ℕ)) (word : List ℕ) (others : List (List ℕ)) (q : QueryValue) (t : TraitsValue) (r : Option Ask) → words ≡ word ∷ others → (word ≡ codes "changes" → ⊥) → (word ≡ codes "marks" → ⊥) → ((v : QueryValue) (u : TraitsValue) → AsksWith v u words → (v ≡ q) × (u ≡ t))
     → IfNone r (AsksForRows q → (s ≡ true → TellsRows q) → (f ≡ true → TellsRows q) → ⊥) → IfNone r ((v : AskValue) → AsksBehind s f words v → ⊥)
-no_rows_behind s f words word others q t (Some a) split other one none = tt
-no_rows_behind s f words word others q t None split other one none = rows_none s f words word others split other (λ v u asks with_s with_f.
+no_rows_behind s f words word others q t (Some a) split other unmarked one none = tt
+no_rows_behind s f words word others q t None split other unmarked one none = rows_none s f words word others split other unmarked (λ v u asks with_s with_f.
     let same = (one v u asks).0 in
     none (subst (λ (w : QueryValue). AsksForRows w) same asks.asks) (λ e. subst (λ (w : QueryValue). TellsRows w) same (with_s e)) (λ e. subst (λ (w : QueryValue). TellsRows w) same (with_f e)))
 
@@ -151,6 +193,15 @@ module _ (line : List ℕ) (first second : List (List ℕ)) (s f : Bool) (with_s
       let two = first_one (codes "full") g f are.full_words (codes "changes" ∷ tail) first second are.is_full
       (changes_no_front (codes "full") tail refl) told (sym one.1) with_full in
       (sym one.0, two.0, record { lane_text = are.lane_text; from_text = are.from_text; prefix_words = are.prefix_words; is_lane = are.is_lane; is_from = are.is_from; is_prefix = are.is_prefix; spelled = sym two.1 })
+  asks_behind no_query (full_marks select) is =
+      let are = asked_words line (full_marks select) is.is_ask in
+      let h = marks_headed select are.marks_words are.are_marks in
+      let no_front : (word : List ℕ) → is_front word ≡ true → ¬ (Begins word are.marks_words) = λ word new b. headed_no_front are.marks_words [] word h new (b.0, append-nil are.marks_words ∙ b.1) in
+      let one = first_one (codes "steps") false s [] (codes "full" ∷ are.marks_words) (words_of line) first refl
+      (behind_flag true (codes "full" ∷ []) are.marks_words refl (no_front (codes "steps") refl)) (codes "full", are.marks_words, refl) are.spelled with_steps in
+      let two = first_one (codes "full") true f (codes "full" ∷ []) are.marks_words first second refl
+      (no_front (codes "full") refl) (codes "marks", are.are_marks.selectors, are.are_marks.spelled) (sym one.1) with_full in
+      (sym one.0, sym two.0, subst (AreQueryWords (marks select)) two.1 are.are_marks)
 
   -- what stands behind them, where none of them does
   bare : s ≡ false → f ≡ false → words_of line ≡ second
@@ -211,6 +262,15 @@ module _ (line : List ℕ) (first second : List (List ℕ)) (s f : Bool) (with_s
   behind_offered no_query (rows u g q t) (same_s, same_f, asks, tells_s, tells_f) =
       subst (λ (b : Bool). IsOfferedAsk line (rows b g q t)) (sym same_s) (subst (λ (b : Bool). IsOfferedAsk line (rows s b q t)) (sym same_f) (rows_offered no_query q t asks tells_s tells_f))
   behind_offered no_query (steps g lane from p) (no_steps, same_f, are) = subst (λ (b : Bool). IsOfferedAsk line (steps b lane from p)) (sym same_f) (changes_offered no_query lane from p no_steps are)
+  behind_offered no_query (full_marks select) (no_steps, is_full, are) =
+      let flag : with_full.front ≡ codes "full" ∷ [] = subst (λ (b : Bool). IsFlag (codes "full") b with_full.front) is_full with_full.is_flag in
+      asks_offered line (full_marks select) (record {
+        marks_words = second;
+        are_marks = are;
+        spelled =
+            with_steps.spelled ∙ ap (λ (l : List (List ℕ)). l ++ first) (no_flag (codes "steps") s with_steps.front with_steps.is_flag no_steps)
+            ∙ with_full.spelled ∙ ap (λ (l : List (List ℕ)). l ++ second) flag;
+      })
 
 -- ---- a prefix, or nothing
 pub prefix_ends : (p : Option PrefixValue) (words others : List (List ℕ)) (text : List ℕ) → words ≡ text ∷ others → (others ≡ [] → ⊥) → IsPrefixWord p words → ⊥

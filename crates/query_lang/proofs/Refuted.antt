@@ -86,10 +86,10 @@ asks_verb verb q t others asks =
     verb_one verb (verb_of q) head
 
 -- a verb whose queries tell no rows, behind `steps`, `full` or both
-tells_none : (s f : Bool) (verb : Verb) (others : List (List ℕ)) → ((q : QueryValue) → TellsRows q → verb ≡ verb_of q → ⊥) → (verb_text verb ≡ codes "changes" → ⊥) → ((q : QueryValue) → (s ≡ true → TellsRows q) → (f ≡ true → TellsRows q) → TellsRows q)
+tells_none : (s f : Bool) (verb : Verb) (others : List (List ℕ)) → ((q : QueryValue) → TellsRows q → verb ≡ verb_of q → ⊥) → (verb_text verb ≡ codes "changes" → ⊥) → (verb_text verb ≡ codes "marks" → ⊥) → ((q : QueryValue) → (s ≡ true → TellsRows q) → (f ≡ true → TellsRows q) → TellsRows q)
     → (ask : AskValue) → AsksBehind s f (verb_text verb ∷ others) ask → ⊥
-tells_none s f verb others none other told =
-    rows_none s f (verb_text verb ∷ others) (verb_text verb) others refl other (λ q t asks with_s with_f. none q (told q with_s with_f) (asks_verb verb q t others asks))
+tells_none s f verb others none other unmarked told =
+    rows_none s f (verb_text verb ∷ others) (verb_text verb) others refl other unmarked (λ q t asks with_s with_f. none q (told q with_s with_f) (asks_verb verb q t others asks))
 
 -- none of the two words stands in front
 bare_line : (line first : List ℕ) (others : List (List ℕ)) → words_of line ≡ first ∷ others → (first ≡ codes "steps" → ⊥) → (first ≡ codes "full" → ⊥) → ((q : QueryValue) → IsQuery line q → ⊥) → (v : AskValue) → IsOfferedAsk line v → AsksBehind false false (words_of line) v
@@ -114,22 +114,22 @@ peers_tells_no_rows (origin number select) tells e = absurd cc
 peers_tells_no_rows _ tells e = absurd tells
 
 -- `steps` before a verb whose queries tell no rows
-no_steps_of : (verb : Verb) (line : List ℕ) → ((q : QueryValue) → TellsRows q → verb ≡ verb_of q → ⊥) → (verb_text verb ≡ codes "changes" → ⊥) → (verb_text verb ≡ codes "full" → ⊥) → words_of line ≡ codes "steps" ∷ verb_text verb ∷ [] → (ask : AskValue) → IsOfferedAsk line ask → ⊥
-no_steps_of verb line none other no_full split ask is =
+no_steps_of : (verb : Verb) (line : List ℕ) → ((q : QueryValue) → TellsRows q → verb ≡ verb_of q → ⊥) → (verb_text verb ≡ codes "changes" → ⊥) → (verb_text verb ≡ codes "marks" → ⊥) → (verb_text verb ≡ codes "full" → ⊥) → words_of line ≡ codes "steps" ∷ verb_text verb ∷ [] → (ask : AskValue) → IsOfferedAsk line ask → ⊥
+no_steps_of verb line none other unmarked no_full split ask is =
     let behind : List (List ℕ) = verb_text verb ∷ [] in
-    tells_none true false verb [] none other (λ q with_s _. with_s refl) ask
+    tells_none true false verb [] none other unmarked (λ q with_s _. with_s refl) ask
     (asks_behind line behind behind true false (takes_first (codes "steps") (words_of line) behind split) (takes_no_first (codes "full") behind (other_unnamed (codes "full") (verb_text verb) behind [] refl no_full))
     (front_no_query line (codes "steps") behind refl split) ask is)
 
 -- A number of rows has no lanes' steps before it.
 steps_stand_before_no_count : (ask : AskValue) → IsOfferedAsk (codes "steps count") ask → ⊥
 unfolding words_of
-steps_stand_before_no_count = no_steps_of Count (codes "steps count") count_tells_no_rows (λ e. cc e) (λ e. cc e) refl
+steps_stand_before_no_count = no_steps_of Count (codes "steps count") count_tells_no_rows (λ e. cc e) (λ e. omega (arith, ap (λ (l : List ℕ). get_or l 0 0) e)) (λ e. cc e) refl
 
 -- Nor have the peers.
 steps_stand_before_no_peers : (ask : AskValue) → IsOfferedAsk (codes "steps peers") ask → ⊥
 unfolding words_of
-steps_stand_before_no_peers = no_steps_of Peers (codes "steps peers") peers_tells_no_rows (λ e. cc e) (λ e. cc e) refl
+steps_stand_before_no_peers = no_steps_of Peers (codes "steps peers") peers_tells_no_rows (λ e. cc e) (λ e. omega (arith, ap (λ (l : List ℕ). get_or l 0 0) e)) (λ e. cc e) refl
 
 -- A number of rows has no path attributes to tell.
 full_stands_before_no_count : (ask : AskValue) → IsOfferedAsk (codes "full count") ask → ⊥

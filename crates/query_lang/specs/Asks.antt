@@ -1,9 +1,9 @@
 -- What a line asks for, as a value of the wider language.
 use Rattle.std.specs.Prelude.{false}
 use Rattle.bmp_specs.specs.Query.{QueryValue, table, count, exact, longest, within, origin}
-use Rattle.ask_specs.specs.Asking.{AskValue, plain, rows, steps}
+use Rattle.ask_specs.specs.Asking.{AskValue, plain, rows, steps, full_marks}
 use Rattle.query_lang.specs.declared.ask.Ask.{Ask}
-use Rattle.query_lang.specs.declared.ask.Ask.TheVariants.{Query, Rows, Count, Changes}
+use Rattle.query_lang.specs.declared.ask.Ask.TheVariants.{Query, Rows, Count, Changes, FullMarks}
 use Rattle.query_lang.specs.declared.ask.RowQuery.{RowQuery}
 use Rattle.query_lang.specs.declared.ask.RowQuery.TheVariants.{Table, Exact, Longest, Within, Origin}
 use Rattle.query_lang.specs.Queries.{query_value}
@@ -21,3 +21,4 @@ ask_value (Query query) = plain (query_value query)
 ask_value (Rows ask) = rows ask.steps ask.full (row_query_value ask.query) (traits_value ask.traits)
 ask_value (Count select traits) = rows false false (count select) (traits_value traits)
 ask_value (Changes full lane from prefix) = steps full lane from prefix
+ask_value (FullMarks select) = full_marks select

@@ -1,10 +1,10 @@
 -- How a line is read word by word.
 use Rattle.std.specs.Prelude.{◌≡◌, ℕ, ◌≤◌, Bool, true, false, List, [], ◌∷◌, ◌++◌, length, codes, Option, ◌==◌, Contains, IfNone}
 use Rattle.std.specs.List.{slice_split}
-use Rattle.bmp_specs.specs.Query.{QueryValue, space, AreQueryWords, IsSelector}
+use Rattle.bmp_specs.specs.Query.{QueryValue, marks, space, AreQueryWords, IsSelector}
 use Rattle.bmp_specs.specs.NumberText.{IsNumberText, IsStepText}
 use Rattle.bmp_specs.specs.Values.{PrefixValue}
-use Rattle.ask_specs.specs.Asking.{AskValue, plain, rows, steps, AreTraits, AsksForRows, IsFlag, IsPrefixWord, TellsRows}
+use Rattle.ask_specs.specs.Asking.{AskValue, plain, rows, steps, full_marks, AreTraits, AsksForRows, IsFlag, IsPrefixWord, TellsRows}
 use Rattle.ask_specs.specs.Traits.{TraitsValue}
 
 -- the words of a line, which stand between its spaces
@@ -102,3 +102,4 @@ abbrev pub AsksBehind : Bool → Bool → List (List ℕ) → AskValue → Type 
 AsksBehind with_steps full words (plain query) = ⊥
 AsksBehind with_steps full words (rows s f query traits) = (s ≡ with_steps) × (f ≡ full) × AsksWith query traits words × (with_steps ≡ true → TellsRows query) × (full ≡ true → TellsRows query)
 AsksBehind with_steps full words (steps f lane from prefix) = (with_steps ≡ false) × (f ≡ full) × AreChangesWords lane from prefix words
+AsksBehind with_steps full words (full_marks select) = (with_steps ≡ false) × (full ≡ true) × AreQueryWords (marks select) words

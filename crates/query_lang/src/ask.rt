@@ -62,6 +62,9 @@ pub enum Ask {
         from: u64,
         prefix: Option<Prefix>,
     },
+
+    /// `full marks`: the marks, each with the number of its rows.
+    FullMarks(Select),
 }
 
 // The query as one that tells rows. None exactly where it tells none.

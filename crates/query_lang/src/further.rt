@@ -1,7 +1,8 @@
 ghost use Rattle.std.specs.Prelude.{◌≡◌, ℕ, ◌∷◌, Option, codes, true, IfSome, IfNone};
-ghost use Rattle.ask_specs.specs.Asking.{AskValue, AsksForRows, IsPrefixWord, TellsRows, rows};
+ghost use Rattle.ask_specs.specs.Asking.{AskValue, AsksForRows, IsPrefixWord, TellsRows, full_marks, rows};
 ghost use Rattle.ask_specs.specs.Traits.{TraitsValue};
-ghost use Rattle.bmp_specs.specs.Query.{QueryValue};
+ghost use Rattle.bmp_specs.specs.Query.{QueryValue, marks};
+ghost use Rattle.bmp_specs.specs.Selection.{SelectValue};
 ghost use Rattle.bmp_specs.specs.Values.{PrefixValue};
 ghost use Rattle.query_lang.specs.Asks.{ask_value};
 ghost use Rattle.query_lang.specs.Queries.{query_value};
@@ -11,6 +12,7 @@ ghost use Rattle.query_lang.specs.TraitValues.{traits_value};
 use crate::ask::{Ask, RowsAsk, rows_of};
 use crate::line::parse;
 use crate::query::Query;
+use crate::select::Select;
 use crate::trait_words::take_traits;
 use crate::traits::Traits;
 use crate::words::{next_word, split_word};
@@ -116,6 +118,34 @@ fn asked_changes(steps: bool, full: bool, rest: &[u8]) -> Option<Ask>
     }
 }
 
+// The selectors of `marks`. None exactly where it is another query.
+fn marks_of(query: &Query) -> Option<Select>
+    ensures some { IfSome result (λ select. query_value query.now ≡ marks select) }
+    ensures none { IfNone result ((v : SelectValue) → query_value query.now ≡ marks v → ⊥) }
+{
+    match query {
+        Query::Marks(select) => Some(*select),
+        _ => None,
+    }
+}
+
+// Reads `marks` and its selectors, which has `full` in front of it, and no `steps`.
+fn asked_marks(steps: bool, full: bool, text: &[u8]) -> Option<Ask>
+    ensures some { IfSome result (λ a. AsksBehind steps full (words_of text.now) (ask_value a)) }
+    ensures none { IfNone result ((v : SelectValue) → AsksBehind steps full (words_of text.now) (full_marks v) → ⊥) }
+{
+    if steps || !full {
+        return None;
+    }
+    let Some(query) = parse(text) else {
+        return None;
+    };
+    match marks_of(&query) {
+        Some(select) => Some(Ask::FullMarks(select)),
+        None => None,
+    }
+}
+
 // Reads what stands behind `steps` and `full`, or behind none of them.
 pub(crate) fn asked_behind(steps: bool, full: bool, text: &[u8]) -> Option<Ask>
     ensures some { IfSome result (λ a. AsksBehind steps full (words_of text.now) (ask_value a)) }
@@ -124,6 +154,9 @@ pub(crate) fn asked_behind(steps: bool, full: bool, text: &[u8]) -> Option<Ask>
     let (word, rest) = split_word(text);
     if word == b"changes".as_slice() {
         return asked_changes(steps, full, rest);
+    }
+    if word == b"marks".as_slice() {
+        return asked_marks(steps, full, text);
     }
     match query_with(text) {
         Some((query, traits)) => asked_rows(steps, full, &query, traits),

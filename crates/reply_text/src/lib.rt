@@ -40,7 +40,7 @@ pub use bmp_specs::{Cause, Why};
 pub use change::{put_change, put_full_change};
 pub use full::put_full_route;
 pub use lines::{put_at, put_count, put_end, put_lane, put_missed, put_steps, put_stop};
-pub use mark::put_mark;
+pub use mark::{put_full_mark, put_mark};
 pub use peer::put_peer;
 pub use route::put_route;
 pub use route_lines::{RouteLines, is_short};

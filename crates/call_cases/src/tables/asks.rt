@@ -108,6 +108,7 @@ fn asks_quit(ask: &Ask) -> bool
         Ask::Rows(_) => false,
         Ask::Count(_, _) => false,
         Ask::Changes { .. } => false,
+        Ask::FullMarks(_) => false,
     }
 }
 

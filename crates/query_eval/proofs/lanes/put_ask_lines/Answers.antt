@@ -9,3 +9,6 @@ returns-in-Rows g c = rw c.in-Rows.is (puts_of_tables _ _ _ _ _ c.put_asked_rows
 
 pub returns-in-Changes : goal.returns-in-Changes
 returns-in-Changes g c = rw c.in-Changes.is (puts_of_tables _ _ _ _ _ c.put_lane_changes.ensures)
+
+pub returns-in-FullMarks : goal.returns-in-FullMarks
+returns-in-FullMarks g c = rw c.in-FullMarks.is (puts_of_tables _ _ _ _ _ c.put_full_marks.ensures)

@@ -14,7 +14,7 @@ loop-line-init g c = leads_begin _ _
 pub returns-in_err-lines-clause-lines : goal.returns-in_err-lines-clause-lines
 returns-in_err-lines-clause-lines g c =
     leads_failed _ _ _ _ _ _ _ _ _ _ c.loop-line.invariant c.in_err-lines.ensures c.from_residual.ensures.0
-    (marks_first c.args.select.now c.args.lane c.args.book.now _ _ _ (next_state c.loop-line.place c.args.book.now _ c.next_peer.ensures.ordered c.in-Some.ensures.first))
+    (marks_first (g.T.TellsMark.line c.args.tells.now) c.args.select.now c.args.lane c.args.book.now _ _ _ (next_state c.loop-line.place c.args.book.now _ c.next_peer.ensures.ordered c.in-Some.ensures.first))
 
 pub loop-line-smaller : goal.loop-line-smaller
 loop-line-smaller g c = fewer _ _ _ (next_state c.loop-line.place c.args.book.now _ c.next_peer.ensures.ordered c.in-Some.ensures.first)
@@ -22,7 +22,7 @@ loop-line-smaller g c = fewer _ _ _ (next_state c.loop-line.place c.args.book.no
 pub loop-line-preserved : goal.loop-line-preserved
 loop-line-preserved g c =
     leads_on _ _ _ _ _ _ _ _ _ _ c.loop-line.invariant c.in_ok-lines.ensures
-    (marks_first c.args.select.now c.args.lane c.args.book.now _ _ _ (next_state c.loop-line.place c.args.book.now _ c.next_peer.ensures.ordered c.in-Some.ensures.first)) c.saturating_add-count.ensures
+    (marks_first (g.T.TellsMark.line c.args.tells.now) c.args.select.now c.args.lane c.args.book.now _ _ _ (next_state c.loop-line.place c.args.book.now _ c.next_peer.ensures.ordered c.in-Some.ensures.first)) c.saturating_add-count.ensures
 
 pub returns-clause-lines : goal.returns-clause-lines
-returns-clause-lines g c = leads_end _ _ _ _ _ c.loop-line.invariant (ap (λ (l : List (KeyValue × StateValue)). mark_lines c.args.select.now c.args.lane (marks_in c.args.book.now l)) (none_left _ (sym c.in_default.ensures.first)))
+returns-clause-lines g c = leads_end _ _ _ _ _ c.loop-line.invariant (ap (λ (l : List (KeyValue × StateValue)). mark_lines (g.T.TellsMark.line c.args.tells.now) c.args.select.now c.args.lane (marks_in c.args.book.now l)) (none_left _ (sym c.in_default.ensures.first)))
