@@ -31,7 +31,7 @@ reading=$(instructions cut)
 count=$(($(instructions count) - reading))
 table=$(($(instructions table) - reading))
 printf '%-40s %9s %14s %9s %9s\n' query told instructions count table
-for words in count table "count family 4" \
+for words in count table "full marks" "count family 4" \
     "count through 1005" "count through 64500" "count through 64500,1005,9327" "table through 1005" \
     "count community 64500:1234" "table community 64500:1234" "count other 32" "steps table router 0" "changes 0 0" \
     "full table" "full table community 64500:1234" "full changes 0 0"; do
