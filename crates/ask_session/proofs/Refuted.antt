@@ -12,6 +12,7 @@ use Rattle.ask_specs.proofs.OfferLaws.{offers_plain}
 use Rattle.ask_specs.proofs.WordLaws.{word_is_free}
 use Rattle.ask_specs.proofs.WrongLaws.{full_count, lacks_space}
 use Rattle.bmp_specs.specs.Life.{failed, Given}
+use Rattle.bmp_specs.specs.Openings.{nothing_told}
 use Rattle.bmp_specs.specs.Query.{table, quit, IsQuery, IsWord}
 use Rattle.bmp_specs.specs.Reply.{reply}
 use Rattle.bmp_specs.specs.Selection.{select_all}
@@ -188,7 +189,7 @@ no_row_stands_before_a_reply ask lanes history more r = absurd (omega (arith, ap
 -- A reply isn't of the snapshot before: where one entry was seen, none tells the revision 0. Only the clause of `reply_to`
 -- says so: by that of `serve_session` a reply is right at the revision that it tells, which never falls.
 abbrev one_entry : History
-one_entry = Of 0 Opened ∷ []
+one_entry = Of 0 (Opened nothing_told) ∷ []
 
 abbrev at_0 : List ℕ → List ℕ
 at_0 more = codes "at 0\n" ++ more

@@ -22,3 +22,4 @@ pub mod LiveLaws
 pub mod OfferLaws
 pub mod FullMarkLaws
 pub mod CountsAdd
+pub mod ForgetsFacts

@@ -5,6 +5,7 @@ pub mod Asking
 pub mod Offer
 pub mod FullLine
 pub mod FullMarks
+pub mod Facts
 pub mod AskReply
 pub mod StepRows
 pub mod Mirror

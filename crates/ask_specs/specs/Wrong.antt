@@ -3,6 +3,8 @@ use Rattle.std.specs.Prelude.{◌≡◌, ℕ, false, List, [], ◌∷◌, Some, 
 use Rattle.bmp_specs.specs.declared.peers.View.TheVariants.{InPre}
 use Rattle.bmp_specs.specs.declared.wire.Family.TheVariants.{V4}
 use Rattle.bmp_specs.specs.declared.wire.SegmentKind.TheVariants.{Sequence}
+use Rattle.bmp_specs.specs.MessageHead.{plain_head}
+use Rattle.bmp_specs.specs.Openings.{nothing_told}
 use Rattle.bmp_specs.specs.RouteLine.{route_line}
 use Rattle.bmp_specs.specs.Rows.{RowKeyValue, RowValue, HasRow}
 use Rattle.bmp_specs.specs.Session.{session_effects}
@@ -71,10 +73,10 @@ abbrev pub some_row : RowValue
 some_row = row_with [] []
 
 abbrev pub announced : List EntryValue
-announced = opened ∷ message 3 100 (up some_key some_info ∷ []) ∷ message 0 100 (announce some_key InPre some_place.nlri some_row.route ∷ []) ∷ []
+announced = opened nothing_told ∷ message (plain_head 3 100) (up some_key some_info ∷ []) ∷ message (plain_head 0 100) (announce some_key InPre some_place.nlri some_row.route ∷ []) ∷ []
 
 abbrev pub went_down : List EntryValue
-went_down = opened ∷ message 3 100 (up some_key some_info ∷ []) ∷ message 0 100 (announce some_key InPre some_place.nlri some_row.route ∷ []) ∷ message 2 100 (down some_key (record { reason = 4; detail = Unread }) ∷ []) ∷ []
+went_down = opened nothing_told ∷ message (plain_head 3 100) (up some_key some_info ∷ []) ∷ message (plain_head 0 100) (announce some_key InPre some_place.nlri some_row.route ∷ []) ∷ message (plain_head 2 100) (down some_key (record { reason = 4; detail = Unread }) ∷ []) ∷ []
 
 -- A copy that takes no heed of `down` keeps the row, which was exact before, and is wrong then.
 pub record DownTells : Type 0 where
@@ -84,7 +86,7 @@ pub record DownTells : Type 0 where
 
 -- Where a peer that isn't up announces, the steps leave a row that the lane hasn't: so `StepsLeaveRows` needs its premise.
 abbrev pub unannounced : List EntryValue
-unannounced = opened ∷ message 0 100 (announce some_key InPre some_place.nlri some_row.route ∷ []) ∷ []
+unannounced = opened nothing_told ∷ message (plain_head 0 100) (announce some_key InPre some_place.nlri some_row.route ∷ []) ∷ []
 
 pub record UpTells : Type 0 where
   pub is_left : IsLeft (steps_of unannounced) some_row

@@ -4,6 +4,7 @@ ghost use Rattle.bmp_specs.specs.MessageEffects.{strict};
 ghost use Rattle.ask_specs.specs.Asking.{AsksOne, AsksOneQuery, IsConservative};
 ghost use Rattle.ask_specs.specs.AskReply.{KeepsReplies};
 ghost use Rattle.ask_specs.specs.FullLine.{BeginsWithLine, TellsAll};
+ghost use Rattle.ask_specs.specs.Facts.{ForgetsFacts};
 ghost use Rattle.ask_specs.specs.FullMarks.{BeginsWithMark, CountsAddUp, CountsOnce};
 ghost use Rattle.ask_specs.specs.Lives.{LivesAnnounceOfUp};
 ghost use Rattle.ask_specs.specs.Mirror.{KeepsExactCopy};
@@ -99,4 +100,10 @@ pub fn marks_count_once()
 /// The numbers of rows of `full marks` add up to that of `count` with the same selectors.
 pub fn marks_add_up()
     ensures { CountsAddUp }
+{}
+
+/// No reply depends on from where a connection came, when it was opened and closed, what a Per-Peer Header tells beside its
+/// peer, or which families were passed over.
+pub fn replies_forget_facts()
+    ensures { ForgetsFacts }
 {}

@@ -16,7 +16,8 @@ pub use laws::{
     full_lines_tell_all, full_marks_begin_with_marks, lines_ask_one_thing,
     lines_keep_their_meaning, lines_keep_their_replies, lives_announce_of_up, marks_add_up,
     marks_count_once, offered_lines_ask_one_thing, offered_lines_keep_their_meaning,
-    plain_lines_ask_one_thing, replies_tell_changes, replies_tell_rows, steps_leave_rows,
+    plain_lines_ask_one_thing, replies_forget_facts, replies_tell_changes, replies_tell_rows,
+    steps_leave_rows,
 };
 pub use wrong::{
     a_number_too_large_names_none, another_order_asks_nothing, division_tells, down_tells,

@@ -6,7 +6,7 @@ use ip_prefix::{Addr, Family, Nlri};
 use prefix_trie::Steps;
 use rand_core::utils::NextWord;
 use rand_pcg::Lcg64Xsh32;
-use rib_model::Entry;
+use rib_model::{Entry, Opening};
 use route_runs::{Place, RouteTable};
 use router_tables::RouterTables;
 use std::alloc::Global;
@@ -96,7 +96,7 @@ impl Lane {
 // The tables of a lane that was opened. None where no memory is left.
 fn opened(alloc: Global) -> Option<RouterTables> {
     let mut tables = RouterTables::new(alloc).ok()?;
-    tables.apply(&Entry::Opened).ok()?;
+    tables.apply(&Entry::Opened(Opening::untold())).ok()?;
     Some(tables)
 }
 

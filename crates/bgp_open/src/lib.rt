@@ -13,6 +13,7 @@
 
 mod cap;
 mod coded;
+mod codes;
 mod fault;
 mod ids;
 mod message;
@@ -22,6 +23,7 @@ mod read;
 
 pub use bmp_specs::{Detail, Side};
 pub use cap::{Cap, CapList};
+pub use codes::{ADD_PATH, CAPABILITIES, FOUR_OCTET_AS, MULTIPROTOCOL};
 pub use fault::OpenFault;
 pub use ids::path_ids;
 pub use message::{

@@ -8,6 +8,7 @@ ghost use Rattle.bgp_open.specs.Telling.{TellsRest};
 
 use crate::cap::{Cap, CapList};
 use crate::coded::read_coded;
+use crate::codes::{ADD_PATH, CAPABILITIES, FOUR_OCTET_AS, MULTIPROTOCOL};
 use crate::open::Open;
 use byteorder::{BigEndian, ByteOrder};
 use std::alloc::Global;
@@ -15,18 +16,6 @@ use wire_io::{BodyFault, NoMemory};
 
 /// The bytes of an OPEN's body before its parameters (RFC 4271, section 4.2).
 const HEADER_LENGTH: usize = 10;
-
-/// "Parameter Type": capabilities (RFC 5492, section 4).
-const CAPABILITIES: u8 = 2;
-
-/// "Capability Code": multiprotocol extensions (RFC 4760, section 8).
-const MULTIPROTOCOL: u8 = 1;
-
-/// "Capability Code": four-octet AS numbers (RFC 6793, section 3).
-const FOUR_OCTET_AS: u8 = 65;
-
-/// "Capability Code": ADD-PATH (RFC 7911, section 4).
-const ADD_PATH: u8 = 69;
 
 /// The length that announces extended parameters, and the octet after it (RFC 9072, section 2).
 const EXTENDED: u8 = 255;

@@ -33,6 +33,7 @@ pub use fault::UpdateFault;
 pub use frame::{FramedUpdate, contained_routes, fits_family, frame_update};
 pub use judge::judge_update;
 pub use list::NlriList;
+pub use multi::unicast_family;
 pub use reader::UpdateReader;
 pub use update::Update;
 pub use wire_io::Unplaced;

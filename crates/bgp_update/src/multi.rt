@@ -24,8 +24,8 @@ const AFI_IP6: u16 = 2;
 /// "Subsequent Address Family Identifier" of unicast forwarding (RFC 4760, section 6).
 const SAFI_UNICAST: u8 = 1;
 
-// The family whose unicast the pair is.
-pub(crate) fn unicast_family(afi: u16, safi: u8) -> Option<Family>
+/// The family whose unicast the pair of AFI and SAFI is (RFC 4760, section 6): none of a family that isn't read.
+pub fn unicast_family(afi: u16, safi: u8) -> Option<Family>
     ensures { result ≡ unicast_family afi safi }
 {
     if afi == AFI_IP && safi == SAFI_UNICAST {

@@ -1,3 +1,6 @@
+/// "Version" of the common header (RFC 7854, section 4.1).
+pub const VERSION: u8 = 3;
+
 /// The types of messages (RFC 7854, section 4.1).
 pub const ROUTE_MONITORING: u8 = 0;
 
@@ -33,3 +36,21 @@ pub const O_FLAG: u8 = 0x10;
 
 /// The F flag of a Loc-RIB Instance Peer: the Loc-RIB is filtered (RFC 9069, section 4.2).
 pub const F_FLAG: u8 = 0x80;
+
+/// "Type = 0: String", in an Initiation and in a Peer Up (RFC 7854, section 4.4).
+pub const STRING: u16 = 0;
+
+/// "Type = 1: sysDescr" (RFC 7854, section 4.4).
+pub const SYS_DESCR: u16 = 1;
+
+/// "Type = 2: sysName" (RFC 7854, section 4.4).
+pub const SYS_NAME: u16 = 2;
+
+/// "Type = 3: VRF/Table Name" (RFC 9069, section 5.2.1).
+pub const TABLE_NAME: u16 = 3;
+
+/// "Type = 0: BGP Message" of Route Mirroring (RFC 7854, section 4.7).
+pub const MIRRORED_MESSAGE: u16 = 0;
+
+/// "Type = 1: Information" of Route Mirroring (RFC 7854, section 4.7).
+pub const MIRRORING_INFORMATION: u16 = 1;

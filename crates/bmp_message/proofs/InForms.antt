@@ -19,7 +19,8 @@ use Rattle.bmp_specs.specs.Update.{IsUpdate, passed_over}
 use Rattle.bmp_specs.specs.UpdateForms.{FitsWidth, FormsValue, Takes, as_agreed, departs, ids_in, width_in}
 use Rattle.bmp_specs.specs.Values.{BgpMessageValue, CapValue, OpenValue, OpensValue, UpdateValue}
 use Rattle.bmp_specs.proofs.BgpMessageCode.{IsBgpMessage-one}
-use Rattle.bmp_specs.proofs.LenientOne.{IsFramed-one, takes_one}
+use Rattle.bmp_specs.proofs.FramedOne.{IsFramed-one}
+use Rattle.bmp_specs.proofs.LenientOne.{takes_one}
 use Rattle.bmp_specs.proofs.LenientStrict.{lenient_update}
 use Rattle.bmp_specs.proofs.UpdateOne.{UpdateFields, fields_one}
 use Rattle.path_attrs.specs.Framed.{HasValueIn}

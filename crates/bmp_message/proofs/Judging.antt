@@ -1,10 +1,12 @@
 -- From what a message does by the RFCs to its entry, and back.
-use Rattle.std.proofs.Common.{◌≡◌, ℕ, ◌+◌, List, [], ◌∷◌, length, drop, Option, Some, None, refl, sym, ap, subst}
+use Rattle.std.proofs.Common.{◌≡◌, ℕ, List, [], ◌∷◌, drop, Option, Some, None, refl, sym, ap, subst}
 use Rattle.std.specs.Prelude.{MatchOption}
-use Rattle.bmp_specs.specs.MessageBody.{HasPeer, MessageType, OfPeer, OfType, ReadingState, message_type}
+use Rattle.bmp_specs.specs.MessageBody.{HasPeer, IsMessage, MessageType, OfPeer, OfType, ReadingState, message_type}
 use Rattle.bmp_specs.specs.MessageEffects.{IsMessageEntry, effects_of}
+use Rattle.bmp_specs.specs.MessageHead.{IsHead}
 use Rattle.bmp_specs.specs.PeerHeader.{HeaderValue, header_size, key_of}
-use Rattle.bmp_specs.specs.Values.{EffectValue, KeyValue, MessageValue, initiation, termination, of_unknown_type, passed, message}
+use Rattle.bmp_specs.specs.Values.{EffectValue, EntryValue, HeadValue, KeyValue, MessageValue, initiation, termination, of_unknown_type, passed, message}
+use Rattle.bmp_specs.proofs.HasHead.{strict_head}
 use Rattle.bmp_message.specs.Effects.{HasEffects, MeansNoEntry, ReadsNothing}
 use Rattle.bmp_message.specs.PeerMeaning.{HasPeerBy, OfTypeBy, strict_peers}
 use Rattle.bmp_message.specs.Types.{message_type_of, type_in}
@@ -50,10 +52,37 @@ module _ (s : ReadingState) (body : List ℕ) where
   done code.Unknown m next p = (ap effects_of p.0, p.1)
 
   module _ (kind : ℕ) (t : MessageTypeCode) (is : type_in t ≡ message_type kind) where
-    pub has_entry : (effects : List EffectValue) (next : ReadingState) → OfTypeBy strict_peers t s body effects next → IsMessageEntry s kind body (message kind (6 + length body) effects) next
+    meant_of : (effects : List EffectValue) (next : ReadingState) → OfTypeBy strict_peers t s body effects next → HasEffects (IsMessage s kind body) effects next
+    meant_of effects next p = subst (λ (u : MessageType). HasEffects (OfType u s body) effects next) is (meant t effects next p)
+
+    with_head : (effects : List EffectValue) (next : ReadingState) → HasEffects (IsMessage s kind body) effects next → (head : HeadValue) → IsHead kind body effects head → IsMessageEntry s kind body (message head effects) next
+    with_head effects next q head is_head = record {
+      value = q.value;
+      means = q.means;
+      head = head;
+      is_head = subst (λ (es : List EffectValue). IsHead kind body es head) q.effects_are is_head;
+      entry_is = ap (λ (es : List EffectValue). message head es) q.effects_are;
+    }
+
+    has_head : (effects : List EffectValue) (next : ReadingState) → OfTypeBy strict_peers t s body effects next → (head : HeadValue) × IsHead kind body effects head
+    has_head effects next p =
+        let q = meant_of effects next p in
+        let found = strict_head s kind body q.value next q.means in
+        (found.0, subst (λ (es : List EffectValue). IsHead kind body es found.0) (sym q.effects_are) found.1)
+
+    pub has_entry : (effects : List EffectValue) (next : ReadingState) → OfTypeBy strict_peers t s body effects next → (entry : EntryValue) × IsMessageEntry s kind body entry next
     has_entry effects next p =
-        let q = meant t effects next p in
-        record { value = q.value; means = subst (λ (u : MessageType). OfType u s body q.value next) is q.means; entry_is = ap (λ (es : List EffectValue). message kind (6 + length body) es) q.effects_are }
+        let found = has_head effects next p in
+        (message found.0 effects, with_head effects next (meant_of effects next p) found.0 found.1)
+
+    -- the entry of the effects that were made and of a head that is any that they have
+    pub is_entry : (effects made : List EffectValue) (given : HeadValue) (next : ReadingState) → effects ≡ made → ((head : HeadValue) → IsHead kind body made head → given ≡ head) → OfTypeBy strict_peers t s body effects next
+        → IsMessageEntry s kind body (message given made) next
+    is_entry effects made given next same one p =
+        let found = has_head effects next p in
+        let is : given ≡ found.0 = one found.0 (subst (λ (es : List EffectValue). IsHead kind body es found.0) same found.1) in
+        subst (λ (es : List EffectValue). IsMessageEntry s kind body (message given es) next) same
+        (with_head effects next (meant_of effects next p) given (subst (λ (head : HeadValue). IsHead kind body effects head) (sym is) found.1))
 
     pub no_entry : ReadsNothing (OfTypeBy strict_peers t s body) → MeansNoEntry (IsMessageEntry s kind body)
     no_entry none e next p = none (effects_of p.value) next (done t p.value next (subst (λ (u : MessageType). OfType u s body p.value next) (sym is) p.means))

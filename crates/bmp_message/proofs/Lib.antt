@@ -2,6 +2,7 @@ pub mod Peers
 pub mod UpdateOf
 pub mod Meanings
 pub mod PeerHeaders
+pub mod Heads
 pub mod Reaching
 pub mod Causes
 pub mod Judging

@@ -1,5 +1,5 @@
 -- What a wrong walk or reading would give, and that it isn't what the contract asks for.
-use Rattle.std.proofs.Common.{◌≡◌, ℕ, Bool, false, List, [], ◌∷◌, ◌++◌, get_or, refl, sym, ap, subst, ◌∙◌, arith, eqb}
+use Rattle.std.proofs.Common.{◌≡◌, ℕ, Bool, false, List, [], ◌∷◌, ◌++◌, replicate, get_or, Option, Some, refl, sym, ap, subst, ◌∙◌, arith, eqb}
 use Rattle.std.specs.Prelude.{MatchBool, None}
 use Rattle.std.proofs.lemmas.List.{get_or_append_left}
 use Rattle.bmp_specs.specs.declared.wire.Family.{Family}
@@ -7,10 +7,14 @@ use Rattle.bmp_specs.specs.declared.wire.IdUse.{IdUse}
 use Rattle.bmp_specs.specs.FramedUpdate.{FramedValue}
 use Rattle.bmp_specs.specs.Life.{EndsAt}
 use Rattle.bmp_specs.specs.Meaning.{Meaning, WalksBy}
+use Rattle.bmp_specs.specs.MessageHead.{IsHead, other_in, peer_head}
 use Rattle.bmp_specs.specs.Nlri.{AreNlri}
+use Rattle.bmp_specs.specs.PeerHeader.{HeaderValue}
 use Rattle.bmp_specs.specs.TreatAsWithdraw.{IsTreatedAsWithdraw, withdrawal_of}
-use Rattle.bmp_specs.specs.Values.{EntryValue, NlriValue, UpdateValue}
+use Rattle.bmp_specs.specs.Values.{EffectValue, EntryValue, HeadValue, MpValue, NlriValue, PeerHeadValue, UpdateValue, unread as passed_over}
 use Rattle.bmp_specs.specs.Walk.{Step, termination, terminated}
+use Rattle.bmp_specs.proofs.OneHead.{header_one}
+use Rattle.bmp_specs.proofs.PeerHeaderCode.{header_at, header_here}
 use Rattle.bmp_message.specs.StreamWalk.{next_stage, verdict_with}
 use Rattle.bmp_message.specs.declared.walk.Stage.TheVariants.{Terminated}
 
@@ -71,3 +75,20 @@ its_route_is_withdrawn ids unread treated =
     let behind = none_behind first.0 first.1 (sym (none ∙ first.4)) in
     let second = first.3 in
     some_prefix _ _ 8 (10 ∷ []) second.0 second.2 (none_in_front second.0 second.1 (sym second.4 ∙ behind))
+
+-- ---- the head of a message
+abbrev zeros : List ℕ
+zeros = replicate 42 0
+
+-- A Per-Peer Header of zeros is of AS 0. Who tells of AS 1 tells no head of its message,
+its_as_is_told : (effects : List EffectValue) (head : HeadValue) (told : PeerHeadValue) → IsHead 2 (zeros ++ 1 ∷ []) effects head → head.peer ≡ Some told → told.asn ≡ 1 → ⊥
+its_as_is_told effects head told is here one =
+    let header = header_one zeros is.peer_is.header (header_at zeros) is.peer_is.is (header_here zeros refl) in
+    let same : Some told ≡ Some (peer_head (header_at zeros)) = sym here ∙ is.peer_is.told_is ∙ ap (λ (h : HeaderValue). Some (peer_head h)) header in
+    absurd cc
+
+-- and who tells of no family where EVPN was passed over tells none either.
+its_family_is_told : (body : List ℕ) (head : HeadValue) (is : IsHead 0 body (passed_over 1 ∷ []) head) → is.others_are.framed.reach ≡ Some (record { afi = 25; safi = 70; hop = []; prefixes = [] }) → head.others ≡ [] → ⊥
+its_family_is_told body head is evpn none =
+    let first = ap (λ (m : Option MpValue). other_in m ++ other_in is.others_are.framed.unreach) evpn in
+    absurd (cc (sym none ∙ is.others_are.others_are ∙ first))

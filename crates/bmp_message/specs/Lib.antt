@@ -5,3 +5,4 @@ pub mod Types
 pub mod BodyForms
 pub mod Lenient
 pub mod PeerMeaning
+pub mod Heads

@@ -30,6 +30,7 @@ mod effects;
 mod events;
 mod fault;
 mod forms;
+mod head;
 mod in_forms;
 mod lenient;
 mod makes;

@@ -11,12 +11,13 @@ ghost use Rattle.rib_model.specs.Entries.{entry_value};
 mod judge;
 
 use crate::dispatch::{PeerReading, of_type};
+use crate::head::head_of;
 use crate::makes::{Makes, WithEffects};
 use crate::types::MessageType;
 use crate::{BodyReading, events};
 use bgp_open::PeerInfo;
 use bgp_update::UpdateReader;
-use bmp_frames::{COMMON_HEADER, PeerHeader, PeerKey};
+use bmp_frames::{PeerHeader, PeerKey};
 use peer_events::read_peer_up;
 use rib_model::{EffectList, Entry};
 use std::alloc::Global;
@@ -157,7 +158,13 @@ impl BodyReading for Reading {
 
     ghost judge_wants = { λ kind. kind ≢ 0 };
 
-    ghost gives_messages = { λ _ _ _ _ _ means. (effects_of means.value, means.entry_is) };
+    ghost gives_messages = { λ _ _ _ _ _ means. record {
+      head = means.head;
+      effects = effects_of means.value;
+      kind_is = means.is_head.kind_is;
+      size_is = means.is_head.size_is;
+      entry_is = means.entry_is;
+    } };
 
     #[inline]
     fn new(alloc: Global) -> Reading {
@@ -166,11 +173,8 @@ impl BodyReading for Reading {
 
     fn entry(&mut self, kind: u8, body: &[u8]) -> Result<Entry, BodyFault> {
         let effects = of_type::<Reading, WithEffects>(self, MessageType::of(kind), body)?;
-        Ok(Entry::Message {
-            kind,
-            length: COMMON_HEADER + body.len() as u32,
-            effects,
-        })
+        let head = head_of(kind, body, &effects);
+        Ok(Entry::Message { head, effects })
     }
 
     #[inline]

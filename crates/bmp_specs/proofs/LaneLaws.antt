@@ -2,13 +2,12 @@
 -- and the effects.
 use Rattle.std.proofs.Common.{◌≡◌, ℕ, ◌+◌, List, [], ◌∷◌, ◌++◌, length, sym, ap, ◌∙◌, length-append}
 use Rattle.std.specs.Prelude.{count_by, sum_by}
-use Rattle.bmp_specs.specs.declared.causes.Cause.{Cause}
 use Rattle.bmp_specs.specs.Check.{length_of}
 use Rattle.bmp_specs.specs.Counts.{CountsValue, counts_of, is_orphan, is_mirrored, is_passed, parts_in}
 use Rattle.bmp_specs.specs.Reply.{told_count}
 use Rattle.bmp_specs.specs.Session.{live, state_of, session_messages, session_effects}
 use Rattle.bmp_specs.specs.Sums.{no_counts, sum_of, message_counts}
-use Rattle.bmp_specs.specs.Values.{EffectValue, EntryValue, opened, message, closed}
+use Rattle.bmp_specs.specs.Values.{ClosingValue, EffectValue, EntryValue, HeadValue, OpeningValue, opened, message, closed}
 use Rattle.bmp_specs.proofs.CountLaws.{sum_pushed, orphans_append, unread_append, mirrored_append, passed_append}
 use Rattle.bmp_specs.proofs.ReplyCounts.{told_sum}
 use Rattle.bmp_specs.proofs.SessionLaws.{messages_after_opening, messages_after_closing, messages_after_message, messages_stay, effects_after_opening, effects_after_closing, effects_after_message, effects_stay}
@@ -24,26 +23,26 @@ counts_by messages effects = record {
   passed = told_count (count_by is_passed effects);
 }
 
-pub counts_after_opening : (entries : List EntryValue) → counts_of (entries ++ opened ∷ []) ≡ no_counts
-counts_after_opening entries = let messages = messages_after_opening entries in let effects = effects_after_opening entries in λ i. counts_by (messages i) (effects i)
+pub counts_after_opening : (entries : List EntryValue) (came : OpeningValue) → counts_of (entries ++ opened came ∷ []) ≡ no_counts
+counts_after_opening entries came = let messages = messages_after_opening entries came in let effects = effects_after_opening entries came in λ i. counts_by (messages i) (effects i)
 
-pub counts_after_closing : (entries : List EntryValue) (cause : Cause) → counts_of (entries ++ closed cause ∷ []) ≡ no_counts
-counts_after_closing entries cause = let messages = messages_after_closing entries cause in let effects = effects_after_closing entries cause in λ i. counts_by (messages i) (effects i)
+pub counts_after_closing : (entries : List EntryValue) (closing : ClosingValue) → counts_of (entries ++ closed closing ∷ []) ≡ no_counts
+counts_after_closing entries closing = let messages = messages_after_closing entries closing in let effects = effects_after_closing entries closing in λ i. counts_by (messages i) (effects i)
 
-pub counts_stay : (entries : List EntryValue) (kind len : ℕ) (effects : List EffectValue) → (state_of entries ≡ live → ⊥) → counts_of (entries ++ message kind len effects ∷ []) ≡ counts_of entries
-counts_stay entries kind len effects isnt_live = let messages = messages_stay entries kind len effects isnt_live in let told = effects_stay entries kind len effects isnt_live in λ i. counts_by (messages i) (told i)
+pub counts_stay : (entries : List EntryValue) (head : HeadValue) (effects : List EffectValue) → (state_of entries ≡ live → ⊥) → counts_of (entries ++ message head effects ∷ []) ≡ counts_of entries
+counts_stay entries head effects isnt_live = let messages = messages_stay entries head effects isnt_live in let told = effects_stay entries head effects isnt_live in λ i. counts_by (messages i) (told i)
 
 -- a count that ended, with more
 told_pushed : (m n all : ℕ) → all ≡ m + n → told_count all ≡ told_count (told_count m + n)
 told_pushed m n all is = ap told_count is ∙ sym (told_sum m n)
 
-pub counts_after_message : (entries : List EntryValue) (kind len : ℕ) (effects : List EffectValue) → state_of entries ≡ live → counts_of (entries ++ message kind len effects ∷ []) ≡ sum_of (counts_of entries) (message_counts len effects)
-counts_after_message entries kind len effects is_live =
-    let one : List EntryValue = message kind len effects ∷ [] in
-    let all = messages_after_message entries kind len effects is_live in
-    let told = effects_after_message entries kind len effects is_live in
+pub counts_after_message : (entries : List EntryValue) (head : HeadValue) (effects : List EffectValue) → state_of entries ≡ live → counts_of (entries ++ message head effects ∷ []) ≡ sum_of (counts_of entries) (message_counts head.size effects)
+counts_after_message entries head effects is_live =
+    let one : List EntryValue = message head effects ∷ [] in
+    let all = messages_after_message entries head effects is_live in
+    let told = effects_after_message entries head effects is_live in
     let messages = told_pushed (length (session_messages entries)) 1 _ (ap length all ∙ length-append (session_messages entries) one) in
-    let bytes = told_pushed (sum_by length_of (session_messages entries)) len _ (ap (sum_by length_of) all ∙ sum_pushed length_of (session_messages entries) (message kind len effects)) in
+    let bytes = told_pushed (sum_by length_of (session_messages entries)) head.size _ (ap (sum_by length_of) all ∙ sum_pushed length_of (session_messages entries) (message head effects)) in
     let orphans = told_pushed (count_by is_orphan (session_effects entries)) (count_by is_orphan effects) _ (ap (count_by is_orphan) told ∙ orphans_append (session_effects entries) effects) in
     let unheard = told_pushed (sum_by parts_in (session_effects entries)) (sum_by parts_in effects) _ (ap (sum_by parts_in) told ∙ unread_append (session_effects entries) effects) in
     let mirrored = told_pushed (count_by is_mirrored (session_effects entries)) (count_by is_mirrored effects) _ (ap (count_by is_mirrored) told ∙ mirrored_append (session_effects entries) effects) in

@@ -4,29 +4,24 @@ use Rattle.std.specs.Prelude.{MatchOption}
 use Rattle.bmp_specs.specs.declared.wire.Family.TheVariants.{V4, V6}
 use Rattle.bmp_specs.specs.declared.wire.IdUse.{IdUse}
 use Rattle.bmp_specs.specs.AddressFamily.{uses_ids}
-use Rattle.bmp_specs.specs.Attribute.{IsAttribute}
-use Rattle.bmp_specs.specs.Attributes.{mp_reach_nlri, mp_unreach_nlri, value_of}
 use Rattle.bmp_specs.specs.FramedUpdate.{FitsFamily, FramedValue, IsFramed, PlaceValue, places}
 use Rattle.bmp_specs.specs.LenientBody.{HasPeerLeniently, IsAsStrict, IsLenientUpdate, IsMalformed, IsNoReport, IsOrphan, IsReadInForms, IsUnreadable, OfPeerLeniently, OfTypeLeniently, TellsRoutes, TellsStatistics, implied_up, lenient}
 use Rattle.bmp_specs.specs.LenientState.{LenientState, opens_for, with_shown, with_told}
 use Rattle.bmp_specs.specs.Meaning.{IsExact}
 use Rattle.bmp_specs.specs.MessageBody.{MessageType, id_use, message_type, initiation_message, peer_down_notification, peer_up_notification, route_mirroring, route_monitoring, statistics_report, termination_message, unassigned}
 use Rattle.bmp_specs.specs.MessageEffects.{effects_of}
-use Rattle.bmp_specs.specs.MpNlri.{IsMpReach, IsMpUnreach}
-use Rattle.bmp_specs.specs.Parts.{AreParts}
 use Rattle.bmp_specs.specs.PeerHeader.{HeaderValue, header_size, key_of, view_of}
 use Rattle.bmp_specs.specs.TreatAsWithdraw.{ArePlaced, IsTreatedAsWithdraw, withdrawal_of}
 use Rattle.bmp_specs.specs.Update.{IsUpdate, passed_over}
 use Rattle.bmp_specs.specs.UpdateForms.{FitsWidth, FormsValue, Takes, ids_in, width_in}
-use Rattle.bmp_specs.specs.Values.{BgpMessageValue, DownInfoValue, EffectValue, KeyValue, MessageValue, NlriValue, OpensValue, OtherValue, PeerUpValue, StatisticsValue, UpdateValue, message, mirrored_routes, passed, peer_down, peer_up, routes, statistics}
-use Rattle.bmp_specs.proofs.AttributesOne.{attribute_code, reach_one, unreach_one}
+use Rattle.bmp_specs.specs.Values.{BgpMessageValue, DownInfoValue, EffectValue, KeyValue, MessageValue, NlriValue, OpensValue, PeerUpValue, StatisticsValue, UpdateValue, mirrored_routes, passed, peer_down, peer_up, routes, statistics}
 use Rattle.bmp_specs.proofs.BgpMessageCode.{IsBgpMessage-one}
 use Rattle.bmp_specs.proofs.BodiesOne.{IsMirroring-one, IsPeerDown-one, IsPeerUp-one, IsStatistics-one}
-use Rattle.bmp_specs.proofs.MessageOne.{header_one, of_type_one}
+use Rattle.bmp_specs.proofs.FramedOne.{IsFramed-one}
+use Rattle.bmp_specs.proofs.MessageOne.{of_type_one}
 use Rattle.bmp_specs.proofs.NlriCode.{AreNlri-one}
-use Rattle.bmp_specs.proofs.PartsRead.{AreParts-one}
-use Rattle.bmp_specs.proofs.ThenOne.{IsOne, Optional-one}
-use Rattle.bmp_specs.proofs.UpdateOne.{IsUpdate-one, UpdateFields, fields_one}
+use Rattle.bmp_specs.proofs.OneHead.{header_one, same_entry}
+use Rattle.bmp_specs.proofs.UpdateOne.{IsUpdate-one}
 
 -- one form is taken
 pub takes_one : (Fits : Bool → Type 0) (last a b : Bool) → Takes Fits last a → Takes Fits last b → a ≡ b
@@ -36,18 +31,6 @@ takes_one Fits true true false p q = elim q.first [ inl e ↦ absurd (true≢fal
 takes_one Fits false true false p q = elim p.first [ inl e ↦ absurd (true≢false e) | inr misfit ↦ absurd (misfit q.fits) ]
 takes_one Fits true false true p q = elim p.first [ inl e ↦ absurd (true≢false (sym e)) | inr misfit ↦ absurd (misfit q.fits) ]
 takes_one Fits false false true p q = elim q.first [ inl e ↦ absurd (true≢false e) | inr misfit ↦ absurd (misfit p.fits) ]
-
-pub IsFramed-one : IsOne IsFramed
-IsFramed-one body f g p q =
-    let fields = fields_one body (f.withdrawn_routes, (f.path_attributes, f.nlri)) (g.withdrawn_routes, (g.path_attributes, g.nlri)) p.fields q.fields in
-    let withdrawn : f.withdrawn_routes ≡ g.withdrawn_routes = ap (λ (x : UpdateFields). x.0) fields in
-    let attributes : f.path_attributes ≡ g.path_attributes = ap (λ (x : UpdateFields). x.1.0) fields in
-    let nlri : f.nlri ≡ g.nlri = ap (λ (x : UpdateFields). x.1.1) fields in
-    let same : p.parts ≡ q.parts = AreParts-one IsAttribute attribute_code g.path_attributes p.parts q.parts (subst (λ (l : List ℕ). AreParts IsAttribute l p.parts) attributes p.are) q.are in
-    let found : (code : ℕ) → value_of code p.parts ≡ value_of code q.parts = λ code. ap (λ (l : List OtherValue). value_of code l) same in
-    let reach = Optional-one IsMpReach reach_one (value_of mp_reach_nlri q.parts) f.reach g.reach (rw (found mp_reach_nlri) at p.reach_is) q.reach_is in
-    let unreach = Optional-one IsMpUnreach unreach_one (value_of mp_unreach_nlri q.parts) f.unreach g.unreach (rw (found mp_unreach_nlri) at p.unreach_is) q.unreach_is in
-    λ i. record { withdrawn_routes = withdrawn i; path_attributes = attributes i; nlri = nlri i; reach = reach i; unreach = unreach i }
 
 placed_one : (ids : IdUse) (ps : List PlaceValue) (ns ms : List NlriValue) → ArePlaced ids ps ns → ArePlaced ids ps ms → ns ≡ ms
 placed_one ids [] ns ms p q = p ∙ sym q
@@ -186,4 +169,4 @@ module _ (state : LenientState) (a b : List EffectValue) (s t : LenientState) wh
 pub lenient_exact : IsExact lenient
 lenient_exact s t u kind body e f p q =
     let same = types_one s p.effects q.effects t u (message_type kind) body p.means q.means in
-    (p.entry_is ∙ ap (λ (l : List EffectValue). message kind (6 + length body) l) same.effects ∙ sym q.entry_is, same.next)
+    (p.entry_is ∙ same_entry kind body p.effects q.effects p.head q.head same.effects p.is_head q.is_head ∙ sym q.entry_is, same.next)

@@ -1,59 +1,26 @@
 -- An UPDATE message that has a value by the RFCs has it in the forms that were agreed, so the lenient reading gives the
 -- same.
-use Rattle.std.proofs.Common.{◌≡◌, ℕ, Bool, true, false, cond, inl, List, [], ◌∷◌, ◌++◌, filter, map, option_map, option_to_list, Option, Some, None, refl, subst}
-use Rattle.std.specs.Prelude.{MatchOption, ◌==◌}
-use Rattle.std.specs.List.{AllByRecursion, IsDistinct}
+use Rattle.std.proofs.Common.{◌≡◌, ℕ, Bool, inl, List, [], ◌∷◌, ◌++◌, option_map, option_to_list, Option, Some, None, refl, subst}
+use Rattle.std.specs.Prelude.{MatchOption}
+use Rattle.std.specs.List.{AllByRecursion}
 use Rattle.bmp_specs.specs.declared.wire.Family.{Family}
 use Rattle.bmp_specs.specs.declared.wire.Family.TheVariants.{V4, V6}
 use Rattle.bmp_specs.specs.declared.wire.IdUse.{IdUse}
 use Rattle.bmp_specs.specs.declared.wire.Width.{Width}
 use Rattle.bmp_specs.specs.AddressFamily.{unicast_family, uses_ids}
-use Rattle.bmp_specs.specs.FramedUpdate.{FitsFamily, FitsPlace, FramedValue, IsFramed, PlaceValue, is_multiprotocol, place_in}
+use Rattle.bmp_specs.specs.FramedUpdate.{FitsFamily, FitsPlace, PlaceValue, place_in}
 use Rattle.bmp_specs.specs.LenientBody.{IsLenientUpdate}
 use Rattle.bmp_specs.specs.MessageBody.{IsRouteMonitoring, id_use, width_of}
 use Rattle.bmp_specs.specs.Nlri.{AreNlri}
 use Rattle.bmp_specs.specs.PeerHeader.{HeaderValue}
 use Rattle.bmp_specs.specs.Update.{AreMpNlri, IsUpdate}
 use Rattle.bmp_specs.specs.UpdateForms.{as_agreed}
-use Rattle.bmp_specs.specs.Values.{MpValue, NlriValue, OpensValue, OtherValue, UpdateValue}
+use Rattle.bmp_specs.specs.Values.{MpValue, NlriValue, OpensValue, UpdateValue}
+use Rattle.bmp_specs.proofs.FramedOne.{frame_of, is_framed}
 
 all_join : {X : Type 0} (P : X → Type 0) (xs ys : List X) → AllByRecursion P xs → AllByRecursion P ys → AllByRecursion P (xs ++ ys)
 all_join P [] ys a b = b
 all_join P (x ∷ xs) ys a b = (a.0, all_join P xs ys a.1 b)
-
--- of codes that are distinct those that pass a test are
-module _ (same : ℕ → ℕ → Bool) (test : ℕ → Bool) where
-  apart_at : (b : Bool) (P : ℕ → Type 0) (j : ℕ) (ks : List ℕ) → P j → AllByRecursion P ks → AllByRecursion P (cond b (j ∷ ks) ks)
-  apart_at true P j ks p a = (p, a)
-  apart_at false P j ks p a = a
-
-  apart : (P : ℕ → Type 0) (ks : List ℕ) → AllByRecursion P ks → AllByRecursion P (filter test ks)
-  apart P [] a = tt
-  apart P (k ∷ ks) a = apart_at (test k) P k (filter test ks) a.0 (apart P ks a.1)
-
-  distinct_at : (b : Bool) (k : ℕ) (ks : List ℕ) → AllByRecursion (λ j. same k j ≡ false) ks → IsDistinct same ks → IsDistinct same (cond b (k ∷ ks) ks)
-  unfolding IsDistinct
-  distinct_at true k ks a d = (a, d)
-  distinct_at false k ks a d = d
-
-  pub distinct_filter : (ks : List ℕ) → IsDistinct same ks → IsDistinct same (filter test ks)
-  unfolding IsDistinct
-  distinct_filter [] d = tt
-  distinct_filter (k ∷ ks) d = distinct_at (test k) k (filter test ks) (apart (λ j. same k j ≡ false) ks d.0) (distinct_filter ks d.1)
-
--- the frame of an UPDATE message
-abbrev frame_of : (width : Width) (ids : IdUse) (body : List ℕ) (u : UpdateValue) → IsUpdate width ids body u → FramedValue
-frame_of width ids body u p = record { withdrawn_routes = p.withdrawn_routes; path_attributes = p.path_attributes; nlri = p.nlri; reach = p.read.reach; unreach = p.read.unreach }
-
-is_framed : (width : Width) (ids : IdUse) (body : List ℕ) (u : UpdateValue) (p : IsUpdate width ids body u) → IsFramed body (frame_of width ids body u p)
-is_framed width ids body u p = record {
-  fields = p.fields;
-  parts = p.attributes.parts;
-  are = p.attributes.are;
-  distinct = distinct_filter (λ j k. j == k) is_multiprotocol (map (λ (a : OtherValue). a.code) p.attributes.parts) p.attributes.distinct;
-  reach_is = p.attributes.reach_is;
-  unreach_is = p.attributes.unreach_is;
-}
 
 module _ (ids : IdUse) (family : Family) where
   fits_place : (place : PlaceValue) (ns : List NlriValue) → AreNlri place.family (uses_ids ids place.family) place.prefixes ns → FitsPlace family (uses_ids ids family) place

@@ -14,7 +14,7 @@ use Rattle.bmp_specs.specs.UpdateForms.{FormsValue}
 use Rattle.bmp_specs.specs.Values.{EffectValue, KeyValue, MessageValue, NlriValue, OpensValue, StatisticsValue, StatValue, UpdateValue, announce, mark, orphan, passed, routes, statistic, statistics, unread, withdraw}
 use Rattle.bmp_specs.proofs.LenientAgrees.{Agrees, AreOf, agrees_apart, agrees_still}
 use Rattle.bmp_specs.proofs.LenientKeeps.{IsUntoldBody}
-use Rattle.bmp_specs.proofs.MessageOne.{header_one}
+use Rattle.bmp_specs.proofs.OneHead.{header_one}
 
 -- ---- effects of one peer
 abbrev Speak : KeyValue → List EffectValue → Type 0

@@ -6,20 +6,22 @@ use Rattle.std.proofs.lemmas.List.{append_cancel_left}
 use Rattle.bmp_specs.specs.declared.causes.Why.TheVariants.{Body}
 use Rattle.bmp_specs.specs.Conservative.{AreReadAlike, EndsAlike, IsConservative, IsReadAlike}
 use Rattle.bmp_specs.specs.Frame.{IsFrame}
-use Rattle.bmp_specs.specs.LenientBody.{IsLenientEntry, lenient}
+use Rattle.bmp_specs.specs.LenientBody.{IsLenientEntry, OfTypeLeniently, lenient}
 use Rattle.bmp_specs.specs.LenientState.{LenientState}
 use Rattle.bmp_specs.specs.Meaning.{WalksBy}
-use Rattle.bmp_specs.specs.MessageBody.{ReadingState, message_type}
+use Rattle.bmp_specs.specs.MessageBody.{ReadingState, message_type, route_monitoring, statistics_report}
 use Rattle.bmp_specs.specs.MessageEffects.{IsMessageEntry, effects_of, strict}
 use Rattle.bmp_specs.specs.Session.{effects_in}
 use Rattle.bmp_specs.specs.Values.{EffectValue, EntryValue, MessageValue, message, orphan}
 use Rattle.bmp_specs.specs.Walk.{BreaksBody, Step, Stops, Verdict, Walks, broken, terminated, termination}
 use Rattle.bmp_specs.proofs.FrameCode.{frame_one}
+use Rattle.bmp_specs.proofs.HasHead.{lenient_head}
 use Rattle.bmp_specs.proofs.LenientAgrees.{Agrees, agrees_first}
 use Rattle.bmp_specs.proofs.LenientKeeps.{IsUntoldBody, Kept, of_type_keeps}
 use Rattle.bmp_specs.proofs.LenientOne.{lenient_exact}
 use Rattle.bmp_specs.proofs.LenientUntold.{ReadsApart, untold_apart, untold_loc_rib, untold_somehow}
 use Rattle.bmp_specs.proofs.MessageOne.{strict_exact}
+use Rattle.bmp_specs.proofs.OneHead.{same_entry, same_peer}
 use Rattle.bmp_specs.proofs.WalkOne.{at_front, front_verdict, stop_verdict}
 
 -- ---- one message
@@ -29,27 +31,35 @@ pub record ReadsBoth (before : List EffectValue) (e f : EntryValue) (s : Reading
   pub agrees : Agrees (before ++ effects_in e) s t
 
 module _ (before : List EffectValue) (s after : ReadingState) (t : LenientState) (agrees : Agrees before s t) (kind : ℕ) (body : List ℕ) (e : EntryValue) (x : IsMessageEntry s kind body e after) where
-  kept_both : (f : EntryValue) (next : LenientState) → IsLenientEntry t kind body f next → Kept (λ effects n. IsLenientEntry t kind body (message kind (6 + length body) effects) n) before x.value after → ReadsBoth before e f after next
+  -- the same entry in the lenient reading
+  kept_entry : (k : Kept (OfTypeLeniently (message_type kind) t body) before x.value after) → IsLenientEntry t kind body (message x.head (effects_of x.value)) k.next
+  kept_entry k = record { effects = effects_of x.value; means = k.means; head = x.head; is_head = x.is_head; entry_is = refl }
+
+  kept_both : (f : EntryValue) (next : LenientState) → IsLenientEntry t kind body f next → Kept (OfTypeLeniently (message_type kind) t body) before x.value after → ReadsBoth before e f after next
   kept_both f next y k =
-      let same = lenient_exact t k.next next kind body (message kind (6 + length body) (effects_of x.value)) f k.means y in
+      let same = lenient_exact t k.next next kind body (message x.head (effects_of x.value)) f (kept_entry k) y in
       let moved = subst (λ (n : LenientState). Agrees (before ++ effects_of x.value) after n) same.1 k.agrees in
       record { alike = inl (x.entry_is ∙ same.0); agrees = subst (λ (d : EntryValue). Agrees (before ++ effects_in d) after next) (sym x.entry_is) moved }
 
   untold_both : (f : EntryValue) (next : LenientState) → (y : IsLenientEntry t kind body f next) → (o : IsUntoldBody (message_type kind) t body x.value s after) → ReadsApart before s o.key y.effects next → ReadsBoth before e f after next
   untold_both f next y o p =
-      let is : e ≡ message kind (6 + length body) (orphan ∷ []) = x.entry_is ∙ ap (λ (m : MessageValue). message kind (6 + length body) (effects_of m)) o.message.value_is in
+      let effects : effects_of x.value ≡ orphan ∷ [] = ap (λ (m : MessageValue). effects_of m) o.message.value_is in
+      let is : e ≡ message x.head (orphan ∷ []) = x.entry_is ∙ ap (λ (l : List EffectValue). message x.head l) effects in
       let moved = subst (λ (r : ReadingState). Agrees (before ++ orphan ∷ []) r next) (sym o.message.state_is) p.agrees in
       record {
         alike = elim p.speaks [
-          | inl same ↦ inl (is ∙ sym (y.entry_is ∙ ap (λ (l : List EffectValue). message kind (6 + length body) l) same))
+          | inl same ↦ inl (x.entry_is ∙ same_entry kind body (effects_of x.value) y.effects x.head y.head (effects ∙ sym same) x.is_head y.is_head ∙ sym y.entry_is)
           | inr speaks ↦ inr (record {
-            kind = kind;
-            size = 6 + length body;
+            head = x.head;
+            other = y.head;
             key = o.key;
             effects = y.effects;
             strictly_is = is;
             leniently_is = y.entry_is;
-            of_routes = o.message.type_is;
+            same_kind = y.is_head.kind_is ∙ sym x.is_head.kind_is;
+            same_size = y.is_head.size_is ∙ sym x.is_head.size_is;
+            same_peer = same_peer kind body (effects_of x.value) y.effects x.head y.head x.is_head y.is_head;
+            of_routes = subst (λ (k : ℕ). (message_type k ≡ route_monitoring) ⊎ (message_type k ≡ statistics_report)) (sym x.is_head.kind_is) o.message.type_is;
             is_loc_rib = untold_loc_rib t o.key o.message.untold;
             untold = agrees.untold o.key o.message.untold;
             speaks = speaks;
@@ -58,11 +68,8 @@ module _ (before : List EffectValue) (s after : ReadingState) (t : LenientState)
         agrees = subst (λ (d : EntryValue). Agrees (before ++ effects_in d) after next) (sym is) moved;
       }
 
-  entry_kept : Kept (λ effects n. IsLenientEntry t kind body (message kind (6 + length body) effects) n) before x.value after ⊎ IsUntoldBody (message_type kind) t body x.value s after
-  entry_kept = elim (of_type_keeps before s t agrees (message_type kind) body x.value after x.means) [
-    | inl k ↦ inl (record { next = k.next; means = record { effects = effects_of x.value; means = k.means; entry_is = refl }; agrees = k.agrees })
-    | inr o ↦ inr o
-  ]
+  entry_kept : Kept (OfTypeLeniently (message_type kind) t body) before x.value after ⊎ IsUntoldBody (message_type kind) t body x.value s after
+  entry_kept = of_type_keeps before s t agrees (message_type kind) body x.value after x.means
 
   entry_both : (f : EntryValue) (next : LenientState) → IsLenientEntry t kind body f next → ReadsBoth before e f after next
   entry_both f next y = elim entry_kept [
@@ -73,8 +80,10 @@ module _ (before : List EffectValue) (s after : ReadingState) (t : LenientState)
   -- the lenient reading doesn't stop at a message that the strict one reads
   entry_somehow : ((f : EntryValue) (next : LenientState) → ¬ (IsLenientEntry t kind body f next)) → ⊥
   entry_somehow none = elim entry_kept [
-    | inl k ↦ none (message kind (6 + length body) (effects_of x.value)) k.next k.means
-    | inr o ↦ untold_somehow before s t agrees body x.value after (message_type kind) o (λ effects next p. none (message kind (6 + length body) effects) next (record { effects = effects; means = p; entry_is = refl }))
+    | inl k ↦ none (message x.head (effects_of x.value)) k.next (kept_entry k)
+    | inr o ↦ untold_somehow before s t agrees body x.value after (message_type kind) o (λ effects next p.
+        let has = lenient_head t kind body effects next p in
+        none (message has.0 effects) next (record { effects = effects; means = p; head = has.0; is_head = has.1; entry_is = refl }))
   ]
 
 -- ---- all of them

@@ -79,10 +79,10 @@ cause_of_fault taken v offset u room = record { fits = (refl, refl); first = fir
     first (CutShort at) lower fits = let e = fits.0 in cc
     first (ReadFault at) lower fits = omega arith
 
--- bytes and a last read have one life
-pub life_one : (meaning : Meaning) → IsExact meaning → (bytes : List ℕ) (last : LastRead) (a b : List EntryValue) → IsLife meaning bytes last a → IsLife meaning bytes last b → a ≡ b
-life_one meaning exact bytes last a b p q =
+-- bytes and a last read have one life, but for what the port told
+pub life_one : (meaning : Meaning) → IsExact meaning → (bytes : List ℕ) (last : LastRead) (a b : List EntryValue) (p : IsLife meaning bytes last a) (q : IsLife meaning bytes last b) → p.came ≡ q.came → p.until ≡ q.until → a ≡ b
+life_one meaning exact bytes last a b p q same_opening same_until =
     let walks = walk_one meaning.Means exact meaning.start bytes p.messages q.messages p.offset q.offset p.verdict q.verdict p.walk q.walk in
     let moved = subst (λ (v : Verdict). IsCause (length bytes) last v q.offset p.cause) walks.2 (subst (λ (o : ℕ). IsCause (length bytes) last p.verdict o p.cause) walks.1 p.because) in
     let cause = cause_one (length bytes) last q.verdict q.offset p.cause q.cause moved q.because in
-    p.is ∙ ap (λ (ms : List EntryValue). opened ∷ (ms ++ closed p.cause ∷ [])) walks.0 ∙ ap (λ (c : Cause). opened ∷ (q.messages ++ closed c ∷ [])) cause ∙ sym q.is
+    p.is ∙ (λ i. opened (same_opening i) ∷ (walks.0 i ++ closed (record { cause = cause i; until = same_until i }) ∷ [])) ∙ sym q.is

@@ -4,14 +4,14 @@ use Rattle.std.specs.Prelude.{MatchOption}
 use Rattle.bmp_specs.specs.MessageBody.{HasPeer, IsMessage, IsRouteMonitoring, MessageType, OfPeer, OfType, ReadingState, id_use, message_type, width_of, with_peer, initiation_message, peer_down_notification, peer_up_notification, route_mirroring, route_monitoring, statistics_report, termination_message, unassigned}
 use Rattle.bmp_specs.specs.Meaning.{Meaning, IsExact, WalksBy}
 use Rattle.bmp_specs.specs.MessageEffects.{IsMessageEntry, effects_of, strict}
-use Rattle.bmp_specs.specs.PeerHeader.{HeaderValue, IsHeader, header_size, key_of, view_of}
+use Rattle.bmp_specs.specs.PeerHeader.{HeaderValue, header_size, key_of, view_of}
 use Rattle.bmp_specs.specs.Statistics.{IsStatistics}
 use Rattle.bmp_specs.specs.Update.{IsUpdate}
-use Rattle.bmp_specs.specs.Values.{BgpMessageValue, DownInfoValue, EntryValue, InitiationValue, KeyValue, MessageValue, OpensValue, PeerUpValue, StatisticsValue, UpdateValue, initiation, message, mirrored_routes, of_unknown_type, peer_down, peer_up, routes, statistics}
+use Rattle.bmp_specs.specs.Values.{BgpMessageValue, DownInfoValue, EntryValue, InitiationValue, KeyValue, MessageValue, OpensValue, PeerUpValue, StatisticsValue, UpdateValue, initiation, mirrored_routes, of_unknown_type, peer_down, peer_up, routes, statistics}
 use Rattle.bmp_specs.specs.Walk.{Verdict}
 use Rattle.bmp_specs.proofs.BgpMessageCode.{IsBgpMessage-one}
 use Rattle.bmp_specs.proofs.BodiesOne.{IsInitiation-one, IsMirroring-one, IsPeerDown-one, IsPeerUp-one, IsStatistics-one}
-use Rattle.bmp_specs.proofs.PeerHeaderCode.{header_code}
+use Rattle.bmp_specs.proofs.OneHead.{header_one, same_entry}
 use Rattle.bmp_specs.proofs.UpdateOne.{IsUpdate-one}
 use Rattle.bmp_specs.proofs.WalkOne.{walk_one}
 
@@ -65,10 +65,6 @@ by_key_one : (found : Option KeyValue) (kind : MessageType) (state : ReadingStat
 by_key_one None kind state h rest m n none s t p q = record { message = p.0 ∙ sym q.0; next = p.1 ∙ sym q.1 }
 by_key_one (Some key) kind state h rest m n none s t p q = of_peer_one kind state h key rest m n s t p q
 
--- the header is one
-pub header_one : (bytes : List ℕ) (h k : HeaderValue) → IsHeader bytes h → IsHeader bytes k → h ≡ k
-header_one bytes h k p q = (header_code.one bytes bytes [] [] h k p q refl).1
-
 has_peer_one : (kind : MessageType) (state : ReadingState) (body : List ℕ) (m n : MessageValue) (s t : ReadingState) → HasPeer kind state body m s → HasPeer kind state body n t → SameMessage m n s t
 has_peer_one kind state body m n s t p q =
     let same : p.header ≡ q.header = header_one (take header_size body) p.header q.header p.is q.is in
@@ -96,7 +92,7 @@ IsMessage-one state s t kind body m n p q = let same = of_type_one (message_type
 pub IsMessageEntry-one : (state s t : ReadingState) (kind : ℕ) (body : List ℕ) (e f : EntryValue) → IsMessageEntry state kind body e s → IsMessageEntry state kind body f t → (e ≡ f) × (s ≡ t)
 IsMessageEntry-one state s t kind body e f p q =
     let same = IsMessage-one state s t kind body p.value q.value p.means q.means in
-    (p.entry_is ∙ ap (λ (m : MessageValue). message kind (6 + length body) (effects_of m)) same.0 ∙ sym q.entry_is, same.1)
+    (p.entry_is ∙ same_entry kind body (effects_of p.value) (effects_of q.value) p.head q.head (ap effects_of same.0) p.is_head q.is_head ∙ sym q.entry_is, same.1)
 
 -- the meaning by the RFCs is exact
 pub strict_exact : IsExact strict

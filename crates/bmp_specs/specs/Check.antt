@@ -5,27 +5,27 @@ use Rattle.bmp_specs.specs.Values.{EntryValue, opened, message, closed}
 use Rattle.bmp_specs.specs.Lines.{number_line}
 
 abbrev pub is_message : EntryValue → Bool
-is_message opened = false
-is_message (message kind len effects) = true
-is_message (closed cause) = false
+is_message (opened came) = false
+is_message (message head effects) = true
+is_message (closed closing) = false
 
 -- a message of this type
 abbrev pub is_of_kind : ℕ → EntryValue → Bool
-is_of_kind wanted opened = false
-is_of_kind wanted (message kind len effects) = kind == wanted
-is_of_kind wanted (closed cause) = false
+is_of_kind wanted (opened came) = false
+is_of_kind wanted (message head effects) = head.kind == wanted
+is_of_kind wanted (closed closing) = false
 
 -- a message of a type that RFC 7854 doesn't define: its types are 0 to 6
 abbrev pub is_of_other_kind : EntryValue → Bool
-is_of_other_kind opened = false
-is_of_other_kind (message kind len effects) = nat_lt 6 kind
-is_of_other_kind (closed cause) = false
+is_of_other_kind (opened came) = false
+is_of_other_kind (message head effects) = nat_lt 6 head.kind
+is_of_other_kind (closed closing) = false
 
 -- the "Message Length" of a message: its bytes with its common header
 abbrev pub length_of : EntryValue → ℕ
-length_of opened = 0
-length_of (message kind len effects) = len
-length_of (closed cause) = 0
+length_of (opened came) = 0
+length_of (message head effects) = head.size
+length_of (closed closing) = 0
 
 -- the names and the numbers, in the order of the lines
 abbrev pub check_counts : List EntryValue → List (List ℕ × ℕ)

@@ -11,7 +11,7 @@ use Rattle.bmp_specs.specs.PeerHeader.{loc_rib}
 use Rattle.bmp_specs.specs.PeerUp.{IsDownWith, IsNamed, IsUpWith}
 use Rattle.bmp_specs.specs.Rows.{HasRow, HasStatistic, RowValue}
 use Rattle.bmp_specs.specs.Session.{effects_in}
-use Rattle.bmp_specs.specs.Values.{AttrsValue, DownInfoValue, EffectValue, EntryValue, KeyValue, NlriValue, PeerInfoValue, StatValue, announce, mark, message, orphan, statistic, unread, up, withdraw}
+use Rattle.bmp_specs.specs.Values.{AttrsValue, DownInfoValue, EffectValue, EntryValue, HeadValue, KeyValue, NlriValue, PeerInfoValue, StatValue, announce, mark, message, orphan, statistic, unread, up, withdraw}
 use Rattle.bmp_specs.specs.Walk.{Verdict, broken}
 
 -- the effect is of this peer, or counts what was passed over
@@ -27,13 +27,16 @@ SpeaksOf key _ = ⊥
 -- A message of a Loc-RIB of which nothing told so far: an orphan by the RFCs, and by the lenient reading of this peer
 -- alone.
 pub record IsReadMore (before : List EffectValue) (strictly leniently : EntryValue) : Type 0 where
-  pub kind : ℕ
-  pub size : ℕ
+  pub head : HeadValue
+  pub other : HeadValue
   pub key : KeyValue
   pub effects : List EffectValue
-  pub strictly_is : strictly ≡ message kind size (orphan ∷ [])
-  pub leniently_is : leniently ≡ message kind size effects
-  pub of_routes : (message_type kind ≡ route_monitoring) ⊎ (message_type kind ≡ statistics_report)
+  pub strictly_is : strictly ≡ message head (orphan ∷ [])
+  pub leniently_is : leniently ≡ message other effects
+  pub same_kind : other.kind ≡ head.kind
+  pub same_size : other.size ≡ head.size
+  pub same_peer : other.peer ≡ head.peer
+  pub of_routes : (message_type head.kind ≡ route_monitoring) ⊎ (message_type head.kind ≡ statistics_report)
   pub is_loc_rib : key.kind ≡ loc_rib
   pub untold : ¬ (IsNamed before key)
   pub speaks : AllByRecursion (SpeaksOf key) effects

@@ -1,16 +1,16 @@
 -- The lenient meaning of the body of a message, in our words: as by the RFCs, but routes may be in another form than
 -- the agreed one, an UPDATE message with a malformed attribute withdraws (RFC 7606), and the routes of a Loc-RIB may
 -- come without a Peer Up.
-use Rattle.std.specs.Prelude.{◌≡◌, ℕ, ◌+◌, Bool, true, false, not, ◌&&◌, ◌⊎◌, MatchOption, List, [], ◌∷◌, ◌++◌, length, take, drop, Option, Some, None}
+use Rattle.std.specs.Prelude.{◌≡◌, ℕ, Bool, true, false, not, ◌&&◌, ◌⊎◌, MatchOption, List, [], ◌∷◌, ◌++◌, take, drop, Option, Some, None}
 use Rattle.bmp_specs.specs.declared.wire.Family.TheVariants.{V4, V6}
 use Rattle.bmp_specs.specs.BgpMessage.{IsBgpMessage, update_type}
-use Rattle.bmp_specs.specs.Frame.{least}
 use Rattle.bmp_specs.specs.FramedUpdate.{FitsFamily, FramedValue, IsFramed}
 use Rattle.bmp_specs.specs.ImpliedPeerUp.{implied_info}
 use Rattle.bmp_specs.specs.LenientState.{LenientState, is_untold, nothing_known, opens_for, with_shown, with_told}
 use Rattle.bmp_specs.specs.Meaning.{Meaning}
 use Rattle.bmp_specs.specs.MessageBody.{MessageType, OfType, id_use, message_type, initiation_message, peer_down_notification, peer_up_notification, route_mirroring, route_monitoring, statistics_report, termination_message, unassigned}
 use Rattle.bmp_specs.specs.MessageEffects.{effects_of, strict}
+use Rattle.bmp_specs.specs.MessageHead.{IsHead}
 use Rattle.bmp_specs.specs.Mirroring.{IsMirroring}
 use Rattle.bmp_specs.specs.PeerDownNotification.{IsPeerDown}
 use Rattle.bmp_specs.specs.PeerHeader.{HeaderValue, IsHeader, header_size, key_of, view_of}
@@ -19,7 +19,7 @@ use Rattle.bmp_specs.specs.Statistics.{IsStatistics}
 use Rattle.bmp_specs.specs.TreatAsWithdraw.{IsTreatedAsWithdraw}
 use Rattle.bmp_specs.specs.Update.{IsUpdate}
 use Rattle.bmp_specs.specs.UpdateForms.{FitsWidth, FormsValue, Takes, ids_in, width_in}
-use Rattle.bmp_specs.specs.Values.{BgpMessageValue, DownInfoValue, EffectValue, EntryValue, KeyValue, MessageValue, OpensValue, PeerUpValue, StatisticsValue, UpdateValue, mirrored_routes, orphan, passed, peer_down, peer_up, routes, statistics, up, message}
+use Rattle.bmp_specs.specs.Values.{BgpMessageValue, DownInfoValue, EffectValue, EntryValue, HeadValue, KeyValue, MessageValue, OpensValue, PeerUpValue, StatisticsValue, UpdateValue, mirrored_routes, orphan, passed, peer_down, peer_up, routes, statistics, up, message}
 
 -- the attributes have a value in the width that is taken, and the message is read by it
 pub record IsReadInForms (opens : OpensValue) (h : HeaderValue) (body : List ℕ) (f : FramedValue) (last taken : FormsValue) (u : UpdateValue) : Type 0 where
@@ -125,7 +125,9 @@ OfTypeLeniently route_mirroring state body effects next = HasPeerLeniently route
 pub record IsLenientEntry (state : LenientState) (kind : ℕ) (body : List ℕ) (entry : EntryValue) (next : LenientState) : Type 0 where
   pub effects : List EffectValue
   pub means : OfTypeLeniently (message_type kind) state body effects next
-  pub entry_is : entry ≡ message kind (least + length body) effects
+  pub head : HeadValue
+  pub is_head : IsHead kind body effects head
+  pub entry_is : entry ≡ message head effects
 
 -- the meaning of bodies as routers send them
 abbrev pub lenient : Meaning

@@ -56,8 +56,10 @@ pub mod Changes
 pub mod PeerLines
 pub mod ChangeLines
 pub mod QueryReply
+pub mod Openings
 pub mod Life
 pub mod MessageBody
+pub mod MessageHead
 pub mod MessageEffects
 pub mod Containment
 pub mod EscapedText

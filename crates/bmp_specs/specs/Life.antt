@@ -1,8 +1,8 @@
 -- The life of a connection, a notion of ours: its opening, the messages of the bytes that were taken of it, and its closing.
-use Rattle.std.specs.Prelude.{◌≡◌, ℕ, ◌-◌, ◌^◌, ◌<◌, ◌≤◌, ◌==◌, List, [], ◌∷◌, ◌++◌, length, take, if◌then◌else◌}
+use Rattle.std.specs.Prelude.{◌≡◌, ℕ, ◌-◌, ◌^◌, ◌<◌, ◌≤◌, ◌==◌, Option, List, [], ◌∷◌, ◌++◌, length, take, if◌then◌else◌}
 use Rattle.bmp_specs.specs.declared.causes.Cause.{Cause}
 use Rattle.bmp_specs.specs.declared.causes.Cause.TheVariants.{Ended, Terminated, CutShort, Broken, ReadFault, Full}
-use Rattle.bmp_specs.specs.Values.{EntryValue, opened, closed}
+use Rattle.bmp_specs.specs.Values.{EntryValue, OpeningValue, opened, closed}
 use Rattle.bmp_specs.specs.Meaning.{Meaning, WalksBy}
 use Rattle.bmp_specs.specs.Walk.{Verdict, whole, more, terminated, broken}
 
@@ -81,19 +81,22 @@ pub record IsLife (meaning : Meaning) (bytes : List ℕ) (last : LastRead) (life
   pub offset : ℕ
   pub verdict : Verdict
   pub cause : Cause
+  pub came : OpeningValue
+  pub until : Option ℕ
   pub within : length bytes ≤ most_taken
   pub walk : WalksBy meaning bytes messages offset verdict
   pub because : IsCause (length bytes) last verdict offset cause
-  pub is : life ≡ opened ∷ (messages ++ closed cause ∷ [])
+  pub is : life ≡ opened came ∷ (messages ++ closed (record { cause = cause; until = until }) ∷ [])
 
 -- the same of a connection that wasn't closed
 pub record IsOpenLife (meaning : Meaning) (bytes : List ℕ) (life : List EntryValue) : Type 0 where
   pub messages : List EntryValue
   pub offset : ℕ
   pub verdict : Verdict
+  pub came : OpeningValue
   pub within : length bytes ≤ most_taken
   pub walk : WalksBy meaning bytes messages offset verdict
-  pub is : life ≡ opened ∷ messages
+  pub is : life ≡ opened came ∷ messages
 
 -- the walk goes on where more bytes come
 abbrev pub IsUndecided : Verdict → Type 0

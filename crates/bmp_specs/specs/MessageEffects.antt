@@ -1,12 +1,12 @@
 -- What a message does to the tables, in order, and its entry in the history of a lane. The split into effects, and their
 -- order, is ours.
-use Rattle.std.specs.Prelude.{◌≡◌, ℕ, ◌+◌, ◌==◌, if◌then◌else◌, List, [], ◌∷◌, ◌++◌, length, map, Option, Some, None, ⊤}
+use Rattle.std.specs.Prelude.{◌≡◌, ℕ, ◌==◌, if◌then◌else◌, List, [], ◌∷◌, ◌++◌, map, Option, Some, None, ⊤}
 use Rattle.bmp_specs.specs.declared.peers.View.{View}
-use Rattle.bmp_specs.specs.Frame.{least}
 use Rattle.bmp_specs.specs.Meaning.{Meaning}
 use Rattle.bmp_specs.specs.MessageBody.{IsMessage, ReadingState, no_peers}
+use Rattle.bmp_specs.specs.MessageHead.{IsHead}
 use Rattle.bmp_specs.specs.PeerHeader.{IsViewOf}
-use Rattle.bmp_specs.specs.Values.{EffectValue, EntryValue, KeyValue, MessageValue, UpdateValue, initiation, termination, peer_up, peer_down, routes, statistics, mirrored_routes, of_unknown_peer, of_unknown_type, up, down, announce, withdraw, mark, statistic, named, described, orphan, mirrored, passed, unread, message}
+use Rattle.bmp_specs.specs.Values.{EffectValue, EntryValue, HeadValue, KeyValue, MessageValue, UpdateValue, initiation, termination, peer_up, peer_down, routes, statistics, mirrored_routes, of_unknown_peer, of_unknown_type, up, down, announce, withdraw, mark, statistic, named, described, orphan, mirrored, passed, unread, message}
 
 -- one effect of a value that is there
 abbrev pub effect_of : {V : Type 0} → (V → EffectValue) → Option V → List EffectValue
@@ -43,11 +43,13 @@ HasViewOfKey (withdraw key view n) = IsViewOf key view
 HasViewOfKey (mark key view family) = IsViewOf key view
 HasViewOfKey _ = ⊤
 
--- the entry of a message: its type, its whole length and its effects
+-- the entry of a message: its head and its effects
 pub record IsMessageEntry (state : ReadingState) (kind : ℕ) (body : List ℕ) (entry : EntryValue) (next : ReadingState) : Type 0 where
   pub value : MessageValue
   pub means : IsMessage state kind body value next
-  pub entry_is : entry ≡ message kind (least + length body) (effects_of value)
+  pub head : HeadValue
+  pub is_head : IsHead kind body (effects_of value) head
+  pub entry_is : entry ≡ message head (effects_of value)
 
 -- the meaning of bodies by the RFCs alone
 abbrev pub strict : Meaning

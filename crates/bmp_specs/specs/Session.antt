@@ -9,14 +9,14 @@ use Rattle.bmp_specs.specs.Values.{EffectValue, EntryValue, opened, message, clo
 -- the entries after the last opening, where there is an opening
 abbrev pub since_opening : List EntryValue → Option (List EntryValue)
 since_opening [] = None
-since_opening (opened ∷ entries) = option_or (since_opening entries) (Some entries)
-since_opening (message kind len effects ∷ entries) = since_opening entries
-since_opening (closed cause ∷ entries) = since_opening entries
+since_opening (opened came ∷ entries) = option_or (since_opening entries) (Some entries)
+since_opening (message head effects ∷ entries) = since_opening entries
+since_opening (closed closing ∷ entries) = since_opening entries
 
 abbrev pub cause_in : EntryValue → Option Cause
-cause_in opened = None
-cause_in (message kind len effects) = None
-cause_in (closed cause) = Some cause
+cause_in (opened came) = None
+cause_in (message head effects) = None
+cause_in (closed closing) = Some closing.cause
 
 -- the cause of the last closing
 abbrev pub last_cause : List EntryValue → Option Cause
@@ -48,9 +48,9 @@ abbrev pub state_of : List EntryValue → LaneStateValue
 state_of entries = state_since (since_opening entries)
 
 abbrev pub effects_in : EntryValue → List EffectValue
-effects_in opened = []
-effects_in (message kind len effects) = effects
-effects_in (closed cause) = []
+effects_in (opened came) = []
+effects_in (message head effects) = effects
+effects_in (closed closing) = []
 
 -- the messages of the present session, none without a session
 abbrev pub session_messages : List EntryValue → List EntryValue

@@ -13,9 +13,9 @@ step_of _ = None
 
 -- the steps of an entry
 abbrev pub steps_in : EntryValue → List StepValue
-steps_in opened = opened_step ∷ []
-steps_in (message kind len effects) = filter_map step_of effects
-steps_in (closed cause) = closed_step cause ∷ []
+steps_in (opened came) = opened_step ∷ []
+steps_in (message head effects) = filter_map step_of effects
+steps_in (closed closing) = closed_step closing.cause ∷ []
 
 -- the steps of a list of entries; a step's number is its place here
 abbrev pub steps_of : List EntryValue → List StepValue

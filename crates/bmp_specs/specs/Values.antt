@@ -183,11 +183,46 @@ pub data EffectValue : Type 0 where
   passed : EffectValue
   unread : ℕ → EffectValue
 
--- an entry of a lane: a connection opened, a message of this type and length with these effects, or a connection closed
+-- an address and a port of TCP
+pub record EndpointValue : Type 0 where
+  pub address : AddressValue
+  pub port : ℕ
+
+-- the opening of a connection: from where it came, and when by the station's clock, in seconds since 1970; none where
+-- that isn't told
+pub record OpeningValue : Type 0 where
+  pub from : Option EndpointValue
+  pub since : Option ℕ
+
+-- the closing of a connection: its cause, and when by the station's clock, in seconds since 1970; none where that isn't told
+pub record ClosingValue : Type 0 where
+  pub cause : Cause
+  pub until : Option ℕ
+
+-- what a Per-Peer Header tells beside the peer and the RIB: "Peer AS", "Peer BGP ID" and "Timestamp" (RFC 7854, section 4.2)
+pub record PeerHeadValue : Type 0 where
+  pub asn : ℕ
+  pub identifier : List ℕ
+  pub seconds : ℕ
+  pub micros : ℕ
+
+-- an address family by its numbers on the wire (RFC 4760, section 3)
+pub record FamilyCodeValue : Type 0 where
+  pub afi : ℕ
+  pub safi : ℕ
+
+-- a message without its effects: its type, its length, what its Per-Peer Header tells, and the families that were passed over
+pub record HeadValue : Type 0 where
+  pub kind : ℕ
+  pub size : ℕ
+  pub peer : Option PeerHeadValue
+  pub others : List FamilyCodeValue
+
+-- an entry of a lane: a connection opened, a message with these effects, or a connection closed
 pub data EntryValue : Type 0 where
-  opened : EntryValue
-  message : ℕ → ℕ → List EffectValue → EntryValue
-  closed : Cause → EntryValue
+  opened : OpeningValue → EntryValue
+  message : HeadValue → List EffectValue → EntryValue
+  closed : ClosingValue → EntryValue
 
 -- a step of a lane: an entry, or one effect of it, without what it tells of a peer
 pub data StepValue : Type 0 where

@@ -6,6 +6,7 @@ pub mod FieldRead
 pub mod Frames
 pub mod GivenRead
 pub mod Headers
+pub mod Heads
 pub mod Joining
 pub mod NlriRead
 pub mod OpenRead

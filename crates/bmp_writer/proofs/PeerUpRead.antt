@@ -12,13 +12,14 @@ use Rattle.bmp_specs.specs.Open.{IsOpenMessage}
 use Rattle.bmp_specs.specs.PeerHeader.{HeaderValue, IsHeader, address_in, family_of, header_size, is_set, key_of, loc_rib, place_of, v_flag}
 use Rattle.bmp_specs.specs.PeerUpNotification.{IsPeerUp, f_flag, string, table_name}
 use Rattle.bmp_specs.specs.Tlv.{IsTlv, last_value}
-use Rattle.bmp_specs.specs.Values.{AddressValue, CapValue, KeyValue, MessageValue, OpenValue, OpensValue, PeerInfoValue, PeerUpValue, TlvValue, message, of_unknown_type, peer_up, up}
+use Rattle.bmp_specs.specs.Values.{AddressValue, CapValue, KeyValue, MessageValue, OpenValue, OpensValue, PeerInfoValue, PeerUpValue, TlvValue, of_unknown_type, peer_up, up}
 use Rattle.bmp_writer.specs.Capabilities.{as_read, capabilities_size}
 use Rattle.bmp_writer.specs.OpenMessage.{IsOpenOf, open_size, parameters_size}
 use Rattle.bmp_writer.specs.PeerMessage.{address_bytes, family_flag}
 use Rattle.bmp_writer.specs.PeerUpMessage.{CanCarry, HasUpHeader, IsLocal, IsSome, IsTable, IsUpHeader, IsUpMessage, name_size, name_tlvs, name_tlvs_size, peer_up_size, unextended, up_flags, with_unextended}
 use Rattle.bmp_writer.specs.Written.{Always, Appends, IsWritten, peer_up_type, with_opens}
 use Rattle.bmp_writer.proofs.Frames.{frame_here, frame_length, header_bytes}
+use Rattle.bmp_writer.proofs.Heads.{read_as}
 use Rattle.bmp_writer.proofs.OpenRead.{open_plain}
 use Rattle.bmp_writer.proofs.Still.{two_pieces, three_pieces}
 
@@ -190,11 +191,8 @@ peer_up_read key info bytes can s r p =
     record {
       body = p.head ++ rest;
       is = p.is;
-      means = λ state _. record {
-        value = peer_up key u;
-        means = has_peer peer_up_notification state (with_opens key (opens_of info) state) key p.head rest h p.head_is.is p.head_is.len p.head_is.key_is (peer_up key u) (u, is, refl, refl);
-        entry_is = ap (λ (k : ℕ). message 3 k (up key (with_unextended info) ∷ [])) (frame_length bytes 3 (p.head ++ rest) p.is);
-      };
+      means = λ state _. read_as state (with_opens key (opens_of info) state) 3 bytes (p.head ++ rest) (peer_up key u) (up key (with_unextended info) ∷ []) p.is
+          (has_peer peer_up_notification state (with_opens key (opens_of info) state) key p.head rest h p.head_is.is p.head_is.len p.head_is.key_is (peer_up key u) (u, is, refl, refl)) refl;
     }
 
 pub peer_up_appended : (key : KeyValue) (info : PeerInfoValue) (old new : List ℕ) → CanCarry key info → Appends (IsUpMessage key info) old new → IsSome info.sent → IsSome info.received

@@ -19,10 +19,11 @@ use Rattle.bmp_specs.specs.PeerDownNotification.{IsPeerDown}
 use Rattle.bmp_specs.specs.PeerHeader.{HeaderValue, IsHeader, header_size, view_of}
 use Rattle.bmp_specs.specs.TreatAsWithdraw.{no_attributes}
 use Rattle.bmp_specs.specs.Update.{IsUpdate}
-use Rattle.bmp_specs.specs.Values.{AttrsReadValue, DownInfoValue, KeyValue, MessageValue, MpValue, OpensValue, OtherValue, UpdateValue, down, mark, message, of_unknown_peer, of_unknown_type, peer_down, routes}
+use Rattle.bmp_specs.specs.Values.{AttrsReadValue, DownInfoValue, KeyValue, MessageValue, MpValue, OpensValue, OtherValue, UpdateValue, down, mark, of_unknown_peer, of_unknown_type, peer_down, routes}
 use Rattle.bmp_writer.specs.PeerMessage.{HasPlainHeader, IsHeaderOf, IsPeerMessage, mark_update}
 use Rattle.bmp_writer.specs.Written.{Always, Appends, HasUp, IsWritten, mark_size, peer_down_type, route_monitoring_type, unchanged, without}
 use Rattle.bmp_writer.proofs.Frames.{frame_here, frame_length, header_bytes}
+use Rattle.bmp_writer.proofs.Heads.{read_as}
 
 -- the meaning of a body, by what stands behind its header
 pub has_peer : (kind : MessageType) (state next : ReadingState) (key : KeyValue) (view : View) (head rest : List ℕ) (m : MessageValue) (is : IsHeaderOf key view head)
@@ -56,11 +57,8 @@ peer_down_written key view reason bytes p =
     record {
       body = p.head ++ reason ∷ [];
       is = p.is;
-      means = λ state _. record {
-        value = peer_down key info;
-        means = has_peer peer_down_notification state (without key state) key view p.head (reason ∷ []) (peer_down key info) p.head_is (info, no_data reason, refl, refl);
-        entry_is = ap (λ (k : ℕ). message 2 k (down key info ∷ [])) (frame_length bytes 2 (p.head ++ reason ∷ []) p.is);
-      };
+      means = λ state _. read_as state (without key state) 2 bytes (p.head ++ reason ∷ []) (peer_down key info) (down key info ∷ []) p.is
+          (has_peer peer_down_notification state (without key state) key view p.head (reason ∷ []) (peer_down key info) p.head_is (info, no_data reason, refl, refl)) refl;
     }
 
 abbrev pub no_as : AsAttributes
@@ -230,11 +228,7 @@ mark_written key view family bytes p =
           let read : MatchOption (state key) (m ≡ of_unknown_peer) (λ opens. (u : UpdateValue) × IsRouteMonitoring opens h (mark_update family) u × (m ≡ routes key (view_of h) u)) =
           subst (λ (o : Option OpensValue). MatchOption o (m ≡ of_unknown_peer) (λ opens. (u : UpdateValue) × IsRouteMonitoring opens h (mark_update family) u × (m ≡ routes key (view_of h) u))) (sym up.1)
           (marks family, is_monitoring up.0 h family, at) in
-          record {
-            value = m;
-            means = has_peer route_monitoring state state key view p.head (mark_update family) m p.head_is (refl, read);
-            entry_is = ap (λ (k : ℕ). message 0 k (mark key view family ∷ [])) (frame_length bytes 0 (p.head ++ mark_update family) p.is);
-          };
+          read_as state state 0 bytes (p.head ++ mark_update family) m (mark key view family ∷ []) p.is (has_peer route_monitoring state state key view p.head (mark_update family) m p.head_is (refl, read)) refl;
     }
 
 pub peer_down_appended : (key : KeyValue) (view : View) (reason : ℕ) (old new : List ℕ) → Appends (IsPeerMessage 2 key view (reason ∷ [])) old new

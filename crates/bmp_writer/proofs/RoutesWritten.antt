@@ -12,13 +12,13 @@ use Rattle.bmp_specs.specs.MessageBody.{IsRouteMonitoring, id_use, route_monitor
 use Rattle.bmp_specs.specs.MessageEffects.{effects_of}
 use Rattle.bmp_specs.specs.PeerHeader.{is_set, view_of}
 use Rattle.bmp_specs.specs.Update.{IsUpdate, with_hop_of}
-use Rattle.bmp_specs.specs.Values.{AttrsValue, EffectValue, KeyValue, MessageValue, MpValue, NlriValue, OpensValue, OtherValue, UpdateValue, announce, message, of_unknown_peer, routes, withdraw}
+use Rattle.bmp_specs.specs.Values.{AttrsValue, EffectValue, KeyValue, MessageValue, MpValue, NlriValue, OpensValue, OtherValue, UpdateValue, announce, of_unknown_peer, routes, withdraw}
 use Rattle.bmp_writer.specs.Written.{Appends, IsWritten, route_monitoring_type, unchanged}
 use Rattle.bmp_writer.specs.WrittenAttributes.{AreMulti, with_hop}
 use Rattle.bmp_writer.specs.WrittenRoutes.{AreKept, CanCarryRoutes, HasNeededHop, HasUpWith, IsAlike, IsGiven, IsRoutesMessage, family_of, ids_of, routes_effects}
 use Rattle.bmp_writer.specs.WrittenUpdate.{counted, hop_bytes, is_plain, of_v4, of_v6, others_of, places, told_of, where_so}
 use Rattle.bmp_writer.proofs.AttributesRead.{cleared_clear}
-use Rattle.bmp_writer.proofs.Frames.{frame_length}
+use Rattle.bmp_writer.proofs.Heads.{read_as}
 use Rattle.bmp_writer.proofs.Peers.{has_peer}
 use Rattle.bmp_writer.proofs.RoutesRead.{is_update, told_here, update_of, uses_same}
 
@@ -114,11 +114,7 @@ routes_written key view withdrawn announced attrs bytes can keeps r =
           let monitoring : IsRouteMonitoring opens h r.update u = record { message = record { kind = update_type; body = body }; is = up.is; is_update = refl; body_is = width } in
           let read : MatchOption (state key) (m ≡ of_unknown_peer) (λ opens. (u : UpdateValue) × IsRouteMonitoring opens h r.update u × (m ≡ routes key (view_of h) u)) =
           subst (λ (o : Option OpensValue). MatchOption o (m ≡ of_unknown_peer) (λ opens. (u : UpdateValue) × IsRouteMonitoring opens h r.update u × (m ≡ routes key (view_of h) u))) (sym here) (u, monitoring, at) in
-          record {
-            value = m;
-            means = has_peer route_monitoring state state key view r.is.head r.update m r.is.head_is (refl, read);
-            entry_is = ap (λ (k : ℕ). message 0 k (routes_effects key view withdrawn announced attrs)) (frame_length bytes 0 (r.is.head ++ r.update) r.is.is) ∙ ap (λ (l : List EffectValue). message 0 (6 + length (r.is.head ++ r.update)) l) (sym effects);
-          };
+          read_as state state 0 bytes (r.is.head ++ r.update) m (routes_effects key view withdrawn announced attrs) r.is.is (has_peer route_monitoring state state key view r.is.head r.update m r.is.head_is (refl, read)) effects;
     }
 
 -- attributes that a field has are kept as they came

@@ -2,9 +2,10 @@
 use Rattle.std.proofs.Common.{◌≡◌, ℕ, ◌+◌, ◌≤◌, List, [], ◌∷◌, ◌++◌, length, Some, refl, sym, ap, subst, ◌∙◌, arith, length-append, length-drop, append-nil, append_assoc, drop}
 use Rattle.bmp_specs.specs.Frame.{IsFrame}
 use Rattle.bmp_specs.specs.Tlv.{AreTlvs, IsTlv}
-use Rattle.bmp_specs.specs.Values.{TlvValue, initiation, named, described, message}
+use Rattle.bmp_specs.specs.Values.{TlvValue, initiation, named, described}
 use Rattle.bmp_writer.specs.Written.{Always, HasTold, IsWritten, initiation_type, unchanged}
-use Rattle.bmp_writer.proofs.Frames.{header_bytes, frame_here, frame_length}
+use Rattle.bmp_writer.proofs.Frames.{header_bytes, frame_here}
+use Rattle.bmp_writer.proofs.Heads.{read_as}
 
 tlv_length : (part : List ℕ) (t : TlvValue) → IsTlv part t → length part ≡ 4 + length t.value
 tlv_length part t is = omega (arith, is.header, length-drop 4 part, ap (λ (l : List ℕ). length l) is.value_is)
@@ -27,16 +28,13 @@ initiation_written name descr one two bytes n is is_too joined size d m =
     record {
       body = one ++ two;
       is = frame;
-      means = λ state _. record {
-        value = initiation (record { name = Some name; descr = Some descr; unread = 0 });
-        means = (
-          record { name = Some name; descr = Some descr; unread = 0 },
-          record { tlvs = told name descr; are = two_tlvs name descr one two is is_too; name_is = refl; descr_is = refl; unread_is = refl },
-          refl,
-          refl,
-        );
-        entry_is = ap (λ (k : ℕ). message 4 k (named name ∷ described descr ∷ [])) (frame_length bytes 4 (one ++ two) frame);
-      };
+      means = λ state _. read_as state state 4 bytes (one ++ two) (initiation (record { name = Some name; descr = Some descr; unread = 0 })) (named name ∷ described descr ∷ []) frame (
+        record { name = Some name; descr = Some descr; unread = 0 },
+        record { tlvs = told name descr; are = two_tlvs name descr one two is is_too; name_is = refl; descr_is = refl; unread_is = refl },
+        refl,
+        refl,
+      )
+          refl;
     }
 
 pub told_written : (name descr one two bytes : List ℕ) (n : ℕ) → IsTlv one (record { kind = 1; value = descr }) → IsTlv two (record { kind = 2; value = name })

@@ -7,7 +7,7 @@ use Rattle.bmp_specs.specs.Initiation.{sys_descr, sys_name}
 use Rattle.bmp_specs.specs.MessageBody.{ReadingState, with_peer}
 use Rattle.bmp_specs.specs.MessageEffects.{IsMessageEntry}
 use Rattle.bmp_specs.specs.Tlv.{AreTlvs}
-use Rattle.bmp_specs.specs.Values.{EffectValue, KeyValue, OpensValue, message}
+use Rattle.bmp_specs.specs.Values.{EffectValue, HeadValue, KeyValue, OpensValue, message}
 
 -- "Message Type" (RFC 7854, section 4.1)
 abbrev pub route_monitoring_type : ℕ
@@ -30,12 +30,20 @@ Appends Is old new = (piece : List ℕ) × (new ≡ old ++ piece) × Is piece
 abbrev pub Keeps : List ℕ → List ℕ → Type 0
 Keeps old new = take (length old) new ≡ old
 
+-- A message of this type and length with this body is read so: in this state it has these effects, and the next state follows.
+-- What else its head tells is what its bytes tell.
+pub record IsReadAs (state : ReadingState) (kind size : ℕ) (body : List ℕ) (effects : List EffectValue) (next : ReadingState) : Type 0 where
+  pub head : HeadValue
+  pub kind_is : head.kind ≡ kind
+  pub size_is : head.size ≡ size
+  pub is : IsMessageEntry state kind body (message head effects) next
+
 -- One message of this type. Whoever reads it in a state of this kind reads these effects, in this order and no others, and
 -- is then in that state.
 pub record IsWritten (kind : ℕ) (Reads : ReadingState → Type 0) (effects : List EffectValue) (after : ReadingState → ReadingState) (bytes : List ℕ) : Type 0 where
   pub body : List ℕ
   pub is : IsFrame bytes kind body
-  pub means : (state : ReadingState) → Reads state → IsMessageEntry state kind body (message kind (length bytes) effects) (after state)
+  pub means : (state : ReadingState) → Reads state → IsReadAs state kind (length bytes) body effects (after state)
 
 -- any state
 abbrev pub Always : ReadingState → Type 0

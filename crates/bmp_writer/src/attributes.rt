@@ -11,11 +11,10 @@ ghost use Rattle.bmp_writer.specs.WrittenAttributes.{AreSomeCommunities, HasHop,
 
 use crate::draft::{Draft, Full};
 use crate::nlri::four_octets;
-use path_attrs::Aggregator;
+use path_attrs::{
+    AGGREGATOR, ATOMIC_AGGREGATE, Aggregator, COMMUNITIES, EXTENDED_LENGTH, NEXT_HOP, ORIGIN,
+};
 use wire_io::ByteList;
-
-/// "Extended Length bit" (RFC 4271, section 4.3).
-pub(crate) const EXTENDED_LENGTH: u8 = 0x10;
 
 /// "Transitive bit", "Optional bit", and both.
 pub(crate) const TRANSITIVE: u8 = 0x40;
@@ -23,17 +22,6 @@ pub(crate) const TRANSITIVE: u8 = 0x40;
 pub(crate) const OPTIONAL: u8 = 0x80;
 
 pub(crate) const OPTIONAL_TRANSITIVE: u8 = 0xc0;
-
-/// "Attribute Type Code" (RFC 4271, section 5; RFC 1997).
-const ORIGIN: u8 = 1;
-
-const NEXT_HOP: u8 = 3;
-
-const ATOMIC_AGGREGATE: u8 = 6;
-
-const AGGREGATOR: u8 = 7;
-
-const COMMUNITIES: u8 = 8;
 
 // The flags without the Extended Length bit.
 fn cleared(flags: u8) -> u8

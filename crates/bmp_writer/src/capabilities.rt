@@ -4,16 +4,8 @@ ghost use Rattle.bmp_specs.specs.Parts.{AreParts};
 ghost use Rattle.bmp_writer.specs.Capabilities.{AreCapabilities, IsAsCapability, IsFamilyCapability, IsPathCapability, IsPathEntry, as_bytes, capabilities_size, entry_bytes, family_bytes, paths_size};
 ghost use Rattle.bmp_writer.specs.Written.{Appends, Keeps};
 
-use bgp_open::{Cap, Open};
+use bgp_open::{ADD_PATH, Cap, FOUR_OCTET_AS, MULTIPROTOCOL, Open};
 use wire_io::{ByteList, NoMemory};
-
-/// "Capability Code" of multiprotocol extensions (RFC 4760, section 8), of four-octet AS numbers (RFC 6793,
-/// section 3) and of ADD-PATH (RFC 7911, section 4).
-const MULTIPROTOCOL: u8 = 1;
-
-const FOUR_OCTET_AS: u8 = 65;
-
-const ADD_PATH: u8 = 69;
 
 /// How many bytes the capabilities take.
 pub(crate) fn size_of_capabilities(message: &Open) -> usize

@@ -1,8 +1,7 @@
 ghost use Rattle.std.specs.Prelude.{◌≡◌, ◌+◌, ◌≤◌, [], ◌∷◌, ◌++◌, length, take};
 ghost use Rattle.byteorder.specs.Endian.{big_bytes};
 
-/// "Version" of the common header (RFC 7854, section 4.1).
-const VERSION: u8 = 3;
+use bmp_frames::VERSION;
 
 /// Puts the piece at a place of the frame, and tells where it ends.
 pub(crate) fn put(frame: &mut [u8], at: usize, piece: &[u8]) -> usize

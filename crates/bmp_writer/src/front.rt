@@ -12,13 +12,8 @@ use crate::attributes::{
 };
 use crate::draft::{Draft, Full};
 use crate::path::{left_by_segments, put_path};
-use path_attrs::{Aggregator, AsPath, Attrs};
+use path_attrs::{Aggregator, AsPath, Attrs, LOCAL_PREF, MULTI_EXIT_DISC};
 use wire_io::ByteList;
-
-/// "Attribute Type Code" (RFC 4271, section 5).
-const MULTI_EXIT_DISC: u8 = 4;
-
-const LOCAL_PREF: u8 = 5;
 
 // NEXT_HOP, where it is told.
 fn put_next_hop(out: &mut Draft<'_>, plain: bool, hop: &Option<ByteList>) -> Result<(), Full>

@@ -5,13 +5,8 @@ ghost use Rattle.bmp_writer.specs.Written.{Always, Appends, HasTold, IsToldMessa
 ghost use Rattle.bmp_writer.specs.declared.initiation.TheConstants.{LONGEST};
 
 use crate::common::{common_header, put};
-use bmp_frames::{COMMON_HEADER, INITIATION};
+use bmp_frames::{COMMON_HEADER, INITIATION, SYS_DESCR, SYS_NAME};
 use wire_io::{ByteList, NoMemory};
-
-/// "Type = 1: sysDescr" and "Type = 2: sysName" (RFC 7854, section 4.4).
-const SYS_DESCR: u16 = 1;
-
-const SYS_NAME: u16 = 2;
 
 /// The bytes of the longest Initiation Message that is written.
 const LONGEST: usize = 131_084;

@@ -8,7 +8,6 @@ ghost use Rattle.bmp_writer.specs.WrittenAttributes.{front_size, others_size, wi
 ghost use Rattle.bmp_writer.specs.WrittenRoutes.{AreAlike, AreKept, CanBeAnnounced, CanBeGiven, CanCarryRoutes, FitsPath, HasFourOctets, HasNeededHop, HasOctets, IsAlike, IsGiven, IsKeptForm, IsOtherCode, IsShortHop, family_of as family_at, ids_of};
 ghost use Rattle.bmp_writer.specs.WrittenUpdate.{AreShort, HasRoom, hop_bytes, is_plain as plain_of, places, update_size, where_so};
 
-use crate::attributes::EXTENDED_LENGTH;
 use crate::front::left_by_front;
 use crate::others::left_by_others;
 use crate::path::{are_short_segments, left_by_segments};
@@ -18,7 +17,7 @@ use crate::update::{hop_octets, is_plain, left_by_update, where_there};
 use bgp_update::NlriList;
 use bmp_frames::{LOC_RIB, PeerKey, View};
 use ip_prefix::{Family, Nlri};
-use path_attrs::{Aggregator, AsPath, Attrs, Other, is_read_type};
+use path_attrs::{Aggregator, AsPath, Attrs, EXTENDED_LENGTH, Other, is_read_type};
 use wire_io::ByteList;
 
 // Whether the view is one of the peer's.

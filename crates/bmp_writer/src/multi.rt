@@ -11,11 +11,7 @@ use crate::attributes::{OPTIONAL, put_head};
 use crate::draft::{Draft, Full};
 use crate::nlri::{left_by_nlris, put_nlris, size_of_nlris};
 use ip_prefix::{Family, Nlri};
-
-/// "Attribute Type Code" (RFC 4760, sections 3 and 4).
-const MP_REACH_NLRI: u8 = 14;
-
-const MP_UNREACH_NLRI: u8 = 15;
+use path_attrs::{MP_REACH_NLRI, MP_UNREACH_NLRI};
 
 // "Address Family Identifier" and "Subsequent Address Family Identifier", that of unicast.
 fn family_octets(family: Family) -> [u8; 3]

@@ -5,11 +5,8 @@ ghost use Rattle.bmp_writer.specs.OpenMessage.{AreInOctets, IsOpenOf, front_of, 
 ghost use Rattle.bmp_writer.specs.Written.{Appends, Keeps};
 
 use crate::capabilities::{put_capabilities, size_of_capabilities};
-use bgp_open::{OPEN_MESSAGE, Open};
+use bgp_open::{CAPABILITIES, OPEN_MESSAGE, Open};
 use wire_io::{ByteList, NoMemory};
-
-/// "Parameter Type" of the parameter that holds capabilities (RFC 5492, section 4).
-const CAPABILITIES: u8 = 2;
 
 /// The bytes of an OPEN message without optional parameters.
 const SHORTEST: u16 = 29;

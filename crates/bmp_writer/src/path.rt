@@ -11,10 +11,7 @@ use crate::attributes::{TRANSITIVE, put_head, put_numbers};
 use crate::draft::{Draft, Full};
 use as_path::Segment;
 use bmp_specs::SegmentKind;
-use path_attrs::AsPath;
-
-/// "Attribute Type Code" of AS_PATH.
-const AS_PATH: u8 = 2;
+use path_attrs::{AS_PATH, AsPath};
 
 // "path segment type".
 fn type_of(kind: SegmentKind) -> u8

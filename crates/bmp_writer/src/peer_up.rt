@@ -11,15 +11,9 @@ use crate::common::common_header;
 use crate::open_message::{put_open, size_of_open};
 use crate::peer::{flag_of_family, raw_address};
 use bgp_open::{Cap, Open, PeerInfo};
-use bmp_frames::{LOC_RIB, PEER_UP, PeerKey};
+use bmp_frames::{F_FLAG, LOC_RIB, PEER_UP, PeerKey, TABLE_NAME};
 use ip_prefix::Family;
 use wire_io::{ByteList, NoMemory};
-
-/// "Type = 3: VRF/Table Name" (RFC 9069, section 5.2.1).
-const TABLE_NAME: u16 = 3;
-
-/// "F flag": the Loc-RIB is filtered (RFC 9069, section 4.2).
-const F_FLAG: u8 = 0x80;
 
 /// The bytes of the common header, the Per-Peer Header, the local address and the ports.
 const BEFORE_OPENS: u32 = 68;

@@ -12,6 +12,7 @@ use crate::front::{left_by_front, put_origin_to_communities};
 use crate::multi::{left_by_reach, left_by_unreach, put_reach, put_unreach};
 use crate::nlri::{left_by_nlris, put_nlris, size_of_nlris};
 use crate::others::{left_by_others, put_others};
+use bgp_open::UPDATE_MESSAGE;
 use ip_prefix::{Family, Nlri};
 use path_attrs::{Attrs, Other};
 use wire_io::ByteList;
@@ -21,9 +22,6 @@ const SHORTEST: usize = 23;
 
 /// The bytes of the longest (RFC 8654, section 3).
 const LONGEST: usize = 65535;
-
-/// "Type" of an UPDATE message (RFC 4271, section 4.1).
-const UPDATE: u8 = 2;
 
 /// Whether announcements stand in "Network Layer Reachability Information".
 pub(crate) fn is_plain(family: Family, hop: &Option<ByteList>) -> bool
@@ -214,8 +212,25 @@ fn header(size: u16) -> [u8; 19]
 {
     let [a, b] = size.to_be_bytes();
     [
-        255, 255, 255, 255, 255, 255, 255, 255, 255, 255, 255, 255, 255, 255, 255, 255, a, b,
-        UPDATE,
+        255,
+        255,
+        255,
+        255,
+        255,
+        255,
+        255,
+        255,
+        255,
+        255,
+        255,
+        255,
+        255,
+        255,
+        255,
+        255,
+        a,
+        b,
+        UPDATE_MESSAGE,
     ]
 }
 

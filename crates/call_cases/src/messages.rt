@@ -7,6 +7,7 @@ mod code_tables;
 mod drills;
 mod forms;
 mod frames;
+mod heads;
 mod lists;
 mod model;
 mod opens;

@@ -8,7 +8,7 @@ ghost use Rattle.feed_archive.specs.Keeping.{HasKept, TellsBytes, InnerGave, Kee
 use crate::sealed_port::SealedPort;
 use crate::{AppendFault, Archive};
 use disk_doors::{Disk, Notes};
-use station_doors::{Ended, Port};
+use station_doors::{Ended, Port, Told};
 use std::marker::Model;
 use std::snapshot::Snapshot;
 use wire_io::Failed;
@@ -208,6 +208,11 @@ impl<P: Port, D: Disk> Port for KeepPort<P, D> {
 
     fn close(&mut self) {
         self.inner.close();
+    }
+
+    // An archive keeps bytes alone.
+    fn told(&self) -> Told {
+        Told::nothing()
     }
 
     // What is kept doesn't depend on it, and the port below isn't told.

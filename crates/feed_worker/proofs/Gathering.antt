@@ -6,7 +6,7 @@ use Rattle.bmp_specs.specs.declared.causes.Cause.{Cause}
 use Rattle.bmp_specs.specs.declared.causes.Cause.TheVariants.{Ended, Terminated, CutShort, Broken, ReadFault, Full}
 use Rattle.bmp_specs.specs.Life.{most_taken, EndsAt, EndsBy}
 use Rattle.bmp_specs.specs.Meaning.{Meaning}
-use Rattle.bmp_specs.specs.Values.{EntryValue, opened}
+use Rattle.bmp_specs.specs.Values.{EntryValue, OpeningValue, opened}
 use Rattle.bmp_specs.specs.Walk.{terminated, broken}
 use Rattle.bmp_message.specs.StreamWalk.{WalkValue, HasReached, GoesOn, rest_of, verdict_with, Gives}
 use Rattle.bmp_message.specs.declared.walk.Progress.TheVariants as progress
@@ -46,10 +46,10 @@ module _ {B : Type 0} (meaning : Meaning) (state : B → meaning.State) where
   gives_few fed messages walk (Some cause) ends = ends_few meaning fed messages cause ends
 
   -- all messages of a piece are published
-  module _ (first now : Fed Entry) (fed piece : List ℕ) (walk after : WalkValue B) (p : HasPublished meaning state first now fed walk) (entries : List Entry) (end : Option Cause) (gives : Gives meaning state (fed ++ piece) (p.messages ++ entry_values entries) after end) where
+  module _ (came : OpeningValue) (first now : Fed Entry) (fed piece : List ℕ) (walk after : WalkValue B) (p : HasPublished meaning state came first now fed walk) (entries : List Entry) (end : Option Cause) (gives : Gives meaning state (fed ++ piece) (p.messages ++ entry_values entries) after end) where
     pub room_for : length first.entries + 2 ^ 44 ≤ 2 ^ 57 → length fed + length piece ≤ most_taken → length (now.entries ++ entries) ≤ 2 ^ 57
     room_for room within =
-        omega (arith, room, within, gives_few (fed ++ piece) (p.messages ++ entry_values entries) after end gives, length-append fed piece, length-append p.messages (entry_values entries), length-map entries entry_value, grows_count first now (opened ∷ p.messages) p.grows, length-append now.entries entries)
+        omega (arith, room, within, gives_few (fed ++ piece) (p.messages ++ entry_values entries) after end gives, length-append fed piece, length-append p.messages (entry_values entries), length-map entries entry_value, grows_count first now (opened came ∷ p.messages) p.grows, length-append now.entries entries)
 
-    pub publishes : (new : Fed Entry) → Grows now new (entry_values entries) → Publishes meaning state first new (fed ++ piece) after end
-    publishes new grows = record { messages = p.messages ++ entry_values entries; gives = gives; grows = grows_then first now new (opened ∷ p.messages) (entry_values entries) p.grows grows }
+    pub publishes : (new : Fed Entry) → Grows now new (entry_values entries) → Publishes meaning state came first new (fed ++ piece) after end
+    publishes new grows = record { messages = p.messages ++ entry_values entries; gives = gives; grows = grows_then first now new (opened came ∷ p.messages) (entry_values entries) p.grows grows }

@@ -5,7 +5,7 @@ use Rattle.std.proofs.lemmas.List.{map-append}
 use Rattle.bmp_specs.specs.Life.{IsLife, IsOpenLife, LastRead, most_taken}
 use Rattle.bmp_specs.specs.Meaning.{Meaning, WalksBy}
 use Rattle.bmp_specs.specs.Steps.{steps_of}
-use Rattle.bmp_specs.specs.Values.{EntryValue, opened, closed}
+use Rattle.bmp_specs.specs.Values.{ClosingValue, EntryValue, OpeningValue, opened, closed}
 use Rattle.bmp_specs.specs.Walk.{Verdict, Walks, terminated, termination, whole}
 use Rattle.cut_publisher.specs.declared.history.Event.{Event}
 use Rattle.cut_publisher.specs.declared.history.Event.TheVariants.{Of, Finish}
@@ -99,32 +99,33 @@ module _ (meaning : Meaning) where
     joined = ap (λ (l : List EntryValue). life ++ l) lane.joined ∙ sym (append_assoc life (flat_map (λ l. l) lane.lives) lane.present);
   }
 
-  begun : (bytes : List ℕ) (messages front after : List EntryValue) (offset : ℕ) (v : Verdict) → length bytes ≤ most_taken → WalksBy meaning bytes messages offset v → messages ≡ front ++ after → IsLaneOf meaning (opened ∷ front)
-  begun bytes messages front after offset v within w is =
+  begun : (bytes : List ℕ) (came : OpeningValue) (messages front after : List EntryValue) (offset : ℕ) (v : Verdict) → length bytes ≤ most_taken → WalksBy meaning bytes messages offset v → messages ≡ front ++ after → IsLaneOf meaning (opened came ∷ front)
+  begun bytes came messages front after offset v within w is =
       let on = walk_front meaning.Means meaning.start bytes front after offset v (subst (λ (l : List EntryValue). WalksBy meaning bytes l offset v) is w) in
-      open_lane on.front (opened ∷ front) (record { messages = front; offset = on.offset; verdict = on.verdict; within = omega (arith, within, on.short); walk = on.walk; is = refl })
+      open_lane on.front (opened came ∷ front) (record { messages = front; offset = on.offset; verdict = on.verdict; came = came; within = omega (arith, within, on.short); walk = on.walk; is = refl })
 
   open_front : (bytes : List ℕ) (life front after : List EntryValue) → IsOpenLife meaning bytes life → life ≡ front ++ after → IsLaneOf meaning front
   open_front bytes life [] after is e = no_lives
   open_front bytes life (x ∷ front) after is e =
-      let same = heads opened x is.messages (front ++ after) (sym is.is ∙ e) in
-      subst (λ (y : EntryValue). IsLaneOf meaning (y ∷ front)) same.0 (begun bytes is.messages front after is.offset is.verdict is.within is.walk same.1)
+      let same = heads (opened is.came) x is.messages (front ++ after) (sym is.is ∙ e) in
+      subst (λ (y : EntryValue). IsLaneOf meaning (y ∷ front)) same.0 (begun bytes is.came is.messages front after is.offset is.verdict is.within is.walk same.1)
 
   life_front : (bytes : List ℕ) (last : LastRead) (life front after : List EntryValue) → IsLife meaning bytes last life → life ≡ front ++ after → IsLaneOf meaning front
   life_front bytes last life [] after is e = no_lives
   life_front bytes last life (x ∷ front) after is e =
-      let same = heads opened x (is.messages ++ closed is.cause ∷ []) (front ++ after) (sym is.is ∙ e) in
+      let end : ClosingValue = record { cause = is.cause; until = is.until } in
+      let same = heads (opened is.came) x (is.messages ++ closed end ∷ []) (front ++ after) (sym is.is ∙ e) in
       subst (λ (y : EntryValue). IsLaneOf meaning (y ∷ front)) same.0
-      (elim (apart front after is.messages (closed is.cause ∷ []) (sym same.1)) [
-        | inl h ↦ begun bytes is.messages front h.0 is.offset is.verdict is.within is.walk h.1
+      (elim (apart front after is.messages (closed end ∷ []) (sym same.1)) [
+        | inl h ↦ begun bytes is.came is.messages front h.0 is.offset is.verdict is.within is.walk h.1
         | inr h ↦ behind h.0 h.1 h.2
       ])
     where
-      behind : (mid : List EntryValue) → front ≡ is.messages ++ mid → mid ++ after ≡ closed is.cause ∷ [] → IsLaneOf meaning (opened ∷ front)
-      behind [] f e = begun bytes is.messages front [] is.offset is.verdict is.within is.walk (sym (append-nil front ∙ f ∙ append-nil is.messages))
+      behind : (mid : List EntryValue) → front ≡ is.messages ++ mid → mid ++ after ≡ closed (record { cause = is.cause; until = is.until }) ∷ [] → IsLaneOf meaning (opened is.came ∷ front)
+      behind [] f e = begun bytes is.came is.messages front [] is.offset is.verdict is.within is.walk (sym (append-nil front ∙ f ∙ append-nil is.messages))
       behind (y ∷ []) f e =
-          let last_one = heads y (closed is.cause) after [] e in
-          let all : opened ∷ front ≡ life = ap (λ (l : List EntryValue). opened ∷ l) (f ∙ ap (λ (z : EntryValue). is.messages ++ z ∷ []) last_one.0) ∙ sym is.is in
+          let last_one = heads y (closed (record { cause = is.cause; until = is.until })) after [] e in
+          let all : opened is.came ∷ front ≡ life = ap (λ (l : List EntryValue). opened is.came ∷ l) (f ∙ ap (λ (z : EntryValue). is.messages ++ z ∷ []) last_one.0) ∙ sym is.is in
           subst (IsLaneOf meaning) (append-nil life ∙ sym all) (after_life bytes last life [] is no_lives)
       behind (y ∷ z ∷ mid) f e = absurd (omega (arith, ap length e))
 

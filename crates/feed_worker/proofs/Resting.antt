@@ -20,5 +20,5 @@ pub rests_after : (meaning : Meaning) (c d : Aside) (pass new : Fed Entry) → C
 rests_after meaning c d pass new t =
     let life = t.is_of in
     let before : List EntryValue = entry_values pass.entries in
-    let end : List EntryValue = closed life.cause ∷ [] in
-    inr (before ++ opened ∷ life.messages, life.cause, grows_values pass new t.entries t.grows ∙ ap (λ (l : List EntryValue). before ++ l) life.is ∙ sym (append_assoc before (opened ∷ life.messages) end))
+    let end : List EntryValue = closed (record { cause = life.cause; until = life.until }) ∷ [] in
+    inr (before ++ opened life.came ∷ life.messages, record { cause = life.cause; until = life.until }, grows_values pass new t.entries t.grows ∙ ap (λ (l : List EntryValue). before ++ l) life.is ∙ sym (append_assoc before (opened life.came ∷ life.messages) end))

@@ -36,7 +36,7 @@ room_push count (x ∷ cs) c room fits = (room.0, room_push (count + length x.li
 
 -- the life of one connection has few entries, and so have those of many
 pub few_entries : (meaning : Meaning) (bytes : List ℕ) (last : LastRead) (life : List EntryValue) → IsLife meaning bytes last life → 6 * length life ≤ 2 ^ 46 + 12
-few_entries meaning bytes last life l = omega (arith, few_messages meaning bytes l.messages l.offset l.verdict l.walk, l.within, ap length l.is, length-append l.messages (closed l.cause ∷ []))
+few_entries meaning bytes last life l = omega (arith, few_messages meaning bytes l.messages l.offset l.verdict l.walk, l.within, ap length l.is, length-append l.messages (closed (record { cause = l.cause; until = l.until }) ∷ []))
 
 few_lives : (meaning : Meaning) (cs : List Connection) (a b : Aside) → Serves meaning a b cs → 6 * length (lives_of cs) ≤ length cs * (2 ^ 46 + 12)
 few_lives meaning [] a b s = omega arith

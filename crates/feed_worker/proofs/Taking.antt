@@ -6,7 +6,7 @@ use Rattle.bmp_specs.specs.declared.causes.Cause.TheVariants.{ReadFault, Full}
 use Rattle.bmp_specs.proofs.Fronts.{read_no_further}
 use Rattle.bmp_specs.specs.Life.{gave, gave_none, failed, most_taken, most_read, IsReadNoFurther, cause_at_end}
 use Rattle.bmp_specs.specs.Meaning.{Meaning}
-use Rattle.bmp_specs.specs.Values.{opened}
+use Rattle.bmp_specs.specs.Values.{OpeningValue, opened}
 use Rattle.bmp_specs.specs.Walk.{whole}
 use Rattle.bmp_message.proofs.Causes.{come_end, come_fault, come_full, come_early_here, undecided}
 use Rattle.bmp_message.specs.StreamWalk.{WalkValue, HasReached, rest_of, verdict_with}
@@ -27,18 +27,18 @@ use Rattle.feed_worker.proofs.Growing.{grows_none, grows_values}
 
 -- the bytes taken so far, of a connection that goes on: its opening and their messages are published, and these are the first
 -- octets beyond them
-pub record Taking {B : Type 0} (meaning : Meaning) (state : B → meaning.State) (first now : Aside) (pass0 pass : Fed Entry) (taken : ℕ) (walk : WalkValue B) (octets : List ℕ) : Type 0 where
+pub record Taking {B : Type 0} (meaning : Meaning) (state : B → meaning.State) (came : OpeningValue) (first now : Aside) (pass0 pass : Fed Entry) (taken : ℕ) (walk : WalkValue B) (octets : List ℕ) : Type 0 where
   pub bytes : List ℕ
   pub goes : Goes first now bytes taken
-  pub published : HasPublished meaning state pass0 pass bytes walk
+  pub published : HasPublished meaning state came pass0 pass bytes walk
   pub front : IsFront bytes walk.offset octets
 
 -- nothing was taken
 nothing_further : (meaning : Meaning) → IsReadNoFurther meaning []
 nothing_further meaning = read_no_further meaning [] [] 0 whole (refl, refl) tt [] (omega arith)
 
-pub taking_none : {B : Type 0} (meaning : Meaning) (state : B → meaning.State) (a : Aside) (pass0 pass : Fed Entry) (walk : WalkValue B) (octets : List ℕ) → IsNew a → Grows pass0 pass (entry_values (Opened ∷ [])) → HasReached meaning state [] [] walk → (walk.offset ≡ 0) × (walk.cutter.offset + length walk.cutter.pending ≡ 0) → IsFront [] 0 octets → Taking meaning state a a pass0 pass 0 walk octets
-taking_none meaning state a pass0 pass walk octets new grows reached (place, none) front = record {
+pub taking_none : {B : Type 0} (meaning : Meaning) (state : B → meaning.State) (came : OpeningValue) (a : Aside) (pass0 pass : Fed Entry) (walk : WalkValue B) (octets : List ℕ) → IsNew a → Grows pass0 pass (entry_values (Opened came ∷ [])) → HasReached meaning state [] [] walk → (walk.offset ≡ 0) × (walk.cutter.offset + length walk.cutter.pending ≡ 0) → IsFront [] 0 octets → Taking meaning state came a a pass0 pass 0 walk octets
+taking_none meaning state came a pass0 pass walk octets new grows reached (place, none) front = record {
   bytes = [];
   goes = goes_none a new;
   published = record {
@@ -55,17 +55,18 @@ began_there None began taken front begins count = subst (λ (o : Option ℕ). If
 began_there (Some n) began taken front begins count = subst (λ (o : Option ℕ). IfSome o (λ n. length front ≡ n)) (sym begins) count
 
 -- the opening wasn't published
-pub breaks_none : (meaning : Meaning) (began : Option ℕ) (a : Aside) (pass0 pass : Fed Entry) → IsNew a → pass ≡ pass0 → BreaksConnection meaning began a a pass0 pass
-breaks_none meaning began a pass0 pass new same = record {
+pub breaks_none : (meaning : Meaning) (came : OpeningValue) (began : Option ℕ) (a : Aside) (pass0 pass : Fed Entry) → IsNew a → pass ≡ pass0 → BreaksConnection meaning came began a a pass0 pass
+breaks_none meaning came began a pass0 pass new same = record {
   input = record { bytes = []; last = gave };
   entries = [];
   took = takes_going meaning a a [] 0 (goes_none a new) (nothing_further meaning) (omega arith);
   going = refl;
   begun = inl (refl, refl);
+  opening = tt;
   grows = subst (λ (p : Fed Entry). Grows pass0 p []) (sym same) (grows_none pass0);
 }
 
-module _ {B : Type 0} (meaning : Meaning) (state : B → meaning.State) (a0 a : Aside) (pass0 pass : Fed Entry) (n : ℕ) (walk : WalkValue B) (octets : List ℕ) (t : Taking meaning state a0 a pass0 pass n walk octets) where
+module _ {B : Type 0} (meaning : Meaning) (state : B → meaning.State) (came : OpeningValue) (a0 a : Aside) (pass0 pass : Fed Entry) (n : ℕ) (walk : WalkValue B) (octets : List ℕ) (t : Taking meaning state came a0 a pass0 pass n walk octets) where
   -- a walk that waits was read no further
   waits : IsReadNoFurther meaning t.bytes
   waits = subst (λ (l : List ℕ). IsReadNoFurther meaning l) (append-nil t.bytes) (read_no_further meaning t.bytes t.published.messages walk.offset (verdict_with (rest_of walk)) t.published.given.walks (undecided (rest_of walk)) [] (omega arith))
@@ -77,12 +78,13 @@ module _ {B : Type 0} (meaning : Meaning) (state : B → meaning.State) (a0 a : 
     messages = t.published.messages;
     offset = walk.offset;
     verdict = verdict_with (rest_of walk);
+    came = came;
     walk = t.published.given.walks;
-    is = grows_values pass0 pass (opened ∷ t.published.messages) t.published.grows;
+    is = grows_values pass0 pass (opened came ∷ t.published.messages) t.published.grows;
   })
 
   -- a read gave none
-  pub ends : (b : Aside) (buf : List ℕ) (cause : Cause) → Reads a b (Ok 0) buf → 0 < length buf → n < most_taken → cause ≡ cause_at_end (rest_of walk) walk.offset → TakesConnection meaning a0 b pass0 pass cause
+  pub ends : (b : Aside) (buf : List ℕ) (cause : Cause) → Reads a b (Ok 0) buf → 0 < length buf → n < most_taken → cause ≡ cause_at_end (rest_of walk) walk.offset → TakesConnection meaning came a0 b pass0 pass cause
   ends b buf cause r some room is = rw is (record {
     input = record { bytes = t.bytes; last = gave_none };
     messages = t.published.messages;
@@ -92,7 +94,7 @@ module _ {B : Type 0} (meaning : Meaning) (state : B → meaning.State) (a0 a : 
   })
 
   -- a read failed
-  pub faults : (b : Aside) (buf : List ℕ) (e : Failed) (c d : ℕ) → Reads a b (Err e) buf → AsPlanned a.plan c d (Err e) → n < most_taken → TakesConnection meaning a0 b pass0 pass (ReadFault n)
+  pub faults : (b : Aside) (buf : List ℕ) (e : Failed) (c d : ℕ) → Reads a b (Err e) buf → AsPlanned a.plan c d (Err e) → n < most_taken → TakesConnection meaning came a0 b pass0 pass (ReadFault n)
   faults b buf e c d r p room = rw (sym t.goes.count) (record {
     input = record { bytes = t.bytes; last = failed };
     messages = t.published.messages;
@@ -102,7 +104,7 @@ module _ {B : Type 0} (meaning : Meaning) (state : B → meaning.State) (a0 a : 
   })
 
   -- the limit of one connection was reached
-  pub fills : n ≡ most_taken → TakesConnection meaning a0 a pass0 pass Full
+  pub fills : n ≡ most_taken → TakesConnection meaning came a0 a pass0 pass Full
   fills full = record {
     input = record { bytes = t.bytes; last = gave };
     messages = t.published.messages;
@@ -124,12 +126,12 @@ module _ {B : Type 0} (meaning : Meaning) (state : B → meaning.State) (a0 a : 
     is_present new = present_told a0.given b.given (t.bytes ++ take m buf) new.fresh goes.given
 
     -- all their messages were published, and the walk goes on
-    pub taking_more : (new : Fed Entry) (after : WalkValue B) (beyond : List ℕ) → Publishes meaning state pass0 new (t.bytes ++ take m buf) after None → IsFront (t.bytes ++ take m buf) after.offset beyond
-        → Taking meaning state a0 b pass0 new (n + m) after beyond
+    pub taking_more : (new : Fed Entry) (after : WalkValue B) (beyond : List ℕ) → Publishes meaning state came pass0 new (t.bytes ++ take m buf) after None → IsFront (t.bytes ++ take m buf) after.offset beyond
+        → Taking meaning state came a0 b pass0 new (n + m) after beyond
     taking_more new after beyond p front = record { bytes = t.bytes ++ take m buf; goes = goes; published = record { messages = p.messages; given = p.gives; grows = p.grows }; front = front }
 
     -- all their messages were published, and the walk ended
-    pub ends_early : (new : Fed Entry) (after : WalkValue B) (cause : Cause) → Publishes meaning state pass0 new (t.bytes ++ take m buf) after (Some cause) → TakesConnection meaning a0 b pass0 new cause
+    pub ends_early : (new : Fed Entry) (after : WalkValue B) (cause : Cause) → Publishes meaning state came pass0 new (t.bytes ++ take m buf) after (Some cause) → TakesConnection meaning came a0 b pass0 new cause
     ends_early new after cause p = record {
       input = record { bytes = t.bytes ++ take m buf; last = gave };
       messages = p.messages;
@@ -139,10 +141,10 @@ module _ {B : Type 0} (meaning : Meaning) (state : B → meaning.State) (a0 a : 
     }
 
     -- none of their messages was published
-    pub breaks : (new : Fed Entry) (was began : Option ℕ) → BeginsAfter was began a.taken → new ≡ pass → BreaksConnection meaning began a0 b pass0 new
+    pub breaks : (new : Fed Entry) (was began : Option ℕ) → BeginsAfter was began a.taken → new ≡ pass → BreaksConnection meaning came began a0 b pass0 new
     breaks new was began begins same = record {
       input = record { bytes = t.bytes ++ take m buf; last = gave };
-      entries = opened ∷ t.published.messages;
+      entries = opened came ∷ t.published.messages;
       took = takes_going meaning a0 b (t.bytes ++ take m buf) (n + m) goes no_further room;
       going = refl;
       begun = inr (record {
@@ -151,7 +153,8 @@ module _ {B : Type 0} (meaning : Meaning) (state : B → meaning.State) (a0 a : 
         split = refl;
         short = omega (arith, size, length-take m buf);
         edge = inr (began_there was began a.taken t.bytes begins (t.goes.count ∙ sym t.goes.taken_is));
-        life = record { messages = t.published.messages; offset = walk.offset; verdict = verdict_with (rest_of walk); within = omega (arith, t.goes.count, room); walk = t.published.given.walks; is = refl };
+        life = record { messages = t.published.messages; offset = walk.offset; verdict = verdict_with (rest_of walk); came = came; within = omega (arith, t.goes.count, room); walk = t.published.given.walks; is = refl };
       });
-      grows = subst (λ (p : Fed Entry). Grows pass0 p (opened ∷ t.published.messages)) (sym same) t.published.grows;
+      opening = refl;
+      grows = subst (λ (p : Fed Entry). Grows pass0 p (opened came ∷ t.published.messages)) (sym same) t.published.grows;
     }

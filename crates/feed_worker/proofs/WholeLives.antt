@@ -1,12 +1,12 @@
 -- The life of a connection of which no read failed follows from all its bytes.
-use Rattle.std.proofs.Common.{◌≡◌, ℕ, ◌+◌, ◌-◌, ◌≤◌, List, [], ◌∷◌, ◌++◌, length, take, refl, sym, ap, ◌∙◌, subst, append-nil, arith, length-append, length-take}
+use Rattle.std.proofs.Common.{◌≡◌, ℕ, ◌+◌, ◌-◌, ◌≤◌, List, [], ◌∷◌, ◌++◌, length, take, Option, refl, sym, ap, ◌∙◌, subst, append-nil, arith, length-append, length-take}
 use Rattle.std.proofs.Math.Seq.{take-append-add, take-append_seam}
 use Rattle.std.proofs.lemmas.List.{take_all}
 use Rattle.bmp_specs.specs.declared.causes.Cause.{Cause}
 use Rattle.bmp_specs.specs.declared.causes.Cause.TheVariants.{Ended, Terminated, CutShort, Broken, ReadFault, Full}
 use Rattle.bmp_specs.specs.Life.{LastRead, gave, gave_none, failed, most_taken, IsCause, IsLife, IsUndecided}
 use Rattle.bmp_specs.specs.Meaning.{Meaning, WalksBy}
-use Rattle.bmp_specs.specs.Values.{EntryValue, opened, closed}
+use Rattle.bmp_specs.specs.Values.{EntryValue, OpeningValue, opened, closed}
 use Rattle.bmp_specs.specs.Walk.{Verdict, whole, more, terminated, broken}
 use Rattle.bmp_specs.proofs.LifeOne.{cause_one, cause_of_termination, cause_of_break, cause_of_fullness}
 use Rattle.station_doors.proofs.ReadLaws.{most_of}
@@ -22,9 +22,9 @@ must_be_full taken v offset (CutShort at) u c = let e = c.fits.0 in absurd (cc e
 must_be_full taken v offset (ReadFault at) u c = let e = c.fits.0 in absurd (cc e)
 
 -- its last read gave bytes
-module _ (meaning : Meaning) (b bytes rest : List ℕ) (messages : List EntryValue) (offset : ℕ) (life : List EntryValue) (split : b ≡ bytes ++ rest) (within : length bytes ≤ most_taken) where
+module _ (meaning : Meaning) (b bytes rest : List ℕ) (messages : List EntryValue) (offset : ℕ) (life : List EntryValue) (came : OpeningValue) (until : Option ℕ) (split : b ≡ bytes ++ rest) (within : length bytes ≤ most_taken) where
   -- which decided its walk
-  decided : (v : Verdict) (cause first : Cause) → IsDecided v → WalksBy meaning bytes messages offset v → first ≡ cause → ((n : ℕ) → IsCause n gave_none v offset first) → life ≡ opened ∷ (messages ++ closed cause ∷ []) → IsWholeLife meaning b life
+  decided : (v : Verdict) (cause first : Cause) → IsDecided v → WalksBy meaning bytes messages offset v → first ≡ cause → ((n : ℕ) → IsCause n gave_none v offset first) → life ≡ opened came ∷ (messages ++ closed (record { cause = cause; until = until }) ∷ []) → IsWholeLife meaning b life
   decided v cause first d walk same because is =
       let tail = take (most_taken - length bytes) rest in
       let all : take most_taken b ≡ bytes ++ tail = ap (λ (l : List ℕ). take most_taken l) split ∙ most_of bytes rest within in
@@ -34,6 +34,8 @@ module _ (meaning : Meaning) (b bytes rest : List ℕ) (messages : List EntryVal
         offset = offset;
         verdict = v;
         cause = cause;
+        came = came;
+        until = until;
         within = long;
         walk = walks_longer meaning.Means meaning.start bytes tail messages offset v walk d;
         because = subst (λ (c : Cause). IsCause (length (bytes ++ tail)) gave_none v offset c) same (because (length (bytes ++ tail)));
@@ -41,7 +43,7 @@ module _ (meaning : Meaning) (b bytes rest : List ℕ) (messages : List EntryVal
       })
 
   -- or the limit was reached
-  full : (v : Verdict) (cause : Cause) → IsUndecided v → WalksBy meaning bytes messages offset v → IsCause (length bytes) gave v offset cause → life ≡ opened ∷ (messages ++ closed cause ∷ []) → IsWholeLife meaning b life
+  full : (v : Verdict) (cause : Cause) → IsUndecided v → WalksBy meaning bytes messages offset v → IsCause (length bytes) gave v offset cause → life ≡ opened came ∷ (messages ++ closed (record { cause = cause; until = until }) ∷ []) → IsWholeLife meaning b life
   full v cause u walk because is =
       let most : length bytes ≡ most_taken = must_be_full (length bytes) v offset cause u because in
       let same : Full ≡ cause = cause_one (length bytes) gave v offset Full cause (cause_of_fullness (length bytes) gave v offset u most) because in
@@ -51,13 +53,15 @@ module _ (meaning : Meaning) (b bytes rest : List ℕ) (messages : List EntryVal
         offset = offset;
         verdict = v;
         cause = cause;
+        came = came;
+        until = until;
         within = within;
         walk = walk;
         because = subst (λ (c : Cause). IsCause (length bytes) gave_none v offset c) same (cause_of_fullness (length bytes) gave_none v offset u most);
         is = is;
       })
 
-  gave_all : (v : Verdict) (cause : Cause) → WalksBy meaning bytes messages offset v → IsCause (length bytes) gave v offset cause → life ≡ opened ∷ (messages ++ closed cause ∷ []) → IsWholeLife meaning b life
+  gave_all : (v : Verdict) (cause : Cause) → WalksBy meaning bytes messages offset v → IsCause (length bytes) gave v offset cause → life ≡ opened came ∷ (messages ++ closed (record { cause = cause; until = until }) ∷ []) → IsWholeLife meaning b life
   gave_all whole cause walk because is = full whole cause tt walk because is
   gave_all more cause walk because is = full more cause tt walk because is
   gave_all terminated cause walk because is =
@@ -68,7 +72,7 @@ module _ (meaning : Meaning) (b bytes rest : List ℕ) (messages : List EntryVal
       decided (broken why) cause (Broken offset why) tt walk same (λ n. cause_of_break n gave_none why offset) is
 
 pub whole_life : (meaning : Meaning) (b bytes rest : List ℕ) (last : LastRead) (life : List EntryValue) → b ≡ bytes ++ rest → (last ≡ gave_none → rest ≡ []) → (last ≡ failed → ⊥) → IsLife meaning bytes last life → IsWholeLife meaning b life
-whole_life meaning b bytes rest gave life split ended calm l = gave_all meaning b bytes rest l.messages l.offset life split l.within l.verdict l.cause l.walk l.because l.is
+whole_life meaning b bytes rest gave life split ended calm l = gave_all meaning b bytes rest l.messages l.offset life l.came l.until split l.within l.verdict l.cause l.walk l.because l.is
 whole_life meaning b bytes rest gave_none life split ended calm l =
     let all : b ≡ bytes = split ∙ ap (λ (x : List ℕ). bytes ++ x) (ended refl) ∙ append-nil bytes in
     let same : take most_taken b ≡ bytes = ap (λ (x : List ℕ). take most_taken x) all ∙ take_all most_taken bytes l.within in

@@ -6,9 +6,9 @@ use Rattle.bmp_specs.specs.Values.{EntryValue, opened, message, closed}
 -- the causes of the closings among these entries, in order
 abbrev pub closings_of : List EntryValue → List Cause
 closings_of [] = []
-closings_of (opened ∷ entries) = closings_of entries
-closings_of (message kind size effects ∷ entries) = closings_of entries
-closings_of (closed cause ∷ entries) = cause ∷ closings_of entries
+closings_of (opened came ∷ entries) = closings_of entries
+closings_of (message head effects ∷ entries) = closings_of entries
+closings_of (closed closing ∷ entries) = closing.cause ∷ closings_of entries
 
 -- where the causes that a port was told are kept, they are those of the closings among these entries, in order
 abbrev pub AreTold : Option (List Cause) → List EntryValue → Type 0

@@ -4,7 +4,7 @@ use Rattle.std.specs.Io.KnownBytes.{Consumes, IsAtEnd}
 use Rattle.bmp_specs.specs.declared.causes.Cause.{Cause}
 use Rattle.bmp_specs.specs.Life.{gave, gave_none, failed, most_taken, most_read, IsOpenLife, IsReadNoFurther, Given, HasCome}
 use Rattle.bmp_specs.specs.Meaning.{Meaning}
-use Rattle.bmp_specs.specs.Values.{EntryValue, opened}
+use Rattle.bmp_specs.specs.Values.{EntryValue, OpeningValue, opened}
 use Rattle.station_doors.specs.Doors.{GivesMore, CountsLast}
 use Rattle.cut_publisher.specs.History.{Fed}
 use Rattle.rib_model.specs.declared.entry.Entry.{Entry}
@@ -42,14 +42,14 @@ pub record TakesBytes (meaning : Meaning) (old new : Aside) (input : Given) : Ty
   pub open_faults : new.open_faults ≡ old.open_faults
   pub read_faults : CountsLast old.read_faults new.read_faults input.last
 
--- The present connection was taken to its end, for this cause: its opening and all messages of what it gave were
+-- The present connection was taken to its end, for this cause: this opening and all messages of what it gave were
 -- published, and nothing else.
-pub record TakesConnection (meaning : Meaning) (old new : Aside) (pass pass' : Fed Entry) (cause : Cause) : Type 0 where
+pub record TakesConnection (meaning : Meaning) (came : OpeningValue) (old new : Aside) (pass pass' : Fed Entry) (cause : Cause) : Type 0 where
   pub input : Given
   pub messages : List EntryValue
   pub took : TakesBytes meaning old new input
   pub come : HasCome meaning input messages cause
-  pub grows : Grows pass pass' (opened ∷ messages)
+  pub grows : Grows pass pass' (opened came ∷ messages)
 
 -- The opening and all messages of these bytes as they stood where a read ended: of all, or of those before the piece
 -- that the last read gave. Where it is told after how many bytes that read began, so many stand before the piece.
@@ -66,12 +66,18 @@ pub record IsLifeOfFront (meaning : Meaning) (began : Option ℕ) (bytes : List 
 abbrev pub IsBegun : Meaning → Option ℕ → List ℕ → List EntryValue → Type 0
 IsBegun meaning began bytes entries = ((bytes ≡ []) × (entries ≡ [])) ⊎ IsLifeOfFront meaning began bytes entries
 
--- Memory ran out as the present connection was taken: a beginning of its opening and messages was published. No
+-- the first of these entries, if there are any, is this opening
+abbrev pub BeginWith : OpeningValue → List EntryValue → Type 0
+BeginWith came [] = Unit {0}
+BeginWith came (entry ∷ entries) = entry ≡ opened came
+
+-- Memory ran out as the present connection was taken: a beginning of this opening and its messages was published. No
 -- read had failed or told the end. The last one began after so many bytes, where that is told.
-pub record BreaksConnection (meaning : Meaning) (began : Option ℕ) (old new : Aside) (pass pass' : Fed Entry) : Type 0 where
+pub record BreaksConnection (meaning : Meaning) (came : OpeningValue) (began : Option ℕ) (old new : Aside) (pass pass' : Fed Entry) : Type 0 where
   pub input : Given
   pub entries : List EntryValue
   pub took : TakesBytes meaning old new input
   pub going : input.last ≡ gave
   pub begun : IsBegun meaning began input.bytes entries
+  pub opening : BeginWith came entries
   pub grows : Grows pass pass' entries

@@ -1,9 +1,8 @@
 -- When a lane may be given more bytes, or the next connection: nothing whole is unpublished, or nothing at all.
 use Rattle.std.specs.Prelude.{◌≡◌, ◌⊎◌, ℕ, List, [], ◌∷◌, ◌++◌, Option, None, Some}
-use Rattle.bmp_specs.specs.declared.causes.Cause.{Cause}
 use Rattle.bmp_specs.specs.Life.{Given}
 use Rattle.bmp_specs.specs.Meaning.{Meaning, WalksBy}
-use Rattle.bmp_specs.specs.Values.{EntryValue, opened, closed}
+use Rattle.bmp_specs.specs.Values.{ClosingValue, EntryValue, OpeningValue, opened, closed}
 use Rattle.bmp_specs.specs.Walk.{Verdict}
 
 -- by this meaning of bodies the entries since the last opening are exactly the messages of these bytes
@@ -12,8 +11,9 @@ pub record IsPublished (meaning : Meaning) (entries : List EntryValue) (bytes : 
   pub messages : List EntryValue
   pub offset : ℕ
   pub verdict : Verdict
+  pub came : OpeningValue
   pub walk : WalksBy meaning bytes messages offset verdict
-  pub is : entries ≡ before ++ opened ∷ messages
+  pub is : entries ≡ before ++ opened came ∷ messages
 
 -- the bytes that the present connection gave
 abbrev pub present_of : List Given → List ℕ
@@ -39,4 +39,4 @@ BeginsAfter (Some old) new taken = new ≡ Some taken
 
 -- nothing of a connection is unpublished: there is no entry, or the last one is a closing
 abbrev pub IsAtRest : List EntryValue → Type 0
-IsAtRest entries = (entries ≡ []) ⊎ ((before : List EntryValue) × (cause : Cause) × (entries ≡ before ++ closed cause ∷ []))
+IsAtRest entries = (entries ≡ []) ⊎ ((before : List EntryValue) × (closing : ClosingValue) × (entries ≡ before ++ closed closing ∷ []))

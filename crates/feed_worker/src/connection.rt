@@ -4,7 +4,9 @@ ghost use Rattle.bmp_specs.specs.Life.{cause_at_end};
 ghost use Rattle.bmp_specs.specs.Values.{closed};
 ghost use Rattle.bmp_message.specs.StreamWalk.{HasReached, fed_of, rest_of};
 ghost use Rattle.station_doors.specs.Doors.{Closes, told_after};
+ghost use Rattle.station_doors.specs.Told.{KeepsOpening};
 ghost use Rattle.feed_worker.specs.Connection.{IsNew, TakesConnection, BreaksConnection};
+ghost use Rattle.feed_worker.specs.Opening.{opening_of};
 ghost use Rattle.feed_worker.specs.Publishing.{Grows};
 
 use crate::feed_port::FeedPort;
@@ -13,15 +15,16 @@ use crate::publishing::{publish_entries, publish_piece};
 use bmp_message::{BodyReading, StreamWalk};
 use bmp_specs::{Cause, MOST_READ, MOST_TAKEN};
 use cut_publisher::{FeedPass, Naming, Publisher};
-use rib_model::Entry;
+use rib_model::{Closing, Entry, Opening};
 use router_tables::RouterTables;
 use std::alloc::Global;
 use std::sync::{Arc, Wait};
 use wire_io::NoMemory;
 
 /// Takes the present connection of the port, of which no byte was given, to its end, and tells why it ended. The pass
-/// publishes its opening, and then its messages as `B` reads them, those of one read in one step. The closing is left
-/// to `close_connection`. The port gives no bytes while a message of the earlier ones is unpublished.
+/// publishes its opening, with what the port tells of where it came from and when, and then its messages as `B` reads them,
+/// those of one read in one step. The closing is left to `close_connection`. The port gives no bytes while a message of the
+/// earlier ones is unpublished.
 ///
 /// | Cause | Exactly where |
 /// |---|---|
@@ -45,9 +48,10 @@ pub fn take_connection<B: BodyReading + Drop, J: Naming, P: FeedPort<B, J>, R: W
     requires station { pass.old.station ≡ J.site }
     requires room { length pass.old.entries + 2 ^ 44 ≤ 2 ^ 57 }
     requires new { IsNew (P.aside port.old) }
-    ensures taken { MatchResult result (TakesConnection B.meaning (P.aside port.old) (P.aside port.new) pass.old pass.new)
-        (λ _. BreaksConnection B.meaning (P.last_began port.new) (P.aside port.old) (P.aside port.new) pass.old pass.new) }
+    ensures taken { MatchResult result (TakesConnection B.meaning (opening_of (P.tells port.old)) (P.aside port.old) (P.aside port.new) pass.old pass.new)
+        (λ _. BreaksConnection B.meaning (opening_of (P.tells port.old)) (P.last_began port.new) (P.aside port.old) (P.aside port.new) pass.old pass.new) }
     ensures causes { P.causes port.new ≡ P.causes port.old }
+    ensures tells { P.tells port.new ≡ P.tells port.old }
 {
     let mut walk = StreamWalk::<B>::new(alloc);
     take_by::<B, J, P, R>(rt, alloc, publisher, pass, port, &mut walk)
@@ -67,11 +71,17 @@ fn take_by<B: BodyReading + Drop, J: Naming, P: FeedPort<B, J>, R: Wait>(
     requires new { IsNew (P.aside port.old) }
     requires unfed { HasReached B.meaning B.state [] [] walk.old }
     requires start { (walk.old.offset ≡ 0) × (fed_of walk.old ≡ 0) }
-    ensures taken { MatchResult result (TakesConnection B.meaning (P.aside port.old) (P.aside port.new) pass.old pass.new)
-        (λ _. BreaksConnection B.meaning (P.last_began port.new) (P.aside port.old) (P.aside port.new) pass.old pass.new) }
+    ensures taken { MatchResult result (TakesConnection B.meaning (opening_of (P.tells port.old)) (P.aside port.old) (P.aside port.new) pass.old pass.new)
+        (λ _. BreaksConnection B.meaning (opening_of (P.tells port.old)) (P.last_began port.new) (P.aside port.old) (P.aside port.new) pass.old pass.new) }
     ensures causes { P.causes port.new ≡ P.causes port.old }
+    ensures tells { P.tells port.new ≡ P.tells port.old }
 {
-    publish_entries(rt, alloc, publisher, pass, &[Entry::Opened])?;
+    let came = port.told();
+    let opening = Opening {
+        from: came.from,
+        since: came.since,
+    };
+    publish_entries(rt, alloc, publisher, pass, &[Entry::Opened(opening)])?;
     let mut buf = [0u8; MOST_READ as usize];
     let mut front = Front::new();
     let mut taken = 0;
@@ -96,7 +106,7 @@ fn take_by<B: BodyReading + Drop, J: Naming, P: FeedPort<B, J>, R: Wait>(
 }
 
 /// Why a connection ended of which nothing more came.
-fn cause_of_end<B: BodyReading>(walk: &StreamWalk<B>) -> Cause
+pub fn cause_of_end<B: BodyReading>(walk: &StreamWalk<B>) -> Cause
     ensures { result ≡ cause_at_end (rest_of walk.now) walk.now.offset }
 {
     if walk.rest() == 0 {
@@ -119,8 +129,9 @@ pub(crate) fn lent(tables: &Option<Arc<RouterTables>>) -> Option<&RouterTables> 
     }
 }
 
-/// Closes the present connection, publishes that it closed and why, and tells the port. Out of memory, it is closed, the
-/// pass is as before, and the port is told no cause.
+/// Closes the present connection, publishes that it closed, why, and when as the port tells, and tells the port why. Out of
+/// memory, it is closed, the pass is as before, and the port is told no cause. What the port tells of where the connection
+/// came from and when stays, so the closing that is published is of the connection whose opening was.
 pub fn close_connection<B: BodyReading, J: Naming, P: FeedPort<B, J>, R: Wait>(
     rt: &R,
     alloc: Global,
@@ -132,15 +143,20 @@ pub fn close_connection<B: BodyReading, J: Naming, P: FeedPort<B, J>, R: Wait>(
     requires station { pass.old.station ≡ J.site }
     requires room { length pass.old.entries < 2 ^ 57 }
     requires is_open { IsTrue (P.aside port.old).is_open }
-    ensures pass { MatchResult result (λ _. Grows pass.old pass.new (closed cause ∷ [])) (λ _. pass.new ≡ pass.old) }
+    ensures pass { MatchResult result (λ _. Grows pass.old pass.new (closed (record { cause = cause; until = (P.tells port.new).until }) ∷ [])) (λ _. pass.new ≡ pass.old) }
     ensures closes { Closes (P.aside port.old) (P.aside port.new) }
     ensures calls { P.calls port.new ≡ P.calls port.old }
     ensures began { P.last_began port.new ≡ P.last_began port.old }
+    ensures keeps { KeepsOpening (P.tells port.old) (P.tells port.new) }
     ensures told { MatchResult result (λ _. P.causes port.new ≡ told_after (P.causes port.old) (Some cause)) (λ _. P.causes port.new ≡ told_after (P.causes port.old) None) }
 {
     port.close();
+    let closing = Closing {
+        cause,
+        until: port.told().until,
+    };
     let tables = pass.last();
-    match publish_entries(rt, alloc, publisher, pass, &[Entry::Closed(cause)]) {
+    match publish_entries(rt, alloc, publisher, pass, &[Entry::Closed(closing)]) {
         Ok(()) => {
             port.ended(lent(&tables), Some(cause));
             Ok(())

@@ -5,6 +5,7 @@ ghost use Rattle.rib_model.specs.Entries.{entry_values};
 ghost use Rattle.wire_io.specs.Aside.{Aside};
 ghost use Rattle.bmp_specs.specs.declared.causes.Cause.{Cause};
 ghost use Rattle.station_doors.specs.Doors.{Opens, Reads, Closes, AsPlanned, read_size, told_after};
+ghost use Rattle.station_doors.specs.Told.{KeepsOpening, ToldValue};
 ghost use Rattle.feed_worker.specs.FeedPort.{BeginsAfter, IsAtRest, IsPublishedWhereTold};
 ghost use Rattle.feed_worker.specs.Front.{BreaksWhereTold};
 ghost use Rattle.feed_worker.specs.Publishing.{EndsWith};
@@ -14,6 +15,7 @@ use bmp_specs::Cause;
 use cut_publisher::{FeedPass, Naming};
 use rib_model::Entry;
 use router_tables::RouterTables;
+use station_doors::Told;
 use wire_io::Failed;
 
 /// The port of a lane of the station that `J` names. It gives bytes only to a lane that has published, on that station,
@@ -34,6 +36,9 @@ pub trait FeedPort<B: BodyReading, J: Naming> {
 
     /// Why its connections ended, in the order in which it was told, where it keeps that.
     ghost causes: { Self → Option (List Cause) };
+
+    /// From where its present connection came and when, or its last one, and when that was closed.
+    ghost tells: { Self → ToldValue };
 
     /// Opens the next connection, as a `Port` does, for the pass of a lane of this station. A lane may wait here for
     /// days. Nothing of the earlier connections is unpublished then: the pass has no entry, or the last one is a
@@ -60,7 +65,8 @@ pub trait FeedPort<B: BodyReading, J: Naming> {
         ensures reads { Reads (aside self.old) (aside self.new) result buf.new }
         ensures planned { AsPlanned (aside self.old).plan (calls self.old) (calls self.new) result }
         ensures began { BeginsAfter (last_began self.old) (last_began self.new) (aside self.old).taken }
-        ensures causes { causes self.new ≡ causes self.old };
+        ensures causes { causes self.new ≡ causes self.old }
+        ensures tells { tells self.new ≡ tells self.old };
 
     /// Is told the messages that the last read completed, once the pass has published them: they are its last entries.
     fn published(&mut self, pass: &FeedPass<RouterTables>, entries: &[Entry])
@@ -68,7 +74,8 @@ pub trait FeedPort<B: BodyReading, J: Naming> {
         ensures aside { aside self.new ≡ aside self.old }
         ensures calls { calls self.new ≡ calls self.old }
         ensures began { last_began self.new ≡ last_began self.old }
-        ensures causes { causes self.new ≡ causes self.old };
+        ensures causes { causes self.new ≡ causes self.old }
+        ensures tells { tells self.new ≡ tells self.old };
 
     /// Is told of the present connection that what stands at this offset is no message, and the first octets from there on,
     /// at most 64. Where its bytes are told, that is so of the bytes given so far.
@@ -77,7 +84,8 @@ pub trait FeedPort<B: BodyReading, J: Naming> {
         ensures aside { aside self.new ≡ aside self.old }
         ensures calls { calls self.new ≡ calls self.old }
         ensures began { last_began self.new ≡ last_began self.old }
-        ensures causes { causes self.new ≡ causes self.old };
+        ensures causes { causes self.new ≡ causes self.old }
+        ensures tells { tells self.new ≡ tells self.old };
 
     /// Closes the present connection, as a `Port` does.
     fn close(&mut self)
@@ -85,7 +93,12 @@ pub trait FeedPort<B: BodyReading, J: Naming> {
         ensures closes { Closes (aside self.old) (aside self.new) }
         ensures calls { calls self.new ≡ calls self.old }
         ensures began { last_began self.new ≡ last_began self.old }
-        ensures causes { causes self.new ≡ causes self.old };
+        ensures causes { causes self.new ≡ causes self.old }
+        ensures tells { KeepsOpening (tells self.old) (tells self.new) };
+
+    /// Tells from where the present connection came and when, or the last one, and when that was closed, as a `Port` does.
+    fn told(&self) -> Told
+        ensures { result ≡ tells self.now };
 
     /// Is told how the last connection ended, which was closed, as a `Port` is: for this cause, whose closing was
     /// published, or, without one, for want of memory. These are the lane's tables as they were before that closing.
@@ -93,5 +106,6 @@ pub trait FeedPort<B: BodyReading, J: Naming> {
         ensures aside { aside self.new ≡ aside self.old }
         ensures calls { calls self.new ≡ calls self.old }
         ensures began { last_began self.new ≡ last_began self.old }
-        ensures causes { causes self.new ≡ told_after (causes self.old) cause };
+        ensures causes { causes self.new ≡ told_after (causes self.old) cause }
+        ensures tells { tells self.new ≡ tells self.old };
 }

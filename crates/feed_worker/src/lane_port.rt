@@ -8,7 +8,7 @@ use bmp_specs::Cause;
 use cut_publisher::{FeedPass, Naming};
 use rib_model::Entry;
 use router_tables::RouterTables;
-use station_doors::{Ended, Port};
+use station_doors::{Ended, Port, Told};
 use std::marker::Model;
 use wire_io::Failed;
 
@@ -80,6 +80,8 @@ impl<P: Port, B: BodyReading, J: Naming> FeedPort<B, J> for LanePort<P> {
 
     ghost causes = { P.causes };
 
+    ghost tells = { P.tells };
+
     fn next_connection(&mut self, _pass: &FeedPass<RouterTables>) -> Result<bool, Failed> {
         self.port.next_connection()
     }
@@ -98,6 +100,10 @@ impl<P: Port, B: BodyReading, J: Naming> FeedPort<B, J> for LanePort<P> {
 
     fn close(&mut self) {
         self.port.close();
+    }
+
+    fn told(&self) -> Told {
+        self.port.told()
     }
 
     fn ended(&mut self, tables: Option<&RouterTables>, cause: Option<Cause>) {

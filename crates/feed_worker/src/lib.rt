@@ -5,14 +5,14 @@
 //! read are published in one step with the tables that they leave (`router_tables`, `cut_publisher`), before more is
 //! asked for. So what askers see lags by less than one read.
 //!
-//! Proved: `take_connection` publishes the opening and exactly the messages of the bytes that it took, in order, and
-//! answers the cause of the connection's end; `close_connection` publishes that cause; `serve_feed` publishes the
-//! lives of all connections that it opened. All three are written over any `FeedPort`, which gives bytes only where the
-//! messages of all earlier ones are published, and opens a connection only where the closing of the last one is;
-//! `LanePort` makes one of any port, and `LaneYard` is a yard that hands out such ports alone. Out of memory, the last
-//! connection's life was published up to its last read at least. Whatever front of the history is seen, what is there of
-//! a lane are lives, of which the last may be open, so that a client can keep an exact copy of its rows (`lanes_are_lives`,
-//! `lanes_keep_copies`).
+//! Proved: `take_connection` publishes the opening, as the port tells it, and exactly the messages of the bytes that it
+//! took, in order, and answers the cause of the connection's end; `close_connection` publishes that cause, and when, as the
+//! port tells; `serve_feed` publishes the lives of all connections that it opened. All three are written over any
+//! `FeedPort`, which gives bytes only where the messages of all earlier ones are published, and opens a connection only
+//! where the closing of the last one is; `LanePort` makes one of any port, and `LaneYard` is a yard that hands out such
+//! ports alone. Out of memory, the last connection's life was published up to its last read at least. Whatever front of the
+//! history is seen, what is there of a lane are lives, of which the last may be open, so that a client can keep an exact
+//! copy of its rows (`lanes_are_lives`, `lanes_keep_copies`).
 //! Begin with `specs/Connection.antt`, `specs/Feed.antt` and `specs/FeedPort.antt`, then `src/connection.rt`.
 #![tactic(auto)]
 
@@ -26,7 +26,7 @@ mod laws;
 mod peers;
 mod publishing;
 
-pub use connection::{close_connection, take_connection};
+pub use connection::{cause_of_end, close_connection, take_connection};
 pub use feed::{LaneEnd, serve_feed};
 pub use feed_port::FeedPort;
 pub use lane_port::LanePort;

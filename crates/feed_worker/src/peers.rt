@@ -12,6 +12,7 @@ pub(crate) fn tell_entries<P: Port>(port: &mut P, entries: &[Entry])
     ensures aside { P.aside port.new ≡ P.aside port.old }
     ensures calls { P.calls port.new ≡ P.calls port.old }
     ensures causes { P.causes port.new ≡ P.causes port.old }
+    ensures tells { P.tells port.new ≡ P.tells port.old }
 {
     for entry in entries {
         tell_entry(port, entry);
@@ -22,9 +23,10 @@ fn tell_entry<P: Port>(port: &mut P, entry: &Entry)
     ensures aside { P.aside port.new ≡ P.aside port.old }
     ensures calls { P.calls port.new ≡ P.calls port.old }
     ensures causes { P.causes port.new ≡ P.causes port.old }
+    ensures tells { P.tells port.new ≡ P.tells port.old }
 {
-    if let Entry::Message { kind, effects, .. } = entry
-        && (*kind == PEER_UP || *kind == PEER_DOWN)
+    if let Entry::Message { head, effects } = entry
+        && (head.kind == PEER_UP || head.kind == PEER_DOWN)
     {
         tell_effects(port, effects.as_slice());
     }
@@ -34,6 +36,7 @@ fn tell_effects<P: Port>(port: &mut P, effects: &[Effect])
     ensures aside { P.aside port.new ≡ P.aside port.old }
     ensures calls { P.calls port.new ≡ P.calls port.old }
     ensures causes { P.causes port.new ≡ P.causes port.old }
+    ensures tells { P.tells port.new ≡ P.tells port.old }
 {
     for effect in effects {
         tell_effect(port, effect);
@@ -44,6 +47,7 @@ fn tell_effect<P: Port>(port: &mut P, effect: &Effect)
     ensures aside { P.aside port.new ≡ P.aside port.old }
     ensures calls { P.calls port.new ≡ P.calls port.old }
     ensures causes { P.causes port.new ≡ P.causes port.old }
+    ensures tells { P.tells port.new ≡ P.tells port.old }
 {
     match effect {
         Effect::Up { key, info } => port.peer(&PeerChange::Up {

@@ -1,6 +1,6 @@
 //! What one read brings, published in one step.
 ghost use Rattle.std.specs.Prelude.{◌≡◌, ◌++◌, ◌≤◌, ◌^◌, ℕ, List, length, IfOk, MatchResult};
-ghost use Rattle.bmp_specs.specs.Values.{EntryValue};
+ghost use Rattle.bmp_specs.specs.Values.{EntryValue, OpeningValue};
 ghost use Rattle.bmp_message.specs.StreamWalk.{HasReached, fed_of, Gives};
 ghost use Rattle.cut_publisher.specs.History.{Fed};
 ghost use Rattle.rib_model.specs.Entries.{entry_values};
@@ -113,6 +113,7 @@ fn tell_break<B: BodyReading, J: Naming, P: FeedPort<B, J>>(
     ensures aside { P.aside port.new ≡ P.aside port.old }
     ensures began { P.last_began port.new ≡ P.last_began port.old }
     ensures causes { P.causes port.new ≡ P.causes port.old }
+    ensures tells { P.tells port.new ≡ P.tells port.old }
 {
     if let Some(Cause::Broken { offset, .. }) = end {
         port.broke(offset, front.as_slice());
@@ -135,14 +136,15 @@ pub(crate) fn publish_piece<B: BodyReading + Drop, J: Naming, P: FeedPort<B, J>,
     requires station { pass.old.station ≡ J.site }
     requires room { HasRoom B.meaning B.state pass.old walk.old (P.aside port.old).given front.old.octets piece.now }
     ensures published { MatchResult result
-        (λ end. (first : Fed Entry) (fed : List ℕ) → HasPublished B.meaning B.state first pass.old fed walk.old
-        → Publishes B.meaning B.state first pass.new (fed ++ piece.now) walk.new end)
+        (λ end. (came : OpeningValue) (first : Fed Entry) (fed : List ℕ) → HasPublished B.meaning B.state came first pass.old fed walk.old
+        → Publishes B.meaning B.state came first pass.new (fed ++ piece.now) walk.new end)
         (λ _. pass.new ≡ pass.old) }
-    ensures fronts { IfOk result (λ end. (first : Fed Entry) (fed : List ℕ) → HasPublished B.meaning B.state first pass.old fed walk.old → IsFront fed walk.old.offset front.old.octets
+    ensures fronts { IfOk result (λ end. (came : OpeningValue) (first : Fed Entry) (fed : List ℕ) → HasPublished B.meaning B.state came first pass.old fed walk.old → IsFront fed walk.old.offset front.old.octets
         → IsFrontAt (fed ++ piece.now) walk.new.offset end front.new.octets) }
     ensures aside { P.aside port.new ≡ P.aside port.old }
     ensures began { P.last_began port.new ≡ P.last_began port.old }
     ensures causes { P.causes port.new ≡ P.causes port.old }
+    ensures tells { P.tells port.new ≡ P.tells port.old }
 {
     let from = walk.offset();
     let given = from + walk.rest();

@@ -9,7 +9,7 @@ use Rattle.bmp_specs.specs.FramedUpdate.{is_multiprotocol}
 use Rattle.bmp_specs.specs.UpdateForms.{HasNoAsZero}
 use Rattle.bmp_specs.specs.Values.{AttrsReadValue, OtherValue, SegmentValue}
 use Rattle.bmp_specs.proofs.AttributesOne.{attribute_code}
-use Rattle.bmp_specs.proofs.LenientStrict.{distinct_filter}
+use Rattle.bmp_specs.proofs.FramedOne.{distinct_filter}
 use Rattle.bmp_specs.proofs.PartsRead.{AreParts-one}
 use Rattle.path_attrs.specs.Framed.{HasNoFrame, HasParts, HasValueIn, IsFrame}
 use Rattle.path_attrs.specs.Judged.{IsJudged}

@@ -1,25 +1,25 @@
 // Path attribute type codes (RFC 4271, section 5; RFC 1997; RFC 4760, sections 3 and 4; RFC 6793,
 // section 3).
 
-pub(crate) const ORIGIN: u8 = 1;
+pub const ORIGIN: u8 = 1;
 
-pub(crate) const AS_PATH: u8 = 2;
+pub const AS_PATH: u8 = 2;
 
-pub(crate) const NEXT_HOP: u8 = 3;
+pub const NEXT_HOP: u8 = 3;
 
-pub(crate) const MULTI_EXIT_DISC: u8 = 4;
+pub const MULTI_EXIT_DISC: u8 = 4;
 
-pub(crate) const LOCAL_PREF: u8 = 5;
+pub const LOCAL_PREF: u8 = 5;
 
-pub(crate) const ATOMIC_AGGREGATE: u8 = 6;
+pub const ATOMIC_AGGREGATE: u8 = 6;
 
-pub(crate) const AGGREGATOR: u8 = 7;
+pub const AGGREGATOR: u8 = 7;
 
-pub(crate) const COMMUNITIES: u8 = 8;
+pub const COMMUNITIES: u8 = 8;
 
-pub(crate) const MP_REACH_NLRI: u8 = 14;
+pub const MP_REACH_NLRI: u8 = 14;
 
-pub(crate) const MP_UNREACH_NLRI: u8 = 15;
+pub const MP_UNREACH_NLRI: u8 = 15;
 
 pub(crate) const AS4_PATH: u8 = 17;
 
@@ -27,3 +27,6 @@ pub(crate) const AS4_AGGREGATOR: u8 = 18;
 
 // One place for each type up to AS4_AGGREGATOR, the last that is read.
 pub(crate) const PLACES: usize = 19;
+
+/// "Extended Length bit" of the flags (RFC 4271, section 4.3).
+pub const EXTENDED_LENGTH: u8 = 0x10;

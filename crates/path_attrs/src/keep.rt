@@ -9,9 +9,9 @@ ghost use Rattle.path_attrs.specs.declared.codes.TheConstants.{PLACES};
 ghost use Rattle.path_attrs.specs.Kept.{kept_of};
 
 use crate::bytes::bytes_of;
-use crate::codes::PLACES;
+use crate::codes::{EXTENDED_LENGTH, PLACES};
 use crate::others::{Other, OtherList};
-use crate::part::{EXTENDED_LENGTH, Part, read_part};
+use crate::part::{Part, read_part};
 use crate::registry::is_read_type;
 use std::alloc::Global;
 use wire_io::NoMemory;

@@ -34,6 +34,10 @@ mod width;
 
 pub use as_path::{AsPath, Numbers, Width};
 pub use attrs::{Aggregator, Attrs};
+pub use codes::{
+    AGGREGATOR, AS_PATH, ATOMIC_AGGREGATE, COMMUNITIES, EXTENDED_LENGTH, LOCAL_PREF, MP_REACH_NLRI,
+    MP_UNREACH_NLRI, MULTI_EXIT_DISC, NEXT_HOP, ORIGIN,
+};
 pub use fault::AttrFault;
 pub use frame::{FramedAttrs, frame_attrs};
 pub use judge::{Judged, judge_attrs};

@@ -3,10 +3,8 @@ ghost use Rattle.bmp_specs.specs.Attribute.{IsAttribute, attribute_header, value
 ghost use Rattle.bmp_specs.specs.Sequence.{HasFront};
 ghost use Rattle.bmp_specs.specs.Values.{OtherValue};
 
+use crate::codes::EXTENDED_LENGTH;
 use byteorder::{BigEndian, ByteOrder};
-
-// "Extended Length bit" (RFC 4271, section 4.3).
-pub(crate) const EXTENDED_LENGTH: u8 = 0x10;
 
 // A path attribute as it stands in the field, and what follows it.
 #[derive(Clone, Copy)]

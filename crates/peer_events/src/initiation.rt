@@ -4,7 +4,8 @@ ghost use Rattle.peer_events.specs.Body.{most_body};
 ghost use Rattle.bmp_specs.specs.Initiation.{IsInitiation};
 ghost use Rattle.bmp_specs.specs.Values.{InitiationValue};
 
-use crate::tlvs::{Carrier, SYS_DESCR, SYS_NAME, are_tlvs, count_unread, last_value};
+use crate::tlvs::{Carrier, are_tlvs, count_unread, last_value};
+use bmp_frames::{SYS_DESCR, SYS_NAME};
 use std::alloc::Global;
 use std::marker::Model;
 use wire_io::{BodyFault, ByteList, NoMemory};

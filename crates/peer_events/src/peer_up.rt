@@ -9,9 +9,9 @@ ghost use Rattle.bmp_specs.specs.Tlv.{AreTlvs};
 ghost use Rattle.bmp_specs.specs.Values.{OpenValue, PeerUpValue, TlvValue};
 
 use crate::initiation::copied;
-use crate::tlvs::{Carrier, TABLE_NAME, are_tlvs, count_unread, last_value};
+use crate::tlvs::{Carrier, are_tlvs, count_unread, last_value};
 use bgp_open::{BGP_HEADER, OPEN_MESSAGE, Open, PeerInfo, bgp_frame, read_open};
-use bmp_frames::{F_FLAG, PeerHeader};
+use bmp_frames::{F_FLAG, PeerHeader, TABLE_NAME};
 use byteorder::{BigEndian, ByteOrder};
 use ip_prefix::Addr;
 use std::alloc::Global;

@@ -6,25 +6,8 @@ ghost use Rattle.bmp_specs.specs.Tlv.{AreTlvs, IsTlv, last_value as last_value_i
 ghost use Rattle.bmp_specs.specs.Values.{TlvValue};
 ghost use Rattle.peer_events.specs.Known.{is_known_in};
 
+use bmp_frames::{MIRRORED_MESSAGE, MIRRORING_INFORMATION, STRING, SYS_NAME, TABLE_NAME};
 use byteorder::{BigEndian, ByteOrder};
-
-/// "Type = 0: String", in an Initiation and in a Peer Up (RFC 7854, section 4.4).
-pub(crate) const STRING: u16 = 0;
-
-/// "Type = 1: sysDescr" (RFC 7854, section 4.4).
-pub(crate) const SYS_DESCR: u16 = 1;
-
-/// "Type = 2: sysName" (RFC 7854, section 4.4).
-pub(crate) const SYS_NAME: u16 = 2;
-
-/// "Type = 3: VRF/Table Name" (RFC 9069, section 5.2.1).
-pub(crate) const TABLE_NAME: u16 = 3;
-
-/// "Type = 0: BGP Message" of Route Mirroring (RFC 7854, section 4.7).
-const MIRRORED_MESSAGE: u16 = 0;
-
-/// "Type = 1: Information" of Route Mirroring (RFC 7854, section 4.7).
-const MIRRORING_INFORMATION: u16 = 1;
 
 // A TLV at the front, and what follows it.
 #[derive(Clone, Copy)]

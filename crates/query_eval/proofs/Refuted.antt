@@ -15,6 +15,8 @@ use Rattle.bmp_specs.specs.declared.wire.Family.TheVariants.{V4}
 use Rattle.bmp_specs.specs.Changes.{ChangeValue}
 use Rattle.bmp_specs.specs.ChangeLines.{steps_line}
 use Rattle.bmp_specs.specs.AddressText.{dotted}
+use Rattle.bmp_specs.specs.MessageHead.{plain_head}
+use Rattle.bmp_specs.specs.Openings.{nothing_told}
 use Rattle.bmp_specs.specs.PeerLines.{lane_line}
 use Rattle.bmp_specs.specs.PeerText.{hex_text, distinguisher_text}
 use Rattle.bmp_specs.specs.PeerUp.{IsUp}
@@ -186,7 +188,7 @@ some_known [] c = absurd (omega (arith, c.1))
 some_known (first ∷ rest) c = (first, rest, refl)
 
 -- `changes 0 0` tells it: the number of steps alone is no reply.
-each_step_is_told : IsAskReply (steps false 0 0 None) ((opened ∷ []) ∷ []) (codes "at 1\nsteps 0 1\nend 1\n") → ⊥
+each_step_is_told : IsAskReply (steps false 0 0 None) ((opened nothing_told ∷ []) ∷ []) (codes "at 1\nsteps 0 1\nend 1\n") → ⊥
 unfolding digits
 each_step_is_told r =
     let part = r.are_lines.each.each 0 [] [] (omega arith) in
@@ -195,7 +197,7 @@ each_step_is_told r =
     omega (arith, ap (λ (text : List ℕ). slice_index text 15) (r.told ∙ ap (reply 1) (lines ∙ ap (λ (known : List ChangeValue). steps_line 0 1 ∷ map (told_change false 0) known) some.2)))
 
 -- And the steps of another lane are no reply to `changes 1 0`.
-steps_of_the_lane_are_told : IsAskReply (steps false 1 0 None) ((opened ∷ []) ∷ []) (codes "at 1\nsteps 0 1\nchange 0 0 opened\nend 2\n") → ⊥
+steps_of_the_lane_are_told : IsAskReply (steps false 1 0 None) ((opened nothing_told ∷ []) ∷ []) (codes "at 1\nsteps 0 1\nchange 0 0 opened\nend 2\n") → ⊥
 unfolding digits
 steps_of_the_lane_are_told r =
     let lines : r.lines ≡ [] = first_part r.lines r.are_lines.parts r.are_lines.each.count r.are_lines.all ∙ r.are_lines.each.each 0 [] [] (omega arith) in
@@ -278,7 +280,7 @@ its_row_known [] are =
 its_row_known (row ∷ rows) are = let same = only_row row ((are.exact row).0 (contains_first row rows)).0 in (rows, λ i. same i ∷ rows)
 
 -- `full table` tells a row by the line that `table` tells of it.
-a_full_row_tells_all : IsAskReply (rows_asked false true (table select_all) no_traits) ((opened ∷ message 0 0 one_route ∷ []) ∷ []) (codes "at 2\nroute 0 0-0000000000000001-192.0.0.0 adj-in-pre 10.0.0.0/8 next=- origin=- path=- med=- pref=- atomic=no agg=- comm=- other=-\nend 1\n") → ⊥
+a_full_row_tells_all : IsAskReply (rows_asked false true (table select_all) no_traits) ((opened nothing_told ∷ message (plain_head 0 0) one_route ∷ []) ∷ []) (codes "at 2\nroute 0 0-0000000000000001-192.0.0.0 adj-in-pre 10.0.0.0/8 next=- origin=- path=- med=- pref=- atomic=no agg=- comm=- other=-\nend 1\n") → ⊥
 unfolding digits hex_text distinguisher_text dotted
 a_full_row_tells_all r =
     let part = r.are_lines.each.each 0 [] [] (omega arith) in
@@ -287,10 +289,10 @@ a_full_row_tells_all r =
     omega (arith, ap (λ (text : List ℕ). slice_index text 130) (r.told ∙ ap (reply 2) (lines ∙ (λ i. part.are_steps i ++ map (full_line 0) (known.1 i)))))
 
 -- `full changes 0 0` tells a step by the line that `changes 0 0` tells of it, without its times.
-a_full_change_tells_its_times : IsAskReply (steps true 0 0 None) ((opened ∷ []) ∷ []) (codes "at 1\nsteps 0 1\nchange 0 0 opened\nend 2\n") → ⊥
+a_full_change_tells_its_times : IsAskReply (steps true 0 0 None) ((opened nothing_told ∷ []) ∷ []) (codes "at 1\nsteps 0 1\nchange 0 0 opened\nend 2\n") → ⊥
 unfolding digits
 a_full_change_tells_its_times r =
     let part = r.are_lines.each.each 0 [] [] (omega arith) in
-    let one = change_lines_one true 0 0 None (opened ∷ []) _ _ part (change_lines true 0 0 None (opened ∷ [])) in
+    let one = change_lines_one true 0 0 None (opened nothing_told ∷ []) _ _ part (change_lines true 0 0 None (opened nothing_told ∷ [])) in
     let lines : r.lines ≡ steps_line 0 1 ∷ told_change true 0 opening ∷ [] = first_part r.lines r.are_lines.parts r.are_lines.each.count r.are_lines.all ∙ one in
     omega (arith, ap (λ (text : List ℕ). slice_index text 32) (r.told ∙ ap (reply 1) lines))

@@ -22,7 +22,7 @@ use Rattle.bmp_specs.proofs.WalkRead.{HasWalked-nil, HasWalked-more, HasWalked-t
 use Rattle.bmp_writer.specs.PeerUpMessage.{unextended, with_unextended}
 use Rattle.bmp_writer.specs.Written.{Always, HasUp, IsToldMessage, IsWritten, initiation_type, peer_up_type, route_monitoring_type, unchanged, with_opens}
 use Rattle.bmp_writer.specs.WrittenRoutes.{side_of_view}
-use Rattle.bmp_writer.proofs.Frames.{frame_length}
+use Rattle.bmp_writer.proofs.Heads.{read_as}
 use Rattle.bmp_writer.proofs.Peers.{mark_written}
 use Rattle.bmp_writer.proofs.PeerUpRead.{opens_of, peer_up_read}
 use Rattle.bmp_writer.proofs.RoutesWritten.{given_kept, routes_written, told_keeps}
@@ -71,16 +71,13 @@ told_read name description bytes t =
     record {
       body = t.body;
       is = t.is;
-      means = λ state _. record {
-        value = initiation (record { name = Some name; descr = Some description; unread = 0 });
-        means = (
-          record { name = Some name; descr = Some description; unread = 0 },
-          record { tlvs = told name description; are = are; name_is = refl; descr_is = refl; unread_is = refl },
-          refl,
-          refl,
-        );
-        entry_is = ap (λ (k : ℕ). message 4 k (named name ∷ described description ∷ [])) (frame_length bytes 4 t.body t.is);
-      };
+      means = λ state _. read_as state state 4 bytes t.body (initiation (record { name = Some name; descr = Some description; unread = 0 })) (named name ∷ described description ∷ []) t.is (
+        record { name = Some name; descr = Some description; unread = 0 },
+        record { tlvs = told name description; are = are; name_is = refl; descr_is = refl; unread_is = refl },
+        refl,
+        refl,
+      )
+          refl;
     }
 
 -- an OPEN without extended parameters has the same ADD-PATH entries
@@ -119,10 +116,11 @@ goes_on (completes key view family) = refl
 walked_one : (item : ItemValue) (bytes : List ℕ) (s : ReadingState) → IsItem bytes item → IsWritable item → IsReadable s item → IsWalked s (after_item item s) bytes (item_effects item)
 walked_one item bytes s is can there =
     let w = item_written item bytes is can in
-    let m : EntryValue = message (item_type item) (length bytes) (item_effects item) in
+    let r = w.means s there in
+    let m : EntryValue = message r.head (item_effects item) in
     record {
       entries = m ∷ [];
-      walked = HasWalked-more IsMessageEntry s s (after_item item s) [] bytes w.body [] (item_type item) m (HasWalked-nil IsMessageEntry s) w.is (w.means s there) (goes_on item);
+      walked = HasWalked-more IsMessageEntry s s (after_item item s) [] bytes w.body [] (item_type item) m (HasWalked-nil IsMessageEntry s) w.is r.is (goes_on item);
       effects_are = append-nil (item_effects item);
       messages = (tt, tt);
     }

@@ -12,7 +12,7 @@ use Rattle.bmp_specs.specs.MessageEffects.{IsMessageEntry, strict}
 use Rattle.bmp_specs.specs.PeerUp.{IsUpWith}
 use Rattle.bmp_specs.specs.Rows.{HasRow, RowValue}
 use Rattle.bmp_specs.specs.Session.{effects_in, name_of, session_effects}
-use Rattle.bmp_specs.specs.Values.{EffectValue, EntryValue, KeyValue, PeerInfoValue, announce, described, down, mark, named, opened, statistic, up}
+use Rattle.bmp_specs.specs.Values.{EffectValue, EntryValue, KeyValue, OpeningValue, PeerInfoValue, announce, described, down, mark, named, opened, statistic, up}
 use Rattle.bmp_specs.specs.Walk.{whole}
 use Rattle.bmp_specs.proofs.NameLaws.{description_kept_by_all, name_kept_by_all}
 use Rattle.bmp_specs.proofs.RowLaws.{up_by_row}
@@ -209,10 +209,10 @@ reads_back effects bytes stream can =
     let of_peers = all_members (λ (p : PeerToldValue). AllByRecursion (λ row. row.row_key.key ≡ p.key) p.rows) s.peers (λ p c. (rows_told effects s told p c).of_peer) in
     let w = walked_all items bytes no_peers stream.are (all_writable effects s told can) (tt, peers_readable s.peers no_peers of_peers) in
     let stops = HasWalked-stops IsMessageEntry no_peers (after_items items no_peers) bytes [] w.entries whole w.walked refl in
-    let here : session_effects (opened ∷ w.entries) ≡ flat_map effects_in w.entries =
-    ap (λ (o : Option (List EntryValue)). flat_map effects_in (unwrap_or o [])) (session_here (opened ∷ w.entries) w.entries (record { before = []; split = refl; messages = w.messages })) in
+    let here : (came : OpeningValue) → session_effects (opened came ∷ w.entries) ≡ flat_map effects_in w.entries =
+    λ came. ap (λ (o : Option (List EntryValue)). flat_map effects_in (unwrap_or o [])) (session_here (opened came ∷ w.entries) w.entries (record { came = came; before = []; split = refl; messages = w.messages })) in
     record {
       entries = w.entries;
       walk = subst (λ (b : List ℕ). WalksBy strict b w.entries (length bytes) whole) (append-nil bytes) stops;
-      relayed = subst (IsRelayed effects) (sym (here ∙ w.effects_are ∙ same_effects s)) (is_relayed effects s told);
+      relayed = λ came. subst (IsRelayed effects) (sym (here came ∙ w.effects_are ∙ same_effects s)) (is_relayed effects s told);
     }

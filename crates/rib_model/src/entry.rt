@@ -1,20 +1,16 @@
 use crate::EffectList;
-use bmp_specs::Cause;
+use crate::head::Head;
+use crate::opening::{Closing, Opening};
 
 /// One entry in the history of a lane, which is the place of one router.
 #[derive(Drop)]
 pub enum Entry {
     /// A connection was opened.
-    Opened,
+    Opened(Opening),
 
-    /// A message: its "Message Type" and "Message Length" (RFC 7854, section 4.1), and its effects in
-    /// order.
-    Message {
-        kind: u8,
-        length: u32,
-        effects: EffectList,
-    },
+    /// A message: its head, and its effects in order.
+    Message { head: Head, effects: EffectList },
 
     /// The connection was closed.
-    Closed(Cause),
+    Closed(Closing),
 }

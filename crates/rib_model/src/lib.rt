@@ -13,13 +13,17 @@
 
 mod effect;
 mod entry;
+mod head;
 mod list;
+mod opening;
 mod row;
 mod step;
 
 pub use bmp_specs::{Cause, Why};
 pub use effect::{Effect, Route};
 pub use entry::Entry;
+pub use head::{FamilyCode, Head, PeerHead};
 pub use list::EffectList;
+pub use opening::{Closing, Opening};
 pub use row::RowKey;
 pub use step::Step;

@@ -2,6 +2,8 @@
 use Rattle.std.proofs.Common.{◌≡◌, ◌^◌, ◌-◌, min, List, [], ◌∷◌, ◌++◌, length, Some, refl, ap, sym, ◌∙◌, inl, inr, length-append, arith}
 use Rattle.bmp_specs.specs.declared.peers.View.TheVariants.{InPre, InPost}
 use Rattle.bmp_specs.specs.Counts.{CountsValue}
+use Rattle.bmp_specs.specs.MessageHead.{plain_head}
+use Rattle.bmp_specs.specs.Openings.{nothing_told}
 use Rattle.bmp_specs.specs.Rows.{RowValue, HasRow}
 use Rattle.bmp_specs.specs.Steps.{steps_of}
 use Rattle.bmp_specs.specs.Values.{KeyValue, NlriValue, AttrsValue, PeerInfoValue, DownInfoValue, EntryValue, StepValue, up, down, announce, withdraw, opened, message}
@@ -12,14 +14,14 @@ use Rattle.router_tables.specs.Tables.{Tables, TablesValue, StandsFor, AreRowsOf
 
 -- a Route Monitoring message of 100 octets that withdraws a route
 abbrev withdrawing : KeyValue → NlriValue → EntryValue
-withdrawing key nlri = message 0 100 (withdraw key InPre nlri ∷ [])
+withdrawing key nlri = message (plain_head 0 100) (withdraw key InPre nlri ∷ [])
 
 -- A message is taken twice: it is counted twice.
-a_message_counts_once : (key : KeyValue) (nlri : NlriValue) (t : TablesValue) → StandsFor t (opened ∷ withdrawing key nlri ∷ withdrawing key nlri ∷ []) → StandsFor t (opened ∷ withdrawing key nlri ∷ []) → ⊥
+a_message_counts_once : (key : KeyValue) (nlri : NlriValue) (t : TablesValue) → StandsFor t (opened nothing_told ∷ withdrawing key nlri ∷ withdrawing key nlri ∷ []) → StandsFor t (opened nothing_told ∷ withdrawing key nlri ∷ []) → ⊥
 a_message_counts_once key nlri t twice once = omega (arith, ap (λ (c : CountsValue). c.messages) (sym twice.session.counts ∙ once.session.counts))
 
 -- And its steps are kept twice.
-a_message_has_its_steps_once : (key : KeyValue) (nlri : NlriValue) (t : TablesValue) → StandsFor t (opened ∷ withdrawing key nlri ∷ withdrawing key nlri ∷ []) → StandsFor t (opened ∷ withdrawing key nlri ∷ []) → ⊥
+a_message_has_its_steps_once : (key : KeyValue) (nlri : NlriValue) (t : TablesValue) → StandsFor t (opened nothing_told ∷ withdrawing key nlri ∷ withdrawing key nlri ∷ []) → StandsFor t (opened nothing_told ∷ withdrawing key nlri ∷ []) → ⊥
 a_message_has_its_steps_once key nlri t twice once = omega (arith, ap (λ (s : RecentValue StepValue). s.total) (sym twice.steps ∙ once.steps))
 
 -- after a Peer Down there is no row of the peer

@@ -1,10 +1,9 @@
 -- What one more entry makes of the present session.
-use Rattle.std.proofs.Common.{◌≡◌, ℕ, true, false, List, [], ◌∷◌, ◌++◌, Result, Ok, Err, OnOk, refl, sym, ap, ◌∙◌, subst}
-use Rattle.bmp_specs.specs.declared.causes.Cause.{Cause}
+use Rattle.std.proofs.Common.{◌≡◌, true, false, List, [], ◌∷◌, ◌++◌, Result, Ok, Err, OnOk, refl, sym, ap, ◌∙◌, subst}
 use Rattle.bmp_specs.specs.Counts.{counts_of}
 use Rattle.bmp_specs.specs.Session.{LaneStateValue, idle, live, shut, state_of, session_effects}
 use Rattle.bmp_specs.specs.Sums.{no_counts}
-use Rattle.bmp_specs.specs.Values.{EffectValue, EntryValue, opened, message, closed}
+use Rattle.bmp_specs.specs.Values.{ClosingValue, EffectValue, EntryValue, HeadValue, OpeningValue, opened, message, closed}
 use Rattle.bmp_specs.proofs.LaneLaws.{counts_after_opening, counts_after_closing, counts_stay}
 use Rattle.bmp_specs.proofs.SessionLaws.{state_after_opening, state_after_closing, state_stays_idle, state_after_message, effects_after_opening, effects_after_closing, effects_after_message, effects_stay}
 use Rattle.router_tables.specs.Books.{StandsForBooks}
@@ -19,54 +18,54 @@ live_there (shut cause) is = absurd cc
 pub live_not_there : (s : LaneStateValue) → is_live s ≡ false → s ≡ live → ⊥
 live_not_there s is same = let e : true ≡ false = sym (ap is_live same) ∙ is in cc
 
-closes : (entries : List EntryValue) (cause : Cause) → after_closing (state_of entries) cause ≡ state_of (entries ++ closed cause ∷ [])
-closes entries cause = go (state_of entries) refl
+closes : (entries : List EntryValue) (closing : ClosingValue) → after_closing (state_of entries) closing.cause ≡ state_of (entries ++ closed closing ∷ [])
+closes entries closing = go (state_of entries) refl
   where
-    go : (s : LaneStateValue) → state_of entries ≡ s → after_closing s cause ≡ state_of (entries ++ closed cause ∷ [])
-    go idle is = sym (state_stays_idle entries cause is)
-    go live is = sym (state_after_closing entries cause (λ e. let d : live ≡ idle = sym is ∙ e in cc))
-    go (shut was) is = sym (state_after_closing entries cause (λ e. let d : shut was ≡ idle = sym is ∙ e in cc))
+    go : (s : LaneStateValue) → state_of entries ≡ s → after_closing s closing.cause ≡ state_of (entries ++ closed closing ∷ [])
+    go idle is = sym (state_stays_idle entries closing is)
+    go live is = sym (state_after_closing entries closing (λ e. let d : live ≡ idle = sym is ∙ e in cc))
+    go (shut was) is = sym (state_after_closing entries closing (λ e. let d : shut was ≡ idle = sym is ∙ e in cc))
 
 -- an opening begins a session
 pub stands_opened : (session : SessionValue) → session.state ≡ live → session.counts ≡ no_counts → StandsForBooks session.books []
-    → (entries : List EntryValue) → StandsForSession session (entries ++ opened ∷ [])
-stands_opened session state counts books entries = record {
-  state = state ∙ sym (state_after_opening entries);
-  counts = counts ∙ sym (counts_after_opening entries);
-  books = subst (StandsForBooks session.books) (sym (effects_after_opening entries)) books;
+    → (entries : List EntryValue) (came : OpeningValue) → StandsForSession session (entries ++ opened came ∷ [])
+stands_opened session state counts books entries came = record {
+  state = state ∙ sym (state_after_opening entries came);
+  counts = counts ∙ sym (counts_after_opening entries came);
+  books = subst (StandsForBooks session.books) (sym (effects_after_opening entries came)) books;
 }
 
 -- a closing ends it
-pub stands_closed : (old session : SessionValue) (cause : Cause) → session.state ≡ after_closing old.state cause → session.counts ≡ no_counts → StandsForBooks session.books []
-    → (entries : List EntryValue) → StandsForSession old entries → StandsForSession session (entries ++ closed cause ∷ [])
-stands_closed old session cause state counts books entries h = record {
-  state = state ∙ ap (λ (s : LaneStateValue). after_closing s cause) h.state ∙ closes entries cause;
-  counts = counts ∙ sym (counts_after_closing entries cause);
-  books = subst (StandsForBooks session.books) (sym (effects_after_closing entries cause)) books;
+pub stands_closed : (old session : SessionValue) (closing : ClosingValue) → session.state ≡ after_closing old.state closing.cause → session.counts ≡ no_counts → StandsForBooks session.books []
+    → (entries : List EntryValue) → StandsForSession old entries → StandsForSession session (entries ++ closed closing ∷ [])
+stands_closed old session closing state counts books entries h = record {
+  state = state ∙ ap (λ (s : LaneStateValue). after_closing s closing.cause) h.state ∙ closes entries closing;
+  counts = counts ∙ sym (counts_after_closing entries closing);
+  books = subst (StandsForBooks session.books) (sym (effects_after_closing entries closing)) books;
 }
 
 -- a message joins it
-pub stands_message : (old new : SessionValue) (kind len : ℕ) (effects : List EffectValue) → is_live old.state ≡ true → new.state ≡ old.state
-    → ((entries : List EntryValue) (kind : ℕ) → state_of entries ≡ live → old.counts ≡ counts_of entries → new.counts ≡ counts_of (entries ++ message kind len effects ∷ []))
+pub stands_message : (old new : SessionValue) (head : HeadValue) (effects : List EffectValue) → is_live old.state ≡ true → new.state ≡ old.state
+    → ((entries : List EntryValue) → state_of entries ≡ live → old.counts ≡ counts_of entries → new.counts ≡ counts_of (entries ++ message head effects ∷ []))
     → ((earlier : List EffectValue) → StandsForBooks old.books earlier → StandsForBooks new.books (earlier ++ effects))
-    → (entries : List EntryValue) → StandsForSession old entries → StandsForSession new (entries ++ message kind len effects ∷ [])
-stands_message old new kind len effects is same counts books entries h =
+    → (entries : List EntryValue) → StandsForSession old entries → StandsForSession new (entries ++ message head effects ∷ [])
+stands_message old new head effects is same counts books entries h =
     let there : state_of entries ≡ live = sym h.state ∙ live_there old.state is in
     record {
-      state = same ∙ h.state ∙ sym (state_after_message entries kind len effects);
-      counts = counts entries kind there h.counts;
-      books = subst (StandsForBooks new.books) (sym (effects_after_message entries kind len effects there)) (books (session_effects entries) h.books);
+      state = same ∙ h.state ∙ sym (state_after_message entries head effects);
+      counts = counts entries there h.counts;
+      books = subst (StandsForBooks new.books) (sym (effects_after_message entries head effects there)) (books (session_effects entries) h.books);
     }
 
 -- without a session a message goes nowhere
-pub stands_unheard : (session : SessionValue) (kind len : ℕ) (effects : List EffectValue) → is_live session.state ≡ false
-    → (entries : List EntryValue) → StandsForSession session entries → StandsForSession session (entries ++ message kind len effects ∷ [])
-stands_unheard session kind len effects is entries h =
+pub stands_unheard : (session : SessionValue) (head : HeadValue) (effects : List EffectValue) → is_live session.state ≡ false
+    → (entries : List EntryValue) → StandsForSession session entries → StandsForSession session (entries ++ message head effects ∷ [])
+stands_unheard session head effects is entries h =
     let not_there : (state_of entries ≡ live → ⊥) = (λ e. live_not_there session.state is (h.state ∙ e)) in
     record {
-      state = h.state ∙ sym (state_after_message entries kind len effects);
-      counts = h.counts ∙ sym (counts_stay entries kind len effects not_there);
-      books = subst (StandsForBooks session.books) (sym (effects_stay entries kind len effects not_there)) h.books;
+      state = h.state ∙ sym (state_after_message entries head effects);
+      counts = h.counts ∙ sym (counts_stay entries head effects not_there);
+      books = subst (StandsForBooks session.books) (sym (effects_stay entries head effects not_there)) h.books;
     }
 
 pub seen : (inside now : SessionValue) → inside ≡ now → (entries : List EntryValue) → StandsForSession now entries → StandsForSession inside entries

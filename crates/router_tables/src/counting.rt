@@ -4,8 +4,9 @@ ghost use Rattle.bmp_specs.specs.Session.{live, state_of};
 ghost use Rattle.bmp_specs.specs.Sums.{sum_of, message_counts};
 ghost use Rattle.bmp_specs.specs.Values.{EffectValue, EntryValue, message};
 ghost use Rattle.rib_model.specs.Effects.{item_values, effect_values};
+ghost use Rattle.rib_model.specs.Entries.{head_value};
 
-use rib_model::Effect;
+use rib_model::{Effect, Head};
 use stats_book::Counts;
 
 // Counts one effect of a message, or those on many routes.
@@ -44,14 +45,14 @@ fn count_effects(counts: &mut Counts, effects: &[Effect])
     }
 }
 
-// Counts a message of this length with these effects.
-pub(crate) fn count_message(counts: &mut Counts, length: u32, effects: &[Effect])
-    ensures { (entries : List EntryValue) (kind : ℕ) → state_of entries ≡ live → counts.old ≡ counts_of entries
-        → counts.new ≡ counts_of (entries ++ message kind length (effect_values effects.now) ∷ []) }
+// Counts a message with this head and these effects.
+pub(crate) fn count_message(counts: &mut Counts, head: &Head, effects: &[Effect])
+    ensures { (entries : List EntryValue) → state_of entries ≡ live → counts.old ≡ counts_of entries
+        → counts.new ≡ counts_of (entries ++ message (head_value head.now) (effect_values effects.now) ∷ []) }
 {
     counts.add(&Counts {
         messages: 1,
-        bytes: length as u64,
+        bytes: head.length as u64,
         ..Counts::none()
     });
     count_effects(counts, effects);

@@ -53,7 +53,7 @@ fn count_entry(entry: &Entry) -> usize
     ensures { result ≡ min (length (steps_in (entry_value entry.now))) (2 ^ 64 - 1) }
 {
     match entry {
-        Entry::Opened => 1,
+        Entry::Opened(_) => 1,
         Entry::Message { effects, .. } => count_effects(effects.as_slice()),
         Entry::Closed(_) => 1,
     }
@@ -175,9 +175,9 @@ fn gather_entry(steps: &mut Vec<Step>, passed: usize, entry: &Entry) -> Result<u
     ensures steps { OnOk result (map step_value steps.new.items ≡ map step_value steps.old.items ++ drop passed (steps_in (entry_value entry.now))) }
 {
     match entry {
-        Entry::Opened => gather_one(steps, passed, Step::Opened),
+        Entry::Opened(_) => gather_one(steps, passed, Step::Opened),
         Entry::Message { effects, .. } => gather_effects(steps, passed, effects.as_slice()),
-        Entry::Closed(cause) => gather_one(steps, passed, Step::Closed(*cause)),
+        Entry::Closed(closing) => gather_one(steps, passed, Step::Closed(closing.cause)),
     }
 }
 

@@ -89,25 +89,21 @@ impl Session {
             → StandsForRows rows.new (session_effects (entries ++ entry_value entry.now ∷ []))) }
     {
         match entry {
-            Entry::Opened => {
+            Entry::Opened(_) => {
                 rows.clear();
                 self.start_over(alloc, LaneState::Live)
             }
-            Entry::Message {
-                length,
-                effects,
-                ..
-            } => {
+            Entry::Message { head, effects } => {
                 if !self.state.is_live() {
                     return Ok(());
                 }
                 let effects = effects.as_slice();
-                count_message(&mut self.counts, *length, effects);
+                count_message(&mut self.counts, head, effects);
                 take_effects(&mut self.books, rows, effects)
             }
-            Entry::Closed(cause) => {
+            Entry::Closed(closing) => {
                 rows.clear();
-                let state = self.state.after_closing(*cause);
+                let state = self.state.after_closing(closing.cause);
                 self.start_over(alloc, state)
             }
         }

@@ -97,13 +97,13 @@ pub(crate) fn keep_steps(steps: &mut Recent<Step>, entry: &Entry) -> Result<(), 
         → steps_told steps.new ≡ recent (steps_of (entries ++ entry_value entry.now ∷ []))) }
 {
     match entry {
-        Entry::Opened => {
+        Entry::Opened(_) => {
             steps.push(Step::Opened);
             Ok(())
         }
         Entry::Message { effects, .. } => keep_effects(steps, effects.as_slice()),
-        Entry::Closed(cause) => {
-            steps.push(Step::Closed(*cause));
+        Entry::Closed(closing) => {
+            steps.push(Step::Closed(closing.cause));
             Ok(())
         }
     }

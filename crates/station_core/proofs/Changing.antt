@@ -9,6 +9,7 @@ use Rattle.ask_specs.specs.Asking.{AskValue, plain}
 use Rattle.bmp_specs.specs.Life.{gave, Given}
 use Rattle.bmp_specs.specs.Meaning.{Meaning}
 use Rattle.bmp_specs.specs.Query.{quit}
+use Rattle.bmp_specs.specs.Openings.{nothing_told}
 use Rattle.bmp_specs.specs.Values.{EntryValue, opened}
 use Rattle.cut_publisher.specs.declared.history.Event.{Event as Joined}
 use Rattle.cut_publisher.specs.declared.history.Event.TheVariants.{Finish as Mark}
@@ -41,8 +42,8 @@ module _ {B : Type 0} (meaning : Meaning) (state : B → meaning.State) where
   follows_due due None connections f = f.are_due
   follows_due due (Some present) connections t =
       subst (λ (es : List EntryValue). AreDue meaning connections es) (sym t.due_is)
-      (subst (λ (cs : List Given). AreDue meaning cs (t.before ++ opened ∷ t.messages)) (sym t.split)
-      (due_more meaning t.earlier (record { bytes = t.bytes; last = gave }) t.before (opened ∷ t.messages) t.are_due (so_far meaning t.bytes t.messages present.walk.offset (rest_of present.walk) t.given.walks t.room)))
+      (subst (λ (cs : List Given). AreDue meaning cs (t.before ++ opened nothing_told ∷ t.messages)) (sym t.split)
+      (due_more meaning t.earlier (record { bytes = t.bytes; last = gave }) t.before (opened nothing_told ∷ t.messages) t.are_due (so_far meaning t.bytes t.messages present.walk.offset (rest_of present.walk) t.given.walks t.room)))
 
   -- the connections of one lane change
   module _ (Does : List Given → List Given → Type 0) (number : ℕ) (lanes : List (Lane B)) (shown : List (TablesValue × ℕ)) (seen : List ℕ) (v : MachineValue) (s : Stands meaning state lanes shown seen false v) where

@@ -1,10 +1,11 @@
 -- Lives of connections, one after another, and how a connection goes on or ends.
-use Rattle.std.proofs.Common.{◌≡◌, ◌≢◌, ℕ, zero, suc, ◌*◌, ◌^◌, ◌<◌, ◌≤◌, Bool, true, false, List, [], ◌∷◌, ◌++◌, length, inl, inr, refl, sym, ap, ◌∙◌, subst, append-nil, append_assoc, arith, length-append, if◌then◌else◌}
+use Rattle.std.proofs.Common.{◌≡◌, ◌≢◌, ℕ, zero, suc, ◌*◌, ◌^◌, ◌<◌, ◌≤◌, Bool, true, false, List, [], ◌∷◌, ◌++◌, length, None, inl, inr, refl, sym, ap, ◌∙◌, subst, append-nil, append_assoc, arith, length-append, if◌then◌else◌}
 use Rattle.std.proofs.Math.Dec.{eqb-suc-zero}
 use Rattle.bmp_specs.specs.declared.causes.Cause.{Cause}
 use Rattle.bmp_specs.specs.declared.causes.Cause.TheVariants.{Ended, Terminated, CutShort, Broken, ReadFault, Full}
-use Rattle.bmp_specs.specs.Life.{gave, gave_none, most_taken, Fits, IsCause, IsUndecided, Given, EndsBy}
+use Rattle.bmp_specs.specs.Life.{gave, gave_none, most_taken, Fits, IsCause, IsLife, IsUndecided, Given, EndsBy}
 use Rattle.bmp_specs.specs.Meaning.{Meaning, WalksBy}
+use Rattle.bmp_specs.specs.Openings.{closing_for, nothing_told}
 use Rattle.bmp_specs.specs.Values.{EntryValue, opened, closed}
 use Rattle.bmp_specs.specs.Walk.{Verdict, whole, more, terminated, broken}
 use Rattle.bmp_specs.proofs.LifeOne.{cause_of_termination, cause_of_break, cause_of_fullness, cause_of_end, cause_of_cut, cause_of_fault}
@@ -21,8 +22,10 @@ due_more meaning (d ∷ cs) c due life (begins, rest) is =
 
 -- a life is short
 life_few : (meaning : Meaning) (c : Given) (life : List EntryValue) → IsLifeSoFar meaning c life → length life ≤ 2 ^ 44
-life_few meaning c life (inl is) = omega (arith, few_messages meaning c.bytes is.messages is.offset is.verdict is.walk, is.within, ap length is.is, length-append is.messages (closed is.cause ∷ []))
-life_few meaning c life (inr (live, is)) = omega (arith, few_messages meaning c.bytes is.messages is.offset is.verdict is.walk, is.within, ap length is.is)
+life_few meaning c life (inl untold) =
+    let is = untold.life in
+    omega (arith, few_messages meaning c.bytes is.messages is.offset is.verdict is.walk, is.within, ap length is.is, length-append is.messages (closed (record { cause = is.cause; until = is.until }) ∷ []))
+life_few meaning c life (inr untold) = let is = untold.life in omega (arith, few_messages meaning c.bytes is.messages is.offset is.verdict is.walk, is.within, ap length is.is)
 
 pub due_few : (meaning : Meaning) (cs : List Given) (due : List EntryValue) → AreDue meaning cs due → length due ≤ length cs * 2 ^ 44
 due_few meaning [] due none = omega (arith, ap length none)
@@ -49,19 +52,26 @@ module _ (meaning : Meaning) (bytes : List ℕ) (messages : List EntryValue) (of
   pub live_going : length bytes < most_taken → IsLive meaning (record { bytes = bytes; last = gave })
   live_going room = record { messages = messages; offset = offset; verdict = verdict_with rest; walk = walk; none = no_cause (length bytes) (verdict_with rest) offset (undecided rest) room }
 
-  pub so_far : length bytes < most_taken → IsLifeSoFar meaning (record { bytes = bytes; last = gave }) (opened ∷ messages)
-  so_far room = inr (live_going room, record { messages = messages; offset = offset; verdict = verdict_with rest; within = omega (arith, room); walk = walk; is = refl })
+  pub so_far : length bytes < most_taken → IsLifeSoFar meaning (record { bytes = bytes; last = gave }) (opened nothing_told ∷ messages)
+  so_far room = inr (record {
+    live = live_going room;
+    life = record { messages = messages; offset = offset; verdict = verdict_with rest; came = nothing_told; within = omega (arith, room); walk = walk; is = refl };
+    nothing = refl;
+  })
 
 -- a connection ended for a cause: the messages of its walk are these
 abbrev pub EndsWith : Meaning → Given → List EntryValue → Cause → Type 0
 EndsWith meaning c messages cause = (offset : ℕ) × (verdict : Verdict) × (length c.bytes ≤ most_taken) × WalksBy meaning c.bytes messages offset verdict × IsCause (length c.bytes) c.last verdict offset cause
 
 module _ (meaning : Meaning) (c : Given) (messages : List EntryValue) (cause : Cause) (e : EndsWith meaning c messages cause) where
-  pub ended_life : HasEnded meaning c
-  ended_life = (opened ∷ (messages ++ closed cause ∷ []), record { messages = messages; offset = e.0; verdict = e.1; cause = cause; within = e.2; walk = e.3; because = e.4; is = refl })
+  abbrev untold_life : IsLife meaning c.bytes c.last (opened nothing_told ∷ (messages ++ closed (closing_for cause) ∷ []))
+  untold_life = record { messages = messages; offset = e.0; verdict = e.1; cause = cause; came = nothing_told; until = None; within = e.2; walk = e.3; because = e.4; is = refl }
 
-  pub life_ended : IsLifeSoFar meaning c (opened ∷ (messages ++ closed cause ∷ []))
-  life_ended = inl (record { messages = messages; offset = e.0; verdict = e.1; cause = cause; within = e.2; walk = e.3; because = e.4; is = refl })
+  pub ended_life : HasEnded meaning c
+  ended_life = (opened nothing_told ∷ (messages ++ closed (closing_for cause) ∷ []), untold_life)
+
+  pub life_ended : IsLifeSoFar meaning c (opened nothing_told ∷ (messages ++ closed (closing_for cause) ∷ []))
+  life_ended = inl (record { life = untold_life; nothing = refl; never = refl })
 
 module _ (meaning : Meaning) (bytes : List ℕ) (messages : List EntryValue) (offset : ℕ) where
   -- the last read failed, or gave no byte

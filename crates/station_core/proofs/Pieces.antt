@@ -10,6 +10,7 @@ use Rattle.bmp_specs.specs.declared.causes.Cause.TheVariants.{Broken, Full, Term
 use Rattle.bmp_specs.specs.declared.causes.Why.{Why}
 use Rattle.bmp_specs.specs.Life.{gave, most_taken, Given, EndsAt}
 use Rattle.bmp_specs.specs.Meaning.{Meaning, WalksBy}
+use Rattle.bmp_specs.specs.Openings.{closing_for, nothing_told}
 use Rattle.bmp_specs.specs.Values.{EntryValue, opened, closed}
 use Rattle.bmp_specs.specs.Walk.{broken}
 use Rattle.bmp_message.specs.StreamWalk.{WalkValue, GoesOn, HasReached, fed_of, rest_of, verdict_with, Gives, HasGiven}
@@ -64,11 +65,11 @@ module _ {B : Type 0} (meaning : Meaning) (state : B → meaning.State) where
   }
 
   -- a connection begins
-  pub begins_free : (due due' : List Entry) (present : Option (Present B)) (first : Present B) → is_some present ≡ false → due' ≡ due ++ Opened ∷ [] → HasReached meaning state [] [] first.walk
+  pub begins_free : (due due' : List Entry) (present : Option (Present B)) (first : Present B) → is_some present ≡ false → due' ≡ due ++ Opened nothing_told ∷ [] → HasReached meaning state [] [] first.walk
       → (first.walk.offset ≡ 0) × (fed_of first.walk ≡ 0) → first.taken ≡ 0 → Moves meaning state (Begins meaning) due due' present (Some first)
   begins_free due due' (Some present) first is grown reached start none = absurd (true≢false is)
   begins_free due due' None first is grown reached start none = record {
-    made = Opened ∷ [];
+    made = Opened nothing_told ∷ [];
     grown = grown;
     leads = λ connections idle. record {
       new = connections ++ fresh ∷ [];
@@ -80,7 +81,7 @@ module _ {B : Type 0} (meaning : Meaning) (state : B → meaning.State) where
         before = entry_values due;
         are_due = idle.are_due;
         messages = [];
-        due_is = ap entry_values grown ∙ map-append entry_value due (Opened ∷ []);
+        due_is = ap entry_values grown ∙ map-append entry_value due (Opened nothing_told ∷ []);
         given = fresh_given first.walk reached start;
         taken = none;
         room = omega arith;
@@ -90,24 +91,24 @@ module _ {B : Type 0} (meaning : Meaning) (state : B → meaning.State) where
 
   -- a closing after the messages of a connection
   closes : (earlier : List Given) (c : Given) (before messages : List EntryValue) (due : List Entry) (cause : Cause) → AreDue meaning earlier before → EndsWith meaning c messages cause
-      → entry_values due ≡ before ++ opened ∷ (messages ++ closed cause ∷ []) → IsIdle meaning due (earlier ++ c ∷ [])
+      → entry_values due ≡ before ++ opened nothing_told ∷ (messages ++ closed (closing_for cause) ∷ []) → IsIdle meaning due (earlier ++ c ∷ [])
   closes earlier c before messages due cause are ends values = record {
-    are_due = subst (AreDue meaning (earlier ++ c ∷ [])) (sym values) (due_more meaning earlier c before (opened ∷ (messages ++ closed cause ∷ [])) are (life_ended meaning c messages cause ends));
+    are_due = subst (AreDue meaning (earlier ++ c ∷ [])) (sym values) (due_more meaning earlier c before (opened nothing_told ∷ (messages ++ closed (closing_for cause) ∷ [])) are (life_ended meaning c messages cause ends));
     free = inr (record { earlier = earlier; last = c; split = refl; ended = ended_life meaning c messages cause ends });
   }
 
   -- the values of what is due with messages more, and then a closing
-  values_more : (due made : List Entry) (before messages : List EntryValue) → entry_values due ≡ before ++ opened ∷ messages → entry_values (due ++ made) ≡ before ++ opened ∷ (messages ++ entry_values made)
-  values_more due made before messages is = map-append entry_value due made ∙ ap (λ (l : List EntryValue). l ++ entry_values made) is ∙ append_assoc before (opened ∷ messages) (entry_values made)
+  values_more : (due made : List Entry) (before messages : List EntryValue) → entry_values due ≡ before ++ opened nothing_told ∷ messages → entry_values (due ++ made) ≡ before ++ opened nothing_told ∷ (messages ++ entry_values made)
+  values_more due made before messages is = map-append entry_value due made ∙ ap (λ (l : List EntryValue). l ++ entry_values made) is ∙ append_assoc before (opened nothing_told ∷ messages) (entry_values made)
 
-  values_closed : (due : List Entry) (before messages : List EntryValue) (cause : Cause) → entry_values due ≡ before ++ opened ∷ messages → entry_values (due ++ Closed cause ∷ []) ≡ before ++ opened ∷ (messages ++ closed cause ∷ [])
-  values_closed due before messages cause is = values_more due (Closed cause ∷ []) before messages is
+  values_closed : (due : List Entry) (before messages : List EntryValue) (cause : Cause) → entry_values due ≡ before ++ opened nothing_told ∷ messages → entry_values (due ++ Closed (closing_for cause) ∷ []) ≡ before ++ opened nothing_told ∷ (messages ++ closed (closing_for cause) ∷ [])
+  values_closed due before messages cause is = values_more due (Closed (closing_for cause) ∷ []) before messages is
 
   -- the live connection ends
-  pub ends_live : (due due' : List Entry) (present : Present B) (fault : Bool) (cause : Cause) → cause ≡ cause_of_close fault present.taken (rest_of present.walk) present.walk.offset → due' ≡ due ++ Closed cause ∷ []
+  pub ends_live : (due due' : List Entry) (present : Present B) (fault : Bool) (cause : Cause) → cause ≡ cause_of_close fault present.taken (rest_of present.walk) present.walk.offset → due' ≡ due ++ Closed (closing_for cause) ∷ []
       → Moves meaning state (ComesTo meaning (with_end fault)) due due' (Some present) None
   ends_live due due' present fault cause is grown = record {
-    made = Closed cause ∷ [];
+    made = Closed (closing_for cause) ∷ [];
     grown = grown;
     leads = λ connections t.
         let c : Given = with_end fault (record { bytes = t.bytes; last = gave }) in
@@ -136,14 +137,14 @@ module _ {B : Type 0} (meaning : Meaning) (state : B → meaning.State) where
 
   -- it ended in the piece, and its closing is due
   pub takes_last : (due due' due2 : List Entry) (now then : Option (Present B)) (present present' : Present B) (piece : List ℕ) (end : Option Cause) (cause : Cause) (r : Result (Unit {0}) NoMemory) → now ≡ Some present → end ≡ Some cause
-      → Takes meaning state piece due due' present present' end → OnOk r ((due2 ≡ due' ++ Closed cause ∷ []) × (then ≡ None)) → OnOk r (Moves meaning state (ComesTo meaning (with_piece piece)) due due2 now then)
+      → Takes meaning state piece due due' present present' end → OnOk r ((due2 ≡ due' ++ Closed (closing_for cause) ∷ []) × (then ≡ None)) → OnOk r (Moves meaning state (ComesTo meaning (with_piece piece)) due due2 now then)
   takes_last due due' due2 now then present present' piece end cause r is ends t =
-      let m : Moves meaning state (ComesTo meaning (with_piece piece)) due (due' ++ Closed cause ∷ []) (Some present) None = subst (λ (o : Option Cause). Takes meaning state piece due due' present present' o) ends t in
+      let m : Moves meaning state (ComesTo meaning (with_piece piece)) due (due' ++ Closed (closing_for cause) ∷ []) (Some present) None = subst (λ (o : Option Cause). Takes meaning state piece due due' present present' o) ends t in
       on_ok_weaker r (λ e. moves_between (ComesTo meaning (with_piece piece)) due due2 now then (Some present) None is e.1 (subst (λ (es : List Entry). Moves meaning state (ComesTo meaning (with_piece piece)) due es (Some present) None) (sym e.0) m))
 
   -- the live connection ends, and its closing is due
   pub ends_last : (due due' : List Entry) (now then : Option (Present B)) (present : Present B) (fault : Bool) (cause : Cause) (r : Result (Unit {0}) NoMemory) → now ≡ Some present → cause ≡ cause_of_close fault present.taken (rest_of present.walk) present.walk.offset
-      → OnOk r ((due' ≡ due ++ Closed cause ∷ []) × (then ≡ None)) → OnOk r (Moves meaning state (ComesTo meaning (with_end fault)) due due' now then)
+      → OnOk r ((due' ≡ due ++ Closed (closing_for cause) ∷ []) × (then ≡ None)) → OnOk r (Moves meaning state (ComesTo meaning (with_end fault)) due due' now then)
   ends_last due due' now then present fault cause r is by =
       on_ok_weaker r (λ e. moves_between (ComesTo meaning (with_end fault)) due due' now then (Some present) None is e.1 (ends_live due due' present fault cause by e.0))
 
@@ -165,17 +166,17 @@ module _ {B : Type 0} (meaning : Meaning) (state : B → meaning.State) where
     given_more end gathers connections t = gathers.gives (t.bytes ++ take count piece) t.messages (fed t.bytes t.messages t.given.reached)
 
     -- the connection ended in the piece for a cause that holds of it
-    ends_in : (end : Option Cause) (gathers : Gathers meaning state walk next due due' end) (due2 : List Entry) (cause : Cause) → due2 ≡ due' ++ Closed cause ∷ []
+    ends_in : (end : Option Cause) (gathers : Gathers meaning state walk next due due' end) (due2 : List Entry) (cause : Cause) → due2 ≡ due' ++ Closed (closing_for cause) ∷ []
         → ((connections : List Given) (t : IsTaken meaning state due present connections) → EndsWith meaning (record { bytes = t.bytes ++ take count piece; last = gave }) (t.messages ++ entry_values gathers.made) cause)
         → Moves meaning state (ComesTo meaning (with_piece piece)) due due2 (Some present) None
     ends_in end gathers due2 cause grown ends = record {
-      made = gathers.made ++ Closed cause ∷ [];
-      grown = grown ∙ ap (λ (l : List Entry). l ++ Closed cause ∷ []) gathers.grown ∙ append_assoc due gathers.made (Closed cause ∷ []);
+      made = gathers.made ++ Closed (closing_for cause) ∷ [];
+      grown = grown ∙ ap (λ (l : List Entry). l ++ Closed (closing_for cause) ∷ []) gathers.grown ∙ append_assoc due gathers.made (Closed (closing_for cause) ∷ []);
       leads = λ connections t.
           let c : Given = with_piece piece (record { bytes = t.bytes; last = gave }) in
           let all : List EntryValue = t.messages ++ entry_values gathers.made in
           let e : EndsWith meaning c all cause = subst (λ (g : Given). EndsWith meaning g all cause) (sym (piece_is connections t)) (ends connections t) in
-          let values : entry_values due' ≡ t.before ++ opened ∷ all = ap entry_values gathers.grown ∙ values_more due gathers.made t.before t.messages t.due_is in
+          let values : entry_values due' ≡ t.before ++ opened nothing_told ∷ all = ap entry_values gathers.grown ∙ values_more due gathers.made t.before t.messages t.due_is in
           record {
             new = t.earlier ++ c ∷ [];
             does = comes_on (with_piece piece) due present connections t;
@@ -183,10 +184,10 @@ module _ {B : Type 0} (meaning : Meaning) (state : B → meaning.State) where
           };
     }
 
-    pub piece_ends : (cause : Cause) → Gathers meaning state walk next due due' (Some cause) → (due2 : List Entry) → due2 ≡ due' ++ Closed cause ∷ [] → Moves meaning state (ComesTo meaning (with_piece piece)) due due2 (Some present) None
+    pub piece_ends : (cause : Cause) → Gathers meaning state walk next due due' (Some cause) → (due2 : List Entry) → due2 ≡ due' ++ Closed (closing_for cause) ∷ [] → Moves meaning state (ComesTo meaning (with_piece piece)) due due2 (Some present) None
     piece_ends cause gathers due2 grown = ends_in (Some cause) gathers due2 cause grown (λ connections t. ends_early meaning (t.bytes ++ take count piece) (t.messages ++ entry_values gathers.made) cause (given_more (Some cause) gathers connections t) (bytes_within connections t))
 
-    pub piece_fills : Gathers meaning state walk next due due' None → (due2 : List Entry) → due2 ≡ due' ++ Closed Full ∷ [] → most_taken ≤ present.taken + count → Moves meaning state (ComesTo meaning (with_piece piece)) due due2 (Some present) None
+    pub piece_fills : Gathers meaning state walk next due due' None → (due2 : List Entry) → due2 ≡ due' ++ Closed (closing_for Full) ∷ [] → most_taken ≤ present.taken + count → Moves meaning state (ComesTo meaning (with_piece piece)) due due2 (Some present) None
     piece_fills gathers due2 grown full = ends_in None gathers due2 Full grown (λ connections t. let g = given_more None gathers connections t in
         ends_full meaning (t.bytes ++ take count piece) (t.messages ++ entry_values gathers.made) next.offset (rest_of next) (omega (arith, bytes_within connections t, bytes_are connections t, full)) g.walks)
 

@@ -5,8 +5,9 @@ use Rattle.bmp_specs.specs.declared.causes.Cause.{Cause}
 use Rattle.bmp_specs.specs.declared.causes.Cause.TheVariants.{Ended, Terminated, CutShort, Broken}
 use Rattle.bmp_specs.specs.Life.{gave_none, Fits}
 use Rattle.bmp_specs.specs.Meaning.{Meaning}
+use Rattle.bmp_specs.specs.Openings.{nothing_told}
 use Rattle.bmp_specs.specs.Query.{quit}
-use Rattle.bmp_specs.specs.Values.{EntryValue, closed, opened}
+use Rattle.bmp_specs.specs.Values.{ClosingValue, EntryValue, OpeningValue, closed, opened}
 use Rattle.bmp_specs.specs.Walk.{Verdict, whole, more, terminated, broken}
 use Rattle.cut_publisher.specs.History.{batch}
 use Rattle.query_lang.specs.declared.ask.Ask.TheVariants.{Changes}
@@ -22,23 +23,23 @@ not_live taken terminated offset none = none Terminated refl
 not_live taken (broken why) offset none = none (Broken offset why) (refl, refl)
 
 -- two openings are no life that ends with a closing
-no_closing : (messages : List EntryValue) (cause : Cause) → opened ∷ opened ∷ [] ≡ opened ∷ (messages ++ closed cause ∷ []) → ⊥
-no_closing [] cause is = let same : opened ∷ opened ∷ [] ≡ opened ∷ closed cause ∷ [] = is in cc
-no_closing (m ∷ ms) cause is = omega (arith, ap (λ (l : List EntryValue). length l) is, length-append ms (closed cause ∷ []))
+no_closing : (a b came : OpeningValue) (messages : List EntryValue) (closing : ClosingValue) → opened a ∷ opened b ∷ [] ≡ opened came ∷ (messages ++ closed closing ∷ []) → ⊥
+no_closing a b came [] closing is = let same : opened a ∷ opened b ∷ [] ≡ opened came ∷ closed closing ∷ [] = is in cc
+no_closing a b came (m ∷ ms) closing is = omega (arith, ap (λ (l : List EntryValue). length l) is, length-append ms (closed closing ∷ []))
 
 -- The closing of a connection is lost, and an opening stands in its place: that isn't what is due of a connection that ended,
 -- whatever bytes it gave.
-a_second_opening_is_no_closing : (meaning : Meaning) (bytes : List ℕ) → AreDue meaning (record { bytes = bytes; last = gave_none } ∷ []) (opened ∷ opened ∷ []) → ⊥
-a_second_opening_is_no_closing meaning bytes (begins, none) =
-    let life : opened ∷ opened ∷ [] ≡ begins.life = begins.split ∙ ap (λ (l : List EntryValue). begins.life ++ l) none ∙ append-nil begins.life in
+a_second_opening_is_no_closing : (meaning : Meaning) (bytes : List ℕ) (a b : OpeningValue) → AreDue meaning (record { bytes = bytes; last = gave_none } ∷ []) (opened a ∷ opened b ∷ []) → ⊥
+a_second_opening_is_no_closing meaning bytes a b (begins, none) =
+    let life : opened a ∷ opened b ∷ [] ≡ begins.life = begins.split ∙ ap (λ (l : List EntryValue). begins.life ++ l) none ∙ append-nil begins.life in
     elim begins.is_life [
-      | inl ends ↦ no_closing ends.messages ends.cause (life ∙ ends.is)
-      | inr (live, life_is) ↦ not_live (length bytes) live.verdict live.offset live.none
+      | inl ends ↦ no_closing a b ends.life.came ends.life.messages (record { cause = ends.life.cause; until = ends.life.until }) (life ∙ ends.life.is)
+      | inr is ↦ not_live (length bytes) is.live.verdict is.live.offset is.live.none
     ]
 
 -- one lane, three entries of it in the history, and one asker that has seen so many
 with_one_asker : ℕ → MachineValue
-with_one_asker seen = record { history = batch 0 (opened ∷ opened ∷ opened ∷ []); lanes = unused ∷ []; askers = seen ∷ [] }
+with_one_asker seen = record { history = batch 0 (opened nothing_told ∷ opened nothing_told ∷ opened nothing_told ∷ []); lanes = unused ∷ []; askers = seen ∷ [] }
 
 -- An asker that has seen three entries is told of the first: it hasn't seen less then.
 telling_lowers_nothing : (meaning : Meaning) (reply : List ℕ) → Steps meaning (Tell 0 1) (with_one_asker 3) (with_one_asker 1) reply → ⊥

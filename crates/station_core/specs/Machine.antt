@@ -1,12 +1,13 @@
 -- The machine of lanes and askers: what one event does. A lane serves one connection of its router after another, and
 -- what is due of them joins the one history of all lanes, in steps; an asker is answered on the whole history.
-use Rattle.std.specs.Prelude.{◌≡◌, ◌≢◌, ℕ, zero, suc, ◌+◌, ◌<◌, ◌≤◌, min, max, ◌⊎◌, Bool, true, false, if◌then◌else◌, List, [], ◌∷◌, ◌++◌, length, take, drop, slice_get, slice_set, Some}
+use Rattle.std.specs.Prelude.{◌≡◌, ◌≢◌, ℕ, zero, suc, ◌+◌, ◌<◌, ◌≤◌, min, max, ◌⊎◌, Bool, true, false, if◌then◌else◌, List, [], ◌∷◌, ◌++◌, length, take, drop, slice_get, slice_set, None, Some}
 use Rattle.std.specs.List.{position_or_len}
 use Rattle.ask_specs.specs.AskReply.{IsAskReply}
 use Rattle.ask_specs.specs.Asking.{AskValue, plain}
 use Rattle.bmp_specs.specs.declared.causes.Cause.{Cause}
 use Rattle.bmp_specs.specs.Life.{gave, gave_none, failed, most_taken, Fits, IsLife, IsOpenLife, Given}
 use Rattle.bmp_specs.specs.Meaning.{Meaning, WalksBy}
+use Rattle.bmp_specs.specs.Openings.{nothing_told}
 use Rattle.bmp_specs.specs.Query.{quit}
 use Rattle.bmp_specs.specs.Values.{EntryValue, opened, message, closed}
 use Rattle.bmp_specs.specs.Walk.{Verdict}
@@ -45,9 +46,21 @@ pub record IsLive (meaning : Meaning) (c : Given) : Type 0 where
   pub walk : WalksBy meaning c.bytes messages offset verdict
   pub none : (cause : Cause) → Fits (length c.bytes) c.last verdict offset cause → ⊥
 
+-- the entries are the life of a connection that was closed, of which neither is told from where it came nor when
+pub record IsUntoldLife (meaning : Meaning) (c : Given) (entries : List EntryValue) : Type 0 where
+  pub life : IsLife meaning c.bytes c.last entries
+  pub nothing : life.came ≡ nothing_told
+  pub never : life.until ≡ None
+
+-- the same of a connection that is live
+pub record IsUntoldOpenLife (meaning : Meaning) (c : Given) (entries : List EntryValue) : Type 0 where
+  pub live : IsLive meaning c
+  pub life : IsOpenLife meaning c.bytes entries
+  pub nothing : life.came ≡ nothing_told
+
 -- the entries are the life of a connection, as far as it came
 abbrev pub IsLifeSoFar : Meaning → Given → List EntryValue → Type 0
-IsLifeSoFar meaning c entries = IsLife meaning c.bytes c.last entries ⊎ (IsLive meaning c × IsOpenLife meaning c.bytes entries)
+IsLifeSoFar meaning c entries = IsUntoldLife meaning c entries ⊎ IsUntoldOpenLife meaning c entries
 
 -- the entries begin with the life of a connection, and these are those after it
 pub record BeginsWithLife (meaning : Meaning) (c : Given) (entries : List EntryValue) : Type 0 where
@@ -96,9 +109,9 @@ abbrev pub with_end : Bool → Given → Given
 with_end fault c = record { bytes = c.bytes; last = if fault then failed else gave_none }
 
 abbrev pub is_closing : EntryValue → Bool
-is_closing opened = false
-is_closing (message kind len effects) = false
-is_closing (closed cause) = true
+is_closing (opened came) = false
+is_closing (message head effects) = false
+is_closing (closed closing) = true
 
 -- what is published next of pending entries: those before the next closing, or a closing alone where it is the next one
 abbrev pub next_of : List EntryValue → List EntryValue

@@ -4,6 +4,7 @@ use Rattle.bmp_specs.specs.declared.causes.Cause.{Cause}
 use Rattle.bmp_specs.specs.declared.causes.Cause.TheVariants.{ReadFault}
 use Rattle.bmp_specs.specs.Life.{gave, most_taken, Given, cause_at_end}
 use Rattle.bmp_specs.specs.Meaning.{Meaning}
+use Rattle.bmp_specs.specs.Openings.{closing_for, nothing_told}
 use Rattle.bmp_specs.specs.Values.{EntryValue, opened}
 use Rattle.bmp_message.specs.StreamWalk.{WalkValue, HasReached, HasGiven, Gives}
 use Rattle.rib_model.specs.declared.entry.Entry.{Entry}
@@ -31,7 +32,7 @@ pub record IsTaken {B : Type 0} (meaning : Meaning) (state : B → meaning.State
   pub before : List EntryValue
   pub are_due : AreDue meaning earlier before
   pub messages : List EntryValue
-  pub due_is : entry_values due ≡ before ++ opened ∷ messages
+  pub due_is : entry_values due ≡ before ++ opened nothing_told ∷ messages
   pub given : HasGiven meaning state bytes messages present.walk
   pub taken : present.taken ≡ length bytes
   pub room : length bytes < most_taken
@@ -65,4 +66,4 @@ IsSound meaning state due present = (connections : List Given) × Follows meanin
 -- A piece of a live connection is taken: the connection goes on, or a cause of its end is there, whose closing is still to become due.
 abbrev pub Takes : {B : Type 0} (meaning : Meaning) (state : B → meaning.State) → List ℕ → List Entry → List Entry → Present B → Present B → Option Cause → Type 0
 Takes meaning state piece due due' present present' None = Moves meaning state (ComesTo meaning (with_piece piece)) due due' (Some present) (Some present')
-Takes meaning state piece due due' present present' (Some cause) = Moves meaning state (ComesTo meaning (with_piece piece)) due (due' ++ Closed cause ∷ []) (Some present) None
+Takes meaning state piece due due' present present' (Some cause) = Moves meaning state (ComesTo meaning (with_piece piece)) due (due' ++ Closed (closing_for cause) ∷ []) (Some present) None

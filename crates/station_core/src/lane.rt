@@ -1,5 +1,6 @@
 //! One lane: its connections, one after another, and the entries that are due of them.
 ghost use Rattle.std.specs.Prelude.{◌≡◌, ◌∷◌, ◌++◌, [], IfOk, OnOk};
+ghost use Rattle.bmp_specs.specs.Openings.{closing_for};
 ghost use Rattle.bmp_message.specs.StreamWalk.{fed_of, rest_of};
 ghost use Rattle.rib_model.specs.declared.entry.Entry.TheVariants.{Closed};
 ghost use Rattle.station_core.specs.Machine.{Begins, ComesTo, with_end, with_piece};
@@ -7,7 +8,7 @@ ghost use Rattle.station_core.specs.Taking.{Gathers, IsSound, Moves, Takes, caus
 
 use bmp_message::{BodyReading, Entries, Progress, StreamWalk};
 use bmp_specs::{Cause, MOST_TAKEN};
-use rib_model::Entry;
+use rib_model::{Closing, Entry, Opening};
 use std::alloc::Global;
 use wire_io::{List, NoMemory, Unplaced};
 
@@ -117,7 +118,7 @@ impl<B: BodyReading + Drop> Lane<B> {
         if self.present.is_some() {
             return Ok(());
         }
-        append(&mut self.due, Entry::Opened)?;
+        append(&mut self.due, Entry::Opened(Opening::untold()))?;
         self.present = Some(Present {
             walk: StreamWalk::new(alloc),
             taken: 0,
@@ -152,9 +153,9 @@ impl<B: BodyReading + Drop> Lane<B> {
 
     // Appends the closing of the connection, which is then no more.
     fn close(&mut self, cause: Cause) -> Result<(), NoMemory>
-        ensures { OnOk result ((self.new.due ≡ self.old.due ++ Closed cause ∷ []) × (self.new.present ≡ None)) }
+        ensures { OnOk result ((self.new.due ≡ self.old.due ++ Closed (closing_for cause) ∷ []) × (self.new.present ≡ None)) }
     {
         self.present = None;
-        append(&mut self.due, Entry::Closed(cause))
+        append(&mut self.due, Entry::Closed(Closing::untimed(cause)))
     }
 }

@@ -2,13 +2,14 @@
 use Rattle.std.specs.Net.Addr.{IsIpv4Mapped, ipv6_segments}
 use Rattle.std.specs.declared.net.ip_addr.IpAddr.TheVariants.{V6 as IpV6}
 use Rattle.std.specs.declared.net.ipv6_addr.Ipv6Addr.{Ipv6Addr}
-use Rattle.bmp_specs.specs.Values.{AddressValue, PrefixValue}
+use Rattle.bmp_specs.specs.Values.{AddressValue, EndpointValue, PrefixValue}
 use Rattle.bmp_specs.specs.declared.wire.Family.TheVariants.{V4, V6}
 use Rattle.station_doors.specs.Allowed.{ComesFrom, MayConnect}
 use Rattle.std.proofs.Common.{◌≡◌, ℕ, ◌^◌, true, false, List, [], ◌∷◌, map, length, get_or, refl, sym, ap, subst, ◌∙◌, inl, inr, arith, Option, Some, None, Ok, Err}
 use Rattle.wire_io.specs.Aside.{Aside, nothing_aside}
 use Rattle.disk_doors.specs.Disk.{DiskValue, nothing}
 use Rattle.station_doors.specs.Doors.{KeepsInput, YardValue, Returned, Reads, TakesBackTold}
+use Rattle.station_doors.specs.Told.{KeepsOpening, ToldValue, told_at, untold}
 use Rattle.station_doors.specs.Files.{GivesFile, ReadsWhole}
 use Rattle.station_doors.specs.Disks.{HandsOutDisk}
 use Rattle.station_doors.specs.Connections.{shows_of, port_shows}
@@ -81,6 +82,33 @@ lent = record bare { out = 1 ∷ [] }
 
 a_port_does_not_come_back_under_another_number : TakesBackTold 1 nothing_aside lent (Some (record lent { out = []; back = record { lane = 0; shows = nothing_aside } ∷ [] })) → ⊥
 a_port_does_not_come_back_under_another_number t = absurd (cc (ap lanes_back (t.lent (0, omega arith, refl))))
+
+-- ---- what a port tells of its connection
+-- a connection from the port of this number of 192.0.2.1, that was opened at this time
+abbrev came_from : ℕ → ℕ → ToldValue
+came_from number at = record untold { from = Some (record { address = record { family = V4; octets = 192 ∷ 0 ∷ 2 ∷ 1 ∷ 0 ∷ 0 ∷ 0 ∷ 0 ∷ 0 ∷ 0 ∷ 0 ∷ 0 ∷ 0 ∷ 0 ∷ 0 ∷ 0 ∷ [] }; port = number }); since = Some at }
+
+abbrev port_of : Option EndpointValue → ℕ
+port_of None = 0
+port_of (Some e) = e.port
+
+abbrev time_of : Option ℕ → ℕ
+time_of None = 0
+time_of (Some at) = at
+
+-- A closing changes neither from where the connection came, nor when that was.
+a_closing_does_not_change_from_where : KeepsOpening (came_from 1 5) (record (came_from 2 5) { until = Some 7 }) → ⊥
+a_closing_does_not_change_from_where k = absurd (omega (arith, ap port_of k.0))
+
+a_closing_does_not_forget_from_where : KeepsOpening (came_from 1 5) (record untold { since = Some 5; until = Some 7 }) → ⊥
+a_closing_does_not_forget_from_where k = absurd (omega (arith, ap port_of k.0))
+
+a_closing_does_not_change_since_when : KeepsOpening (came_from 1 5) (record (came_from 1 6) { until = Some 7 }) → ⊥
+a_closing_does_not_change_since_when k = absurd (omega (arith, ap time_of k.1))
+
+-- A port in memory tells the second value of its second connection, and not the first one again.
+a_telling_is_not_told_again : told_at (came_from 1 5 ∷ came_from 2 6 ∷ []) 2 ≡ came_from 1 5 → ⊥
+a_telling_is_not_told_again is = absurd (omega (arith, ap (λ (t : ToldValue). port_of t.from) is))
 
 -- a prefix of IPv4 lets no IPv6 address in, however few bits it has
 ipv6_is_within_no_ipv4 : (prefix : PrefixValue) (address : AddressValue) → prefix.address.family ≡ V4 → address.family ≡ V6 → MayConnect (prefix ∷ []) address → ⊥

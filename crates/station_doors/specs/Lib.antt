@@ -5,6 +5,7 @@ pub mod Files
 pub mod Disks
 pub mod LastRead
 pub mod Allowed
+pub mod Told
 pub mod Connections
 pub mod MemPort
 pub mod SurePort

@@ -6,14 +6,20 @@ use Rattle.bmp_specs.specs.declared.causes.Why.TheVariants.{Version, Length, Bod
 use Rattle.disk_doors.specs.Note.{Event}
 use Rattle.wire_io.specs.declared.sink.Failed.{Failed}
 use Rattle.wire_io.specs.Aside.{Aside}
+use Rattle.station_doors.specs.Told.{ToldValue, told_at}
 
--- what it shows, how many bytes its reads give at most, how many reads were made, and why its connections ended, as it was
--- told
+-- what it shows, how many bytes its reads give at most, how many reads were made, why its connections ended, as it was
+-- told, and what it tells of each connection, in order
 pub record MemPortValue : Type 0 where
   pub shows : Aside
   pub pieces : List ℕ
   pub reads : ℕ
   pub causes : List Cause
+  pub tellings : List ToldValue
+
+-- what it tells of its present connection, or of its last one
+abbrev pub tells_now : MemPortValue → ToldValue
+tells_now port = told_at port.tellings port.shows.opened
 
 -- the cause that is noted by this number and this offset
 abbrev pub cause_of : ℕ → ℕ → Cause

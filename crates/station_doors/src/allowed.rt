@@ -90,7 +90,7 @@ impl Allowed {
 }
 
 // The address of the network's address.
-fn address_of(ip: &IpAddr) -> Addr
+pub(crate) fn address_of(ip: &IpAddr) -> Addr
     ensures { ComesFrom ip.now result }
 {
     match ip.to_canonical() {

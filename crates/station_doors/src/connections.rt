@@ -168,6 +168,13 @@ impl Connections {
         true
     }
 
+    // How many were opened.
+    pub(crate) fn opened(&self) -> usize
+        ensures { result ≡ self.now.opened }
+    {
+        self.opened
+    }
+
     // Gives the next bytes of the present connection, at most so many, and answers how many.
     pub(crate) fn give(&mut self, most: usize, buf: &mut [u8]) -> usize
         requires most { 0 < most }

@@ -8,9 +8,10 @@ ghost use Rattle.wire_io.specs.Faults.{HasCause};
 ghost use Rattle.station_doors.specs.Doors.{Opens, Reads, Closes, AsPlanned, MadeOver, Went, noted_writes, read_size, heard_size, YardSeen, CountsCall, LeavesRest, IsLane, askers_of, Listens, HandsOut, HandsOutLink, TakesBack, TakesLinkBack, KeepsEnding, one_more, told_after};
 ghost use Rattle.station_doors.specs.Disks.{HandsOutDisk, TakesDiskBack};
 ghost use Rattle.station_doors.specs.Files.{GivesFile, HasFileCause};
+ghost use Rattle.station_doors.specs.Told.{KeepsOpening, ToldValue, untold};
 ghost use Rattle.station_doors.specs.declared.listening.Listening.{Listening};
 
-use crate::{Ended, FileFault, Listening, PeerChange};
+use crate::{Ended, FileFault, Listening, PeerChange, Told};
 use disk_doors::Disk;
 use std::alloc::Global;
 use wire_io::{ByteList, Failed, Sink};
@@ -31,6 +32,9 @@ pub trait Port {
 
     /// Why its connections ended, in the order in which it was told, where it keeps that.
     ghost causes: { Self → Option (List Cause) } = { λ _. None };
+
+    /// From where its present connection came and when, or its last one, and when that was closed.
+    ghost tells: { Self → ToldValue } = { λ _. untold };
 
     /// Opens the next connection, of which no byte was given. False where there is none. It fails only
     /// where the plan, if it is shown, has a call that fails.
@@ -53,7 +57,8 @@ pub trait Port {
         ensures planned { AsPlanned (aside self.old).plan (calls self.old) (calls self.new) result }
         ensures stays { stays self.new ≡ stays self.old }
         ensures went { Went (went self.old) (went self.new) result }
-        ensures causes { causes self.new ≡ causes self.old };
+        ensures causes { causes self.new ≡ causes self.old }
+        ensures tells { tells self.new ≡ tells self.old };
 
     /// Closes the present connection, which is open. Nothing is read of it after that.
     fn close(&mut self)
@@ -62,7 +67,13 @@ pub trait Port {
         ensures calls { calls self.new ≡ calls self.old }
         ensures stays { stays self.new ≡ stays self.old }
         ensures went { went self.new ≡ went self.old }
-        ensures causes { causes self.new ≡ causes self.old };
+        ensures causes { causes self.new ≡ causes self.old }
+        ensures tells { KeepsOpening (tells self.old) (tells self.new) };
+
+    /// Tells from where the present connection came and when, by the station's clock, or the last one, and when that was
+    /// closed.
+    fn told(&self) -> Told
+        ensures { result ≡ tells self.now };
 
     /// Is told that a peer of the present connection's router went up or down, which was published. A real port may say so
     /// to whoever runs the station. Nothing that contracts see changes.
@@ -72,6 +83,7 @@ pub trait Port {
         ensures stays { stays self.new ≡ stays self.old }
         ensures went { went self.new ≡ went self.old }
         ensures causes { causes self.new ≡ causes self.old }
+        ensures tells { tells self.new ≡ tells self.old }
     {}
 
     /// Is told the first octets of what stands in the present connection where a message should, and is none. A real port
@@ -82,6 +94,7 @@ pub trait Port {
         ensures stays { stays self.new ≡ stays self.old }
         ensures went { went self.new ≡ went self.old }
         ensures causes { causes self.new ≡ causes self.old }
+        ensures tells { tells self.new ≡ tells self.old }
     {}
 
     /// Is told how the last connection ended, which was closed. A real port may say so to whoever runs the station.
@@ -91,7 +104,8 @@ pub trait Port {
         ensures calls { calls self.new ≡ calls self.old }
         ensures stays { stays self.new ≡ stays self.old }
         ensures went { went self.new ≡ went self.old }
-        ensures causes { causes self.new ≡ told_after (causes self.old) end.now.cause };
+        ensures causes { causes self.new ≡ told_after (causes self.old) end.now.cause }
+        ensures tells { tells self.new ≡ tells self.old };
 }
 
 /// The place of one client, which gives one connection after another and takes what is written to it. Its count

@@ -1,13 +1,15 @@
-ghost use Rattle.std.specs.Prelude.{◌≡◌, ◌≤◌, [], length, take, IfOk, IfSome, OnErr, IsTrue};
+ghost use Rattle.std.specs.Prelude.{◌≡◌, ◌≤◌, [], None, Some, true, length, take, IfNone, IfOk, IfSome, OnErr, IsTrue};
 ghost use Rattle.std.specs.Io.KnownBytes.{ReadConsumes};
 ghost use Rattle.station_doors.specs.Counts.{rest_of};
 ghost use Rattle.station_doors.specs.Doors.{Opens, Closes};
+ghost use Rattle.station_doors.specs.Told.{IsEndpointOf, KeepsOpening, untold};
 
 use crate::counts::Counts;
 use crate::log::PlaceLog;
 use crate::peer_lines::PeerLines;
 use crate::sockets::{accept_next, read_stream};
-use crate::{Allowed, Ended, PeerChange, Port};
+use crate::told::known_endpoint;
+use crate::{Allowed, Ended, PeerChange, Port, Told};
 use ip_prefix::ShortText;
 use std::io::{self, Read};
 use std::net::{SocketAddr, TcpListener, TcpStream};
@@ -19,7 +21,8 @@ use wire_io::Failed;
 /// A port over a reader, which has one connection, or over a listener, which has one after another. Over a reader it
 /// tells what the reader tells, over a listener nothing of content. A reader that has nothing yet is waited for, also where
 /// its reads don't wait. A connection of a listener that says nothing for `idle` seconds is a fault of the read that waits;
-/// one from elsewhere than it may come from isn't taken. It says in the log of its yard what comes and goes.
+/// one from elsewhere than it may come from isn't taken. It says in the log of its yard what comes and goes. Over a listener
+/// it tells from where a connection came, when it was taken and when it was closed; over a reader nothing of that.
 #[derive(Drop)]
 pub struct HostPort<'a, R, N> {
     clock: &'a N,
@@ -33,6 +36,8 @@ pub struct HostPort<'a, R, N> {
     reason: Option<io::Error>,
     // Where the present connection comes from, or the last one came from.
     from: Option<SocketAddr>,
+    // What is told of it.
+    told: Told,
     // The first octets of what is no message in the present connection, where it broke.
     octets: ShortText,
     peers: PeerLines,
@@ -52,6 +57,7 @@ impl<'a, R: Drop, N: Clock> HostPort<'a, R, N> {
         ensures input { result.input ≡ input }
         ensures listener { result.listener ≡ listener }
         ensures rules { (result.idle ≡ idle) × (result.allowed ≡ allowed) }
+        ensures told { result.told ≡ untold }
     {
         HostPort {
             clock,
@@ -63,6 +69,7 @@ impl<'a, R: Drop, N: Clock> HostPort<'a, R, N> {
             counts: Counts::new(),
             reason: None,
             from: None,
+            told: Told::nothing(),
             octets: ShortText::new(),
             peers: PeerLines::new(),
             log,
@@ -110,6 +117,52 @@ fn come<N: Clock + Wait>(
             if stream.is_some() { Some(true) } else { None }
         }
         None => Some(is_first),
+    }
+}
+
+// The time of the clock, in seconds since 1970. None where it can't be read, or stands before that.
+fn now_of<N: Clock>(clock: &N) -> Option<u64> {
+    match clock.since_1970() {
+        Ok(time) => Some(time.as_secs()),
+        Err(_) => None,
+    }
+}
+
+// What is told after the next connection was asked for: of one that a listener gave, that it came now, and from where;
+// otherwise what was told before.
+fn told_next<N: Clock>(
+    clock: &N,
+    listener: &Option<Arc<TcpListener>>,
+    came: Option<bool>,
+    from: &Option<SocketAddr>,
+    told: Told,
+) -> Told
+    ensures reader { IfNone listener.now (result ≡ told) }
+    ensures opened { IfSome listener.now (λ _. came ≡ Some true → IsEndpointOf from.now result.from × (result.until ≡ None)) }
+    ensures none { (came ≡ Some true → ⊥) → result ≡ told }
+{
+    match (listener, came) {
+        (Some(_), Some(true)) => Told {
+            from: known_endpoint(from),
+            since: now_of(clock),
+            until: None,
+        },
+        _ => told,
+    }
+}
+
+// What is told after the connection was closed: of one that a listener gave, that it was closed now.
+fn told_closed<N: Clock>(clock: &N, listener: &Option<Arc<TcpListener>>, told: Told) -> Told
+    ensures keeps { KeepsOpening told result }
+    ensures reader { IfNone listener.now (result ≡ told) }
+{
+    match listener {
+        Some(_) => Told {
+            from: told.from,
+            since: told.since,
+            until: now_of(clock),
+        },
+        None => told,
     }
 }
 
@@ -176,10 +229,13 @@ fn read_from<R: Read, N: Clock>(
 impl<'a, R: Read + Drop, N: Clock + Wait + Sync> Port for HostPort<'a, R, N> {
     ghost aside = { λ p. record p.counts { rest = rest_of R.remaining p.input } };
 
+    ghost tells = { λ p. p.told };
+
     fn next_connection(&mut self) -> Result<bool, Failed>
         ensures opens { Opens (record self.old.counts { rest = rest_of R.remaining self.old.input }) (record self.new.counts { rest = rest_of R.remaining self.new.input }) result }
         ensures planned { IfSome self.old.counts.plan (λ plan. OnErr result (plan.fails ≡ [] → ⊥)) }
         ensures input { self.new.input ≡ self.old.input }
+        ensures reader { IfNone self.old.listener (self.new.told ≡ self.old.told) }
     {
         let is_first = self.counts.is_unused();
         let came = come(
@@ -200,6 +256,7 @@ impl<'a, R: Read + Drop, N: Clock + Wait + Sync> Port for HostPort<'a, R, N> {
         if self.stream.is_some() {
             self.log.connected(self.clock, self.from);
         }
+        self.told = told_next(self.clock, &self.listener, came, &self.from, self.told);
         self.counts.open(came)
     }
 
@@ -219,15 +276,23 @@ impl<'a, R: Read + Drop, N: Clock + Wait + Sync> Port for HostPort<'a, R, N> {
         requires { IsTrue self.old.counts.is_open }
         ensures closes { Closes (record self.old.counts { rest = rest_of R.remaining self.old.input }) (record self.new.counts { rest = rest_of R.remaining self.new.input }) }
         ensures input { self.new.input ≡ self.old.input }
+        ensures tells { KeepsOpening self.old.told self.new.told }
+        ensures reader { IfNone self.old.listener (self.new.told ≡ self.old.told) }
     {
         self.peers.end(self.clock, &self.log, self.from);
         self.stream = None;
+        self.told = told_closed(self.clock, &self.listener, self.told);
         self.counts.close();
+    }
+
+    fn told(&self) -> Told {
+        self.told
     }
 
     fn peer(&mut self, change: &PeerChange<'_>)
         ensures counts { self.new.counts ≡ self.old.counts }
         ensures input { self.new.input ≡ self.old.input }
+        ensures told { self.new.told ≡ self.old.told }
     {
         self.peers.say(self.clock, &self.log, self.from, change);
     }
@@ -235,6 +300,7 @@ impl<'a, R: Read + Drop, N: Clock + Wait + Sync> Port for HostPort<'a, R, N> {
     fn broke(&mut self, octets: &[u8])
         ensures counts { self.new.counts ≡ self.old.counts }
         ensures input { self.new.input ≡ self.old.input }
+        ensures told { self.new.told ≡ self.old.told }
     {
         let mut first = ShortText::new();
         first.extend(first_of(octets));

@@ -37,6 +37,7 @@ mod slots;
 mod sockets;
 mod sure_link;
 mod sure_port;
+mod told;
 
 pub use allowed::{Allowed, MOST_ALLOWED};
 pub use doors::{Link, Port, Yard};
@@ -55,3 +56,4 @@ pub use peer_change::PeerChange;
 pub use sockets::MOST_PLACES;
 pub use sure_link::SureLink;
 pub use sure_port::SurePort;
+pub use told::Told;

@@ -2,10 +2,11 @@ ghost use Rattle.std.specs.Prelude.{◌≡◌, ◌<◌, ◌++◌, [], ◌∷◌,
 ghost use Rattle.std.specs.Io.{ReadsAtMost};
 ghost use Rattle.wire_io.specs.Aside.{Plan};
 ghost use Rattle.station_doors.specs.Doors.{Reads, AsPlanned, Opens, Closes, read_size, told_after, untouched};
-ghost use Rattle.station_doors.specs.MemPort.{causes_in};
+ghost use Rattle.station_doors.specs.MemPort.{causes_in, tells_now};
+ghost use Rattle.station_doors.specs.Told.{told_at};
 
 use crate::connections::Connections;
-use crate::{Ended, Port};
+use crate::{Ended, Port, Told};
 use bmp_specs::{Cause, Why};
 use disk_doors::Notes;
 use std::alloc::Global;
@@ -15,7 +16,8 @@ use wire_io::{ByteList, Failed, NoMemory};
 /// A port over connections in memory. It tells all that it does.
 ///
 /// Its k-th read, counted from 0 over the port's life, gives at most `pieces[k]` bytes and at least one;
-/// reads past that list give all that fits. Reads whose numbers are among `fails` fail and give nothing.
+/// reads past that list give all that fits. Reads whose numbers are among `fails` fail and give nothing. It tells nothing of
+/// from where its connections came and when, but what `telling` gave it.
 #[derive(Drop)]
 pub struct MemPort {
     connections: Connections,
@@ -24,6 +26,8 @@ pub struct MemPort {
     reads: u64,
     // The causes that it was told.
     notes: Notes,
+    // What it tells of each connection.
+    tellings: Vec<Told>,
 }
 
 impl Model for MemPort {
@@ -33,7 +37,7 @@ impl Model for MemPort {
 
     ghost Value = { MemPortValue };
 
-    ghost view = { λ p. record { shows = port_shows p.fails.items p.connections; pieces = p.pieces.items; reads = p.reads; causes = causes_in p.notes.events } };
+    ghost view = { λ p. record { shows = port_shows p.fails.items p.connections; pieces = p.pieces.items; reads = p.reads; causes = causes_in p.notes.events; tellings = p.tellings.items } };
 
     ghost invariant = { λ p. All (λ n. 0 < n) p.pieces.items };
 }
@@ -47,7 +51,7 @@ impl MemPort {
         fails: &[u64],
     ) -> Result<MemPort, NoMemory>
         requires { All (λ n. 0 < n) pieces.now }
-        ensures { IfOk result (λ port. port ≡ record { shows = untouched (record { connections = connections.now; fails = fails.now }); pieces = pieces.now; reads = 0; causes = [] }) }
+        ensures { IfOk result (λ port. port ≡ record { shows = untouched (record { connections = connections.now; fails = fails.now }); pieces = pieces.now; reads = 0; causes = []; tellings = [] }) }
     {
         let connections = Connections::new(alloc, connections)?;
         let pieces = Vec::from_slice(alloc, pieces)?;
@@ -58,7 +62,17 @@ impl MemPort {
             fails,
             reads: 0,
             notes: Notes::new(),
+            tellings: Vec::new(alloc),
         })
+    }
+
+    /// The same port, which tells the first of these values of its first connection, and so on, and nothing of one past
+    /// the last of them. Out of memory, it is dropped.
+    pub fn telling(mut self, alloc: Global, tellings: &[Told]) -> Result<MemPort, NoMemory>
+        ensures { IfOk result (λ port. port ≡ record self { tellings = tellings.now }) }
+    {
+        self.tellings = Vec::from_slice(alloc, tellings)?;
+        Ok(self)
     }
 }
 
@@ -72,6 +86,19 @@ pub(crate) fn piece_at(pieces: &[u32], call: u64, size: usize) -> usize
     match pieces.get(call as usize) {
         Some(piece) => *piece as usize,
         None => size,
+    }
+}
+
+// What is told by a port that has opened so many connections.
+fn telling_at(tellings: &[Told], opened: usize) -> Told
+    ensures { result ≡ told_at tellings.now opened }
+{
+    if opened == 0 {
+        return Told::nothing();
+    }
+    match tellings.get(opened - 1) {
+        Some(told) => *told,
+        None => Told::nothing(),
     }
 }
 
@@ -102,6 +129,8 @@ impl Port for MemPort {
 
     ghost causes = { λ p. Some p.causes };
 
+    ghost tells = { λ p. tells_now p };
+
     fn next_connection(&mut self) -> Result<bool, Failed>
         ensures opens { Opens self.old.shows self.new.shows result }
         ensures planned { IfSome self.old.shows.plan (λ plan. OnErr result (plan.fails ≡ [] → ⊥)) }
@@ -119,6 +148,7 @@ impl Port for MemPort {
         ensures planned { AsPlanned self.old.shows.plan self.old.reads self.new.reads result }
         ensures pieces { self.new.pieces ≡ self.old.pieces }
         ensures causes { self.new.causes ≡ self.old.causes }
+        ensures tellings { self.new.tellings ≡ self.old.tellings }
         ensures count { GivesPiece self.old result (length buf.old) }
     {
         let call = self.reads;
@@ -137,6 +167,12 @@ impl Port for MemPort {
         ensures same { self.new ≡ record self.old { shows = self.new.shows } }
     {
         self.connections.close();
+    }
+
+    fn told(&self) -> Told
+        ensures { result ≡ tells_now self.now }
+    {
+        telling_at(self.tellings.as_slice(), self.connections.opened())
     }
 
     fn ended(&mut self, end: &Ended<'_>)

@@ -4,7 +4,7 @@ ghost use Rattle.wire_io.specs.Aside.{Plan};
 ghost use Rattle.station_doors.specs.Doors.{Reads, AsPlanned, Opens, Closes, read_size, untouched};
 
 use crate::connections::Connections;
-use crate::{Ended, Port};
+use crate::{Ended, Port, Told};
 use std::alloc::Global;
 use std::marker::Model;
 use wire_io::{ByteList, Failed, NoMemory};
@@ -93,6 +93,10 @@ impl Port for SurePort {
         ensures same { self.new ≡ record self.old { shows = self.new.shows } }
     {
         self.connections.close();
+    }
+
+    fn told(&self) -> Told {
+        Told::nothing()
     }
 
     fn ended(&mut self, _end: &Ended<'_>)

@@ -10,6 +10,7 @@ use Rattle.bmp_specs.specs.declared.causes.Cause.{Cause}
 use Rattle.bmp_specs.specs.Life.{most_taken}
 use Rattle.bmp_specs.specs.MessageEffects.{strict}
 use Rattle.bmp_specs.specs.Octets.{AreOctets}
+use Rattle.bmp_specs.specs.Openings.{nothing_told}
 use Rattle.cut_publisher.specs.Ending.{IsEnding}
 use Rattle.cut_publisher.specs.History.{Asker, Fed, Site, part}
 use Rattle.cut_publisher.specs.Opening.{AreAsksOf, AreFeedsOf, AreFreshFeeds, AreSeated, fresh_feed}
@@ -39,7 +40,7 @@ consumed stream bytes (Some left) c = (left, c, λ e. e)
 
 -- a connection with these bytes whose reads don't fail
 pub taken_whole : (stream : List ℕ) (old new : Aside) (pass pass' : Fed Entry) (cause : Cause) → old.rest ≡ Some stream → old.plan ≡ Some (record { connections = stream ∷ []; fails = [] }) → pass.entries ≡ [] → length stream < most_taken
-    → TakesConnection strict old new pass pass' cause → IsTakenWhole stream (entry_values pass'.entries)
+    → TakesConnection strict nothing_told old new pass pass' cause → IsTakenWhole stream (entry_values pass'.entries)
 taken_whole stream old new pass pass' cause rest plan none short t =
     let (left, split, end) = consumed stream t.input.bytes new.rest (subst (λ (o : Option (List ℕ)). Consumes o new.rest t.input.bytes) rest t.took.rest) in
     record {

@@ -6,13 +6,16 @@ use Rattle.std.specs.Fmt.{digits}
 use Rattle.bmp_specs.specs.declared.causes.Why.TheVariants.{Body, Length, Version}
 use Rattle.bmp_specs.specs.Lines.{further}
 use Rattle.bmp_specs.specs.Meaning.{Meaning, WalksBy}
-use Rattle.bmp_specs.specs.MessageBody.{no_peers}
-use Rattle.bmp_specs.specs.MessageEffects.{IsMessageEntry, strict}
+use Rattle.bmp_specs.specs.MessageBody.{IsMessage, no_peers}
+use Rattle.bmp_specs.specs.MessageEffects.{IsMessageEntry, effects_of, strict}
+use Rattle.bmp_specs.specs.MessageHead.{IsHead}
 use Rattle.bmp_specs.specs.NumberText.{number_text}
+use Rattle.bmp_specs.specs.Openings.{nothing_told}
 use Rattle.bmp_specs.specs.Tlv.{AreTlvs}
-use Rattle.bmp_specs.specs.Values.{EffectValue, EntryValue, TlvValue, described, initiation, message, named, opened}
+use Rattle.bmp_specs.specs.Values.{EffectValue, EntryValue, HeadValue, MessageValue, TlvValue, described, initiation, message, named, opened}
 use Rattle.bmp_specs.specs.Walk.{Stops as WalkStops, Verdict, broken, more, terminated, whole}
 use Rattle.bmp_specs.proofs.FrameCode.{frame_one}
+use Rattle.bmp_specs.proofs.HasHead.{strict_head}
 use Rattle.bmp_specs.proofs.MessageOne.{strict_exact}
 use Rattle.bmp_specs.proofs.WalkOne.{at_front, front_verdict, stop_verdict}
 use Rattle.cut_publisher.specs.Cuts.{most_passes}
@@ -169,7 +172,7 @@ name_in_front (named name ∷ others) = name
 name_in_front others = []
 
 abbrev name_at : List EntryValue → List ℕ
-name_at (message kind len effects ∷ others) = name_in_front effects
+name_at (message head effects ∷ others) = name_in_front effects
 name_at others = []
 
 abbrev lane_tlvs : ℕ → List TlvValue
@@ -179,9 +182,12 @@ names_differ : lane_name 0 ≡ lane_name 1 → ⊥
 unfolding digits
 names_differ same = let digit : 48 ≡ 49 = ap (λ (l : List ℕ). get_or l 6 0) same in omega (arith, digit)
 
--- the entry of an Initiation Message that names a lane, of a body of so many bytes
-abbrev named_entry : ℕ → ℕ → EntryValue
-named_entry lane count = message 4 (6 + count) (named (lane_name lane) ∷ described [] ∷ [])
+-- an Initiation Message that names a lane, and its entry with this head
+abbrev naming : ℕ → MessageValue
+naming lane = initiation (record { name = Some (lane_name lane); descr = Some []; unread = 0 })
+
+abbrev named_entry : ℕ → HeadValue → EntryValue
+named_entry lane head = message head (named (lane_name lane) ∷ described [] ∷ [])
 
 module _ (seed lane messages : ℕ) (bytes : List ℕ) (p : IsDrillStream seed lane messages bytes) where
   abbrev body : List ℕ
@@ -191,25 +197,29 @@ module _ (seed lane messages : ℕ) (bytes : List ℕ) (p : IsDrillStream seed l
   behind = p.ups ++ p.drawn
 
   -- the stream's first message names the lane
-  names_lane : IsMessageEntry no_peers 4 body (named_entry lane (length body)) no_peers
-  names_lane =
-      let are : AreTlvs body (lane_tlvs lane) = subst (λ (l : List ℕ). AreTlvs l (lane_tlvs lane)) p.initiation_is.is.body_is p.initiation_is.told in
-      record {
-        value = initiation (record { name = Some (lane_name lane); descr = Some []; unread = 0 });
-        means = (
-          record { name = Some (lane_name lane); descr = Some []; unread = 0 },
-          record { tlvs = lane_tlvs lane; are = are; name_is = refl; descr_is = refl; unread_is = refl },
-          refl,
-          refl,
-        );
-        entry_is = refl;
-      }
+  means_lane : IsMessage no_peers 4 body (naming lane) no_peers
+  means_lane =
+      let are : AreTlvs body (lane_tlvs lane) = subst (λ (l : List ℕ). AreTlvs l (lane_tlvs lane)) p.initiation_is.is.body_is p.initiation_is.told in (
+        record { name = Some (lane_name lane); descr = Some []; unread = 0 },
+        record { tlvs = lane_tlvs lane; are = are; name_is = refl; descr_is = refl; unread_is = refl },
+        refl,
+        refl,
+      )
+
+  head_of : (head : HeadValue) × IsHead 4 body (effects_of (naming lane)) head
+  head_of = strict_head no_peers 4 body (naming lane) no_peers means_lane
+
+  abbrev first : EntryValue
+  first = named_entry lane head_of.0
+
+  names_lane : IsMessageEntry no_peers 4 body first no_peers
+  names_lane = record { value = naming lane; means = means_lane; head = head_of.0; is_head = head_of.1; entry_is = refl }
 
   no_stop : (verdict : Verdict) → WalkStops IsMessageEntry no_peers bytes verdict → verdict ≡ broken Body → ⊥
   no_stop (broken Body) breaks is =
       let same = frame_one breaks.frame p.initiation breaks.rest behind breaks.kind 4 breaks.body body breaks.is_frame p.initiation_is.is (sym breaks.split ∙ p.joined) in
-      let here = subst (λ (l : List ℕ). IsMessageEntry no_peers 4 l (named_entry lane (length body)) no_peers) (sym same.2) names_lane in
-      breaks.nothing (named_entry lane (length body)) no_peers (subst (λ (k : ℕ). IsMessageEntry no_peers k breaks.body (named_entry lane (length body)) no_peers) (sym same.1) here)
+      let here = subst (λ (l : List ℕ). IsMessageEntry no_peers 4 l first no_peers) (sym same.2) names_lane in
+      breaks.nothing first no_peers (subst (λ (k : ℕ). IsMessageEntry no_peers k breaks.body first no_peers) (sym same.1) here)
   no_stop (broken Version) breaks is = cc
   no_stop (broken Length) breaks is = cc
   no_stop whole breaks is = cc
@@ -217,7 +227,7 @@ module _ (seed lane messages : ℕ) (bytes : List ℕ) (p : IsDrillStream seed l
   no_stop terminated breaks is = cc
 
   -- so does the first entry that is made of it
-  first_entry : (entries : List EntryValue) (offset : ℕ) (verdict : Verdict) → WalksBy strict bytes entries offset verdict → (rest : List EntryValue) × (entries ≡ named_entry lane (length body) ∷ rest)
+  first_entry : (entries : List EntryValue) (offset : ℕ) (verdict : Verdict) → WalksBy strict bytes entries offset verdict → (rest : List EntryValue) × (entries ≡ first ∷ rest)
   first_entry [] offset verdict w =
       let front = front_verdict bytes p.initiation (at_front bytes p.initiation behind body 4 p.joined p.initiation_is.is) in
       absurd (no_stop verdict w.1 (sym (stop_verdict IsMessageEntry strict_exact no_peers bytes verdict w.1) ∙ front))
@@ -225,7 +235,7 @@ module _ (seed lane messages : ℕ) (bytes : List ℕ) (p : IsDrillStream seed l
       let same = frame_one step.frame p.initiation step.rest behind step.kind 4 step.body body step.is_frame p.initiation_is.is (sym step.split ∙ p.joined) in
       let means = subst (λ (k : ℕ). IsMessageEntry no_peers k step.body e step.next) same.1 step.means in
       let here = subst (λ (l : List ℕ). IsMessageEntry no_peers 4 l e step.next) same.2 means in
-      let one = strict_exact no_peers step.next no_peers 4 body e (named_entry lane (length body)) here names_lane in
+      let one = strict_exact no_peers step.next no_peers 4 body e first here names_lane in
       (rest, ap (λ (x : EntryValue). x ∷ rest) one.0)
 
 -- What a lane made is of its own stream: the entries of lane 0 aren't those that lane 1 is to make.
@@ -233,7 +243,7 @@ entries_are_of_one_lane : (seed messages : ℕ) (entries : List EntryValue) → 
 entries_are_of_one_lane seed messages entries p q =
     let a = first_entry seed 0 messages p.bytes p.stream p.taken.messages p.taken.offset p.taken.verdict p.taken.walk in
     let b = first_entry seed 1 messages q.bytes q.stream q.taken.messages q.taken.offset q.taken.verdict q.taken.walk in
-    let ms : opened ∷ p.taken.messages ≡ opened ∷ q.taken.messages = sym p.taken.is ∙ q.taken.is in
+    let ms : opened nothing_told ∷ p.taken.messages ≡ opened nothing_told ∷ q.taken.messages = sym p.taken.is ∙ q.taken.is in
     let both : p.taken.messages ≡ q.taken.messages = cc in
     let names = ap name_at (sym a.1 ∙ both ∙ b.1) in
     names_differ names

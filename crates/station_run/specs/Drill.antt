@@ -5,6 +5,7 @@ use Rattle.bmp_specs.specs.Life.{most_taken}
 use Rattle.bmp_specs.specs.Meaning.{WalksBy}
 use Rattle.bmp_specs.specs.MessageEffects.{strict}
 use Rattle.bmp_specs.specs.Octets.{AreOctets}
+use Rattle.bmp_specs.specs.Openings.{nothing_told}
 use Rattle.bmp_specs.specs.Values.{EntryValue, opened}
 use Rattle.bmp_specs.specs.Walk.{Verdict}
 use Rattle.cut_publisher.specs.Cuts.{Stands}
@@ -19,13 +20,14 @@ use Rattle.station_run.specs.declared.drill_tasks.DrillLane.{DrillLane}
 use Rattle.station_run.specs.declared.drill_tasks.DrillTask.{DrillTask}
 use Rattle.station_run.specs.declared.drill_tasks.DrillTask.TheVariants.{Lane, Ask}
 
--- they are the opening of a connection and all messages of these bytes, by the RFCs alone; it wasn't closed
+-- they are the opening of a connection, of which nothing is told, and all messages of these bytes, by the RFCs alone; it
+-- wasn't closed
 pub record IsTakenWhole (bytes : List ℕ) (entries : List EntryValue) : Type 0 where
   pub messages : List EntryValue
   pub offset : ℕ
   pub verdict : Verdict
   pub walk : WalksBy strict bytes messages offset verdict
-  pub is : entries ≡ opened ∷ messages
+  pub is : entries ≡ opened nothing_told ∷ messages
 
 -- they are the entries that the lane of this number makes of its stream, which is a list of octets
 pub record IsDrilled (seed messages lane : ℕ) (entries : List EntryValue) : Type 0 where

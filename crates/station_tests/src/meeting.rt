@@ -13,7 +13,8 @@ use cut_publisher::Ending;
 use disk_doors::MemDisk;
 use router_tables::RouterTables;
 use station_doors::{
-    Ended, FileFault, Link, LinkList, Listening, MemLink, MemPort, MemYard, Port, PortList, Yard,
+    Ended, FileFault, Link, LinkList, Listening, MemLink, MemPort, MemYard, Port, PortList, Told,
+    Yard,
 };
 use station_top::station;
 use std::alloc::Global;
@@ -122,6 +123,10 @@ impl<'a> Port for Router<'a> {
 
     fn close(&mut self) {
         self.port.close();
+    }
+
+    fn told(&self) -> Told {
+        Told::nothing()
     }
 
     fn ended(&mut self, _end: &Ended<'_>) {}

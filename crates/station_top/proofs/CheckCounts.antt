@@ -7,8 +7,10 @@ use Rattle.std.proofs.lemmas.List.{take_more, drop_more}
 use Rattle.std.proofs.lemmas.List.Sums.{sum_by-append, count_by-le-length}
 use Rattle.bmp_specs.specs.Check.{check_counts, check_lines, length_of, is_message, is_of_kind, is_of_other_kind}
 use Rattle.bmp_specs.specs.Lines.{number_line}
+use Rattle.bmp_specs.specs.Openings.{nothing_told}
 use Rattle.bmp_specs.specs.Reply.{told_count}
-use Rattle.bmp_specs.specs.Values.{EffectValue, EntryValue, opened, message}
+use Rattle.bmp_specs.specs.Values.{EffectValue, EntryValue, HeadValue, opened, message}
+use Rattle.bmp_message.specs.Effects.{HasTypeAndLength}
 use Rattle.station_top.specs.Check.{AreCounts, TellCounts, counts_more, lines_of, number_lines}
 use Rattle.station_top.specs.declared.counts.Counts.{Counts}
 
@@ -63,11 +65,11 @@ all : (c : Counts) (entries : List EntryValue) → Each c entries → AreCounts 
 all c entries h = record { counts = cc (h.messages, h.bytes, h.route_monitoring, h.statistics_report, h.peer_down, h.peer_up, h.initiation, h.termination, h.route_mirroring, h.other) }
 
 -- a message was counted
-pub counts_message : (c : Counts) (kind len : ℕ) (effects : List EffectValue) (entries : List EntryValue) → AreCounts c entries → AreCounts (counts_more c kind len) (entries ++ message kind len effects ∷ [])
-counts_message c kind len effects entries h =
+pub counts_message : (c : Counts) (head : HeadValue) (effects : List EffectValue) (entries : List EntryValue) → AreCounts c entries → AreCounts (counts_more c head.kind head.size) (entries ++ message head effects ∷ [])
+counts_message c head effects entries h =
     let e = each c entries h in
-    let m = message kind len effects in
-    all (counts_more c kind len) (entries ++ m ∷ []) (record {
+    let m = message head effects in
+    all (counts_more c head.kind head.size) (entries ++ m ∷ []) (record {
       messages = told_where entries m is_message c.messages e.messages;
       bytes = told_sum entries m length_of c.bytes e.bytes;
       route_monitoring = told_where entries m (is_of_kind 0) c.route_monitoring e.route_monitoring;
@@ -80,9 +82,11 @@ counts_message c kind len effects entries h =
       other = told_where entries m is_of_other_kind c.other e.other;
     })
 
--- a message of this type and length was counted, whatever its effects are
-pub takes_counted : (c now : Counts) (kind len : ℕ) → now ≡ counts_more c kind len → (e : EntryValue) → (effects : List EffectValue) × (e ≡ message kind len effects) → (entries : List EntryValue) → AreCounts c entries → AreCounts now (entries ++ e ∷ [])
-takes_counted c now kind len is e (effects, same) entries h = rw (is, same) (counts_message c kind len effects entries h)
+-- a message of this type and length was counted, whatever else it tells
+pub takes_counted : (c now : Counts) (kind len : ℕ) → now ≡ counts_more c kind len → (e : EntryValue) → HasTypeAndLength kind len e → (entries : List EntryValue) → AreCounts c entries → AreCounts now (entries ++ e ∷ [])
+takes_counted c now kind len is e has entries h =
+    let counts : now ≡ counts_more c has.head.kind has.head.size = is ∙ (λ i. counts_more c (sym has.kind_is i) (sym has.size_is i)) in
+    rw (counts, has.entry_is) (counts_message c has.head has.effects entries h)
 
 -- no count counts it
 record IsUncounted (e : EntryValue) : Type 0 where
@@ -112,8 +116,8 @@ uncounted c entries e none h = let each_one = each c entries h in all c (entries
     of_kind k = same (λ m. cond (is_of_kind k m) 1 0) (none.kind k)
 
 -- an opening is counted by none
-pub counts_opened : (c : Counts) → AreCounts c [] → AreCounts c (opened ∷ [])
-counts_opened c h = uncounted c [] opened (record { bytes = refl; message = refl; kind = λ k. refl; other = refl }) h
+pub counts_opened : (c : Counts) → AreCounts c [] → AreCounts c (opened nothing_told ∷ [])
+counts_opened c h = uncounted c [] (opened nothing_told) (record { bytes = refl; message = refl; kind = λ k. refl; other = refl }) h
 
 -- fewer than 2^64 entries and bytes are told as they are
 told_small : (n : ℕ) → n < 2 ^ 64 → told_count n ≡ n

@@ -7,6 +7,7 @@ use Rattle.bmp_specs.specs.declared.causes.Cause.TheVariants.{Ended, ReadFault}
 use Rattle.bmp_specs.proofs.Fronts.{read_no_further}
 use Rattle.bmp_specs.specs.Life.{LastRead, gave, gave_none, failed, most_taken, Given, HasCome}
 use Rattle.bmp_specs.specs.Meaning.{Meaning}
+use Rattle.bmp_specs.specs.Openings.{nothing_told}
 use Rattle.bmp_specs.specs.Values.{EntryValue, opened}
 use Rattle.wire_io.specs.declared.sink.Failed.{Failed}
 use Rattle.wire_io.specs.Aside.{Aside, Plan, fresh}
@@ -197,7 +198,7 @@ unopened_given a b r not o = at a.given b.given r not o.given
     at (Some gs) y (Err e) not g = g
 
 -- there was no connection: an empty one that ended
-pub takes_none : (meaning : Meaning) (Stands : List EntryValue → Type 0) (a b : Aside) (calls0 : ℕ) (taken : Taken) → Stands (opened ∷ []) → Opens a b (Ok false) → taken ≡ record { cause = Ended; revision = 1; bytes = 0 } → TakesInput meaning Stands a b calls0 taken
+pub takes_none : (meaning : Meaning) (Stands : List EntryValue → Type 0) (a b : Aside) (calls0 : ℕ) (taken : Taken) → Stands (opened nothing_told ∷ []) → Opens a b (Ok false) → taken ≡ record { cause = Ended; revision = 1; bytes = 0 } → TakesInput meaning Stands a b calls0 taken
 takes_none meaning Stands a b calls0 taken stands o is = rw is (record {
   input = record { bytes = []; last = gave_none };
   messages = [];
@@ -252,7 +253,7 @@ takes_none meaning Stands a b calls0 taken stands o is = rw is (record {
         }
 
 -- no connection could be opened: an empty one whose read failed
-pub takes_unopened : (meaning : Meaning) (Stands : List EntryValue → Type 0) (a b : Aside) (calls0 : ℕ) (e : Failed) (taken : Taken) → Stands (opened ∷ []) → Opens a b (Err e) → IfSome a.plan (λ p. p.fails ≡ [] → ⊥) → taken ≡ record { cause = ReadFault 0; revision = 1; bytes = 0 } → TakesInput meaning Stands a b calls0 taken
+pub takes_unopened : (meaning : Meaning) (Stands : List EntryValue → Type 0) (a b : Aside) (calls0 : ℕ) (e : Failed) (taken : Taken) → Stands (opened nothing_told ∷ []) → Opens a b (Err e) → IfSome a.plan (λ p. p.fails ≡ [] → ⊥) → taken ≡ record { cause = ReadFault 0; revision = 1; bytes = 0 } → TakesInput meaning Stands a b calls0 taken
 takes_unopened meaning Stands a b calls0 e taken stands o fails is = rw is (record {
   input = record { bytes = []; last = failed };
   messages = [];

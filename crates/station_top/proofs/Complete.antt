@@ -6,6 +6,7 @@ use Rattle.bmp_specs.specs.declared.causes.Cause.{Cause}
 use Rattle.bmp_specs.specs.Life.{gave_none, most_taken, Given, HasCome}
 use Rattle.bmp_specs.specs.Lines.{stop_line}
 use Rattle.bmp_specs.specs.Meaning.{Meaning}
+use Rattle.bmp_specs.specs.Openings.{nothing_told}
 use Rattle.bmp_specs.specs.Session.{session_effects}
 use Rattle.bmp_specs.specs.Values.{EntryValue, PrefixValue, opened}
 use Rattle.cut_publisher.specs.History.{Asker, Fed}
@@ -66,7 +67,7 @@ record IsReplied (meaning : Meaning) (Replies : List EntryValue → List ℕ →
   cause : Cause
   reply : List ℕ
   come : HasEntries meaning bytes messages cause
-  replies : Replies (opened ∷ messages) reply
+  replies : Replies (opened nothing_told ∷ messages) reply
   written : Appends told0 told1 (reply ++ stop_line cause)
   status_is : status ≡ status_of cause
 
@@ -112,8 +113,8 @@ module _ (meaning : Meaning) (yard : YardValue) (new : Option YardValue) (number
     messages : List EntryValue
     cause : Cause
     come : HasEntries meaning bytes messages cause
-    is_relayed : ((status ≡ Unwritable) × (AreWritable (session_effects (opened ∷ messages)) → ⊥) × (told1 ≡ told0))
-        ⊎ ((status ≡ status_of cause) × (stream : List ℕ) × IsRelayStream (session_effects (opened ∷ messages)) stream × ReadsBack (session_effects (opened ∷ messages)) stream × Appends told0 told1 stream)
+    is_relayed : ((status ≡ Unwritable) × (AreWritable (session_effects (opened nothing_told ∷ messages)) → ⊥) × (told1 ≡ told0))
+        ⊎ ((status ≡ status_of cause) × (stream : List ℕ) × IsRelayStream (session_effects (opened nothing_told ∷ messages)) stream × ReadsBack (session_effects (opened nothing_told ∷ messages)) stream × Appends told0 told1 stream)
 
   -- `relay`: the stream of what the whole connection left, or that it can't be relayed, or out of memory
   relay_whole : (told0 told1 : Option (List ℕ)) (status : Status) → RelayConcludes meaning (Some yard) new number told0 told1 status → (status ≡ WriteFault → ⊥)
@@ -128,7 +129,7 @@ module _ (meaning : Meaning) (yard : YardValue) (new : Option YardValue) (number
       let whole = subst (λ (p : Plan). HasEntries meaning (first_of p.connections) messages cause) here entries in
       by messages cause status' whole is_relayed calm
     where
-      by : (messages : List EntryValue) (cause : Cause) (s : Status) → HasEntries meaning (first_of plan.connections) messages cause → Relayed (session_effects (opened ∷ messages)) cause told0 told1 s → (s ≡ WriteFault → ⊥)
+      by : (messages : List EntryValue) (cause : Cause) (s : Status) → HasEntries meaning (first_of plan.connections) messages cause → Relayed (session_effects (opened nothing_told ∷ messages)) cause told0 told1 s → (s ≡ WriteFault → ⊥)
           → (s ≡ NoMemory) ⊎ IsRelayedWhole (first_of plan.connections) told0 told1 s
       by messages cause s come (wrote can stream is_stream reads grown) calm = inr (record { messages = messages; cause = cause; come = come; is_relayed = inr (refl, stream, is_stream, reads, grown) })
       by messages cause s come (unwritable cannot none) calm = inr (record { messages = messages; cause = cause; come = come; is_relayed = inl (refl, cannot, none) })

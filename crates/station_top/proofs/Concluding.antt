@@ -10,6 +10,7 @@ use Rattle.bmp_specs.specs.Life.{Given, HasCome}
 use Rattle.bmp_specs.specs.Lines.{stop_line}
 use Rattle.bmp_specs.specs.LenientBody.{meaning_of}
 use Rattle.bmp_specs.specs.Meaning.{Meaning}
+use Rattle.bmp_specs.specs.Openings.{nothing_told}
 use Rattle.bmp_specs.specs.Values.{EntryValue, opened}
 use Rattle.wire_io.specs.declared.sink.Failed.{Failed}
 use Rattle.wire_io.specs.Aside.{Aside, Plan}
@@ -68,15 +69,15 @@ breaks_off meaning shows calls old mid new number port after h breaks back = len
 
 -- The messages have fewer than 2^64 bytes, and with the opening they are at most 2^57.
 pub record AreFew (messages : List EntryValue) (revision : ℕ) : Type 0 where
-  pub bytes : sum_by length_of (opened ∷ messages) < 2 ^ 64
+  pub bytes : sum_by length_of (opened nothing_told ∷ messages) < 2 ^ 64
   pub count : revision ≤ 2 ^ 57
 
 -- so it is with those of an input
-pub few : (meaning : Meaning) (gives : GivesMessages meaning) (input : Given) (messages : List EntryValue) (cause : Cause) (revision : ℕ) → HasCome meaning input messages cause → revision ≡ length (opened ∷ messages) → AreFew messages revision
+pub few : (meaning : Meaning) (gives : GivesMessages meaning) (input : Given) (messages : List EntryValue) (cause : Cause) (revision : ℕ) → HasCome meaning input messages cause → revision ≡ length (opened nothing_told ∷ messages) → AreFew messages revision
 few meaning gives input messages cause revision come count =
     let long = walk_lengths meaning gives meaning.start input.bytes messages come.offset come.verdict come.walk in
     record {
-      bytes = omega (arith, sum_by-cons length_of opened messages, long.bytes, long.within, come.within);
+      bytes = omega (arith, sum_by-cons length_of (opened nothing_told) messages, long.bytes, long.within, come.within);
       count = omega (arith, count, long.count, long.within, come.within);
     }
 
@@ -95,7 +96,7 @@ module _ {O : Type 0} {faults : O → ℕ} {told : O → Option (List ℕ)} {asi
 
   -- the input was taken, and the reply was written
   pub concludes_replied : (meaning : Meaning) (Stands : List EntryValue → Type 0) (Replies : List EntryValue → List ℕ → Type 0) (old new : Option YardValue) (number : ℕ) (taken : Taken) (t : IsTaken meaning Stands old new number taken) (a b : O) (r : Result (Unit {0}) Failed) (status : Status)
-      → PutsReply faults told aside (IsStopped (Replies (opened ∷ t.messages)) taken.cause) a r b → OnOk r (status ≡ status_of taken.cause) → OnErr r (status ≡ WriteFault) → Concludes meaning Replies old new number (told a) (told b) status
+      → PutsReply faults told aside (IsStopped (Replies (opened nothing_told ∷ t.messages)) taken.cause) a r b → OnOk r (status ≡ status_of taken.cause) → OnErr r (status ≡ WriteFault) → Concludes meaning Replies old new number (told a) (told b) status
   concludes_replied meaning Stands Replies old new number taken t a b r status puts fine fault =
       let reply = puts.is_reply.0 in
       let w = subst (λ (text : List ℕ). Writes faults told aside a text r b) puts.is_reply.2 puts.written in

@@ -4,6 +4,7 @@ use Rattle.bmp_specs.specs.declared.causes.Why.{Why}
 use Rattle.bmp_specs.specs.declared.causes.Cause.TheVariants.{Terminated, Broken}
 use Rattle.bmp_specs.specs.Life.{EndsAt}
 use Rattle.bmp_specs.specs.Meaning.{Meaning}
+use Rattle.bmp_specs.specs.Openings.{nothing_told}
 use Rattle.bmp_specs.specs.Values.{EntryValue, opened}
 use Rattle.bmp_specs.specs.Walk.{broken}
 use Rattle.bmp_message.specs.StreamWalk.{WalkValue, HasReached, GoesOn}
@@ -13,7 +14,7 @@ use Rattle.bmp_message.specs.declared.walk.Progress.TheVariants as progress
 -- one more entry was noted
 noted_more : (Stands Next : List EntryValue → Type 0) (messages : List EntryValue) (e : EntryValue) (revision now : ℕ) → HasNoted Stands messages revision → ((es : List EntryValue) → Stands es → Next (es ++ e ∷ [])) → now ≡ min (revision + 1) (2 ^ 64 - 1)
     → HasNoted Next (messages ++ e ∷ []) now
-noted_more Stands Next messages e revision now n step more = record { noted = step (opened ∷ messages) n.noted; count = omega (arith, n.count, more, length-append messages (e ∷ [])) }
+noted_more Stands Next messages e revision now n step more = record { noted = step (opened nothing_told ∷ messages) n.noted; count = omega (arith, n.count, more, length-append messages (e ∷ [])) }
 
 module _ (R : Type 0) (meaning : Meaning) (state : R → meaning.State) (Stands : List EntryValue → Type 0) (fed : List ℕ) (walk : WalkValue R) (revision : ℕ) (h : HasDrawn meaning state Stands fed walk revision) (new : WalkValue R) {T : Type 0} (IsOf : T → EntryValue → Type 0) where
   pub draws_entry : (Next : List EntryValue → Type 0) (item : T) (now : ℕ) → ((given : List EntryValue) → HasReached meaning state fed given walk → GoesOn meaning state IsOf fed given new (progress.Message item))

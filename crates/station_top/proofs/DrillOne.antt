@@ -7,6 +7,7 @@ use Rattle.bmp_specs.specs.declared.peers.View.TheVariants.{InPre}
 use Rattle.bmp_specs.specs.declared.wire.Family.TheVariants.{V4}
 use Rattle.bmp_specs.specs.Meaning.{WalksBy}
 use Rattle.bmp_specs.specs.MessageEffects.{strict}
+use Rattle.bmp_specs.specs.Openings.{nothing_told}
 use Rattle.bmp_specs.specs.Query.{cut, routers, count}
 use Rattle.bmp_specs.specs.Selection.{select_all}
 use Rattle.bmp_specs.specs.Values.{EntryValue, opened}
@@ -67,7 +68,7 @@ entries_one seed messages lane es fs p q =
     let bytes : p.bytes ≡ q.bytes = drill_stream_one seed lane messages p.bytes q.bytes p.octets q.octets p.stream q.stream in
     let walk = subst (λ (l : List ℕ). WalksBy strict l p.taken.messages p.taken.offset p.taken.verdict) bytes p.taken.walk in
     let one = stream_one strict strict_exact q.bytes p.taken.messages q.taken.messages p.taken.offset q.taken.offset p.taken.verdict q.taken.verdict walk q.taken.walk in
-    p.taken.is ∙ ap (λ (ms : List EntryValue). opened ∷ ms) one.0 ∙ sym q.taken.is
+    p.taken.is ∙ ap (λ (ms : List EntryValue). opened nothing_told ∷ ms) one.0 ∙ sym q.taken.is
 
 module _ (seed lanes messages : ℕ) where
   -- what all lanes do

@@ -11,7 +11,9 @@ use Rattle.bmp_message.specs.Effects.{GivesMessages}
 
 -- an entry is as long as its message
 entry_length : (meaning : Meaning) (gives : GivesMessages meaning) (s next : meaning.State) (kind : ℕ) (frame body : List ℕ) (m : EntryValue) → IsFrame frame kind body → meaning.Means s kind body m next → length_of m ≡ length frame
-entry_length meaning gives s next kind frame body m is means = ap length_of (gives s next kind body m means).1 ∙ omega (arith, is.header, ap length is.body_is, length-drop 6 frame)
+entry_length meaning gives s next kind frame body m is means =
+    let has = gives s next kind body m means in
+    ap length_of has.entry_is ∙ has.size_is ∙ omega (arith, is.header, ap length is.body_is, length-drop 6 frame)
 
 -- the messages of a walk have as many bytes as its offset says, and each has one at least
 pub record IsAsLong (messages : List EntryValue) (offset len : ℕ) : Type 0 where

@@ -4,6 +4,7 @@ use Rattle.std.specs.Prelude.{OnOk, OnErr, IfOk}
 use Rattle.bmp_specs.specs.declared.causes.Cause.TheVariants as cause
 use Rattle.bmp_specs.specs.Lines.{stop_line}
 use Rattle.bmp_specs.specs.Meaning.{Meaning}
+use Rattle.bmp_specs.specs.Openings.{nothing_told}
 use Rattle.bmp_specs.specs.Values.{EntryValue, opened}
 use Rattle.disk_doors.specs.Disk.{DiskValue}
 use Rattle.query_eval.specs.Replies.{PutsReply}
@@ -54,7 +55,7 @@ content_taken meaning Stands content old new calls (Err e) t is none = tt
 module _ {O : Type 0} {faults : O → ℕ} {told : O → Option (List ℕ)} {aside : O → Aside} where
   -- the content was taken, and the reply was written
   pub recall_answers : (meaning : Meaning) (Stands : List EntryValue → Type 0) (Replies : List EntryValue → List ℕ → Type 0) (content : List ℕ) (taken : Taken) (t : IsRecalled meaning Stands content taken) (a b : O) (r : Result (Unit {0}) Failed) (status : Status)
-      → PutsReply faults told aside (IsStopped (Replies (opened ∷ t.messages)) taken.cause) a r b → OnOk r (status ≡ status_of taken.cause) → OnErr r (status ≡ WriteFault) → RecallAnswers meaning Replies content (told a) (told b) status
+      → PutsReply faults told aside (IsStopped (Replies (opened nothing_told ∷ t.messages)) taken.cause) a r b → OnOk r (status ≡ status_of taken.cause) → OnErr r (status ≡ WriteFault) → RecallAnswers meaning Replies content (told a) (told b) status
   recall_answers meaning Stands Replies content taken t a b r status puts fine fault =
       let reply = puts.is_reply.0 in
       let w = subst (λ (text : List ℕ). Writes faults told aside a text r b) puts.is_reply.2 puts.written in

@@ -18,15 +18,18 @@ use Rattle.bmp_specs.specs.Lines.{stop_line}
 use Rattle.bmp_specs.specs.Meaning.{Meaning}
 use Rattle.bmp_specs.specs.MessageBody.{IsRouteMonitoring, OfPeer, ReadingState, no_peers, route_monitoring}
 use Rattle.bmp_specs.specs.MessageEffects.{IsMessageEntry, effects_of}
+use Rattle.bmp_specs.specs.MessageHead.{IsHead}
+use Rattle.bmp_specs.specs.Openings.{nothing_told}
 use Rattle.bmp_specs.specs.PeerHeader.{HeaderValue, IsHeader, address_in, header_size, key_of}
 use Rattle.bmp_specs.specs.PeerUp.{IsUpWith}
 use Rattle.bmp_specs.specs.Rows.{HasRow, RowValue}
 use Rattle.bmp_specs.specs.Session.{session_effects}
 use Rattle.bmp_specs.specs.UpdateForms.{as_agreed}
-use Rattle.bmp_specs.specs.Values.{EffectValue, EntryValue, KeyValue, MessageValue, PeerInfoValue, UpdateValue, message, of_unknown_peer, of_unknown_type, opened, orphan, passed, routes, up}
+use Rattle.bmp_specs.specs.Values.{EffectValue, EntryValue, HeadValue, KeyValue, MessageValue, PeerInfoValue, UpdateValue, message, of_unknown_peer, of_unknown_type, opened, orphan, passed, routes, up}
 use Rattle.bmp_specs.specs.Walk.{HasWalked, Verdict, Walks, broken, terminated, termination, whole}
 use Rattle.bmp_specs.proofs.LenientStrict.{lenient_update}
-use Rattle.bmp_specs.proofs.MessageOne.{header_one, strict_exact}
+use Rattle.bmp_specs.proofs.MessageOne.{strict_exact}
+use Rattle.bmp_specs.proofs.OneHead.{header_one}
 use Rattle.bmp_specs.proofs.WalkOne.{walk_one}
 use Rattle.bmp_specs.proofs.WalkRead.{HasWalked-more, HasWalked-nil, HasWalked-stops, HasWalked-then}
 use Rattle.bmp_writer.specs.PeerUpMessage.{with_unextended}
@@ -223,31 +226,31 @@ nothing_follows_a_relayed_stream effects because bytes stream relayed =
     no_verdict one.2
 
 -- What is read of bytes is one: a stream that is read back as one session leaves that one's rows, peers and complete tables.
-same_left : (effects others : List EffectValue) (bytes : List ℕ) (a : ReadsBack effects bytes) (b : ReadsBack others bytes) → session_effects (opened ∷ a.entries) ≡ session_effects (opened ∷ b.entries)
+same_left : (effects others : List EffectValue) (bytes : List ℕ) (a : ReadsBack effects bytes) (b : ReadsBack others bytes) → session_effects (opened nothing_told ∷ a.entries) ≡ session_effects (opened nothing_told ∷ b.entries)
 same_left effects others bytes a b =
     let one = walk_one IsMessageEntry strict_exact no_peers bytes a.entries b.entries (length bytes) (length bytes) whole whole a.walk b.walk in
-    ap (λ (es : List EntryValue). session_effects (opened ∷ es)) one.0
+    ap (λ (es : List EntryValue). session_effects (opened nothing_told ∷ es)) one.0
 
 -- A row is lost: the stream of a session without it isn't what a relay writes of one with it.
 no_row_is_lost : (effects others : List EffectValue) (because : Cause) (bytes : List ℕ) (row : RowValue) → ReadsBack others bytes → HasRow effects row → (HasRow others row → ⊥) → Relayed effects because (Some []) (Some bytes) Done → ⊥
 no_row_is_lost effects others because bytes row reads has lacks relayed =
     let done = (wrote_all effects because bytes Done relayed refl).1 in
-    lacks ((reads.relayed.row row).0 (subst (λ (l : List EffectValue). HasRow l row) (same_left effects others bytes done reads) ((done.relayed.row row).1 has)))
+    lacks (((reads.relayed nothing_told).row row).0 (subst (λ (l : List EffectValue). HasRow l row) (same_left effects others bytes done reads) (((done.relayed nothing_told).row row).1 has)))
 
 -- A table that is not complete has a mark too many.
 no_mark_too_many : (effects others : List EffectValue) (because : Cause) (bytes : List ℕ) (key : KeyValue) (view : View) (family : Family) → ReadsBack others bytes → (IsComplete effects key view family → ⊥) → IsComplete others key view family
     → Relayed effects because (Some []) (Some bytes) Done → ⊥
 no_mark_too_many effects others because bytes key view family reads waits complete relayed =
     let done = (wrote_all effects because bytes Done relayed refl).1 in
-    waits ((done.relayed.complete key view family).0 (subst (λ (l : List EffectValue). IsComplete l key view family) (sym (same_left effects others bytes done reads)) ((reads.relayed.complete key view family).1 complete)))
+    waits (((done.relayed nothing_told).complete key view family).0 (subst (λ (l : List EffectValue). IsComplete l key view family) (sym (same_left effects others bytes done reads)) (((reads.relayed nothing_told).complete key view family).1 complete)))
 
 -- A peer that isn't up is told as up.
 no_peer_that_is_down : (effects others : List EffectValue) (because : Cause) (bytes : List ℕ) (key : KeyValue) (info : PeerInfoValue) → ReadsBack others bytes → ((was : PeerInfoValue) → IsUpWith effects key was → ⊥) → IsUpWith others key info
     → Relayed effects because (Some []) (Some bytes) Done → ⊥
 no_peer_that_is_down effects others because bytes key info reads down is_up relayed =
     let done = (wrote_all effects because bytes Done relayed refl).1 in
-    let left = (reads.relayed.up key (with_unextended info)).1 (info, is_up, refl) in
-    let told = (done.relayed.up key (with_unextended info)).0 (subst (λ (l : List EffectValue). IsUpWith l key (with_unextended info)) (sym (same_left effects others bytes done reads)) left) in
+    let left = ((reads.relayed nothing_told).up key (with_unextended info)).1 (info, is_up, refl) in
+    let told = ((done.relayed nothing_told).up key (with_unextended info)).0 (subst (λ (l : List EffectValue). IsUpWith l key (with_unextended info)) (sym (same_left effects others bytes done reads)) left) in
     down told.0 told.1
 
 -- ---- the lenient word
@@ -260,17 +263,19 @@ abbrev the_loc_rib : KeyValue
 the_loc_rib = record { kind = 3; distinguisher = 0; address = address_in V4 (replicate 16 0) }
 
 -- by the RFCs alone the routes of a peer that isn't up are an orphan
-strict_orphan : (body : List ℕ) (e : EntryValue) (s : ReadingState) → IsHeader (take header_size body) of_loc_rib → IsMessageEntry no_peers 0 body e s → e ≡ message 0 (6 + length body) (orphan ∷ [])
+strict_orphan : (body : List ℕ) (e : EntryValue) (s : ReadingState) → IsHeader (take header_size body) of_loc_rib → IsMessageEntry no_peers 0 body e s
+    → (head : HeadValue) × IsHead 0 body (orphan ∷ []) head × (e ≡ message head (orphan ∷ []))
 strict_orphan body e s is p =
     let same : p.means.header ≡ of_loc_rib = header_one (take header_size body) p.means.header of_loc_rib p.means.is is in
     let means : OfPeer route_monitoring no_peers of_loc_rib the_loc_rib (drop header_size body) p.value s =
     subst (λ (h : HeaderValue). MatchOption (key_of h) ((p.value ≡ of_unknown_type) × (s ≡ no_peers)) (λ key. OfPeer route_monitoring no_peers h key (drop header_size body) p.value s)) same p.means.means in
     let value : p.value ≡ of_unknown_peer = means.1 in
-    p.entry_is ∙ ap (λ (m : MessageValue). message 0 (6 + length body) (effects_of m)) value
+    (p.head, subst (λ (m : MessageValue). IsHead 0 body (effects_of m) p.head) value p.is_head, p.entry_is ∙ ap (λ (m : MessageValue). message p.head (effects_of m)) value)
 
 -- Leniently they imply the Peer Up of a Loc-RIB.
 lenient_up : (body : List ℕ) (u : UpdateValue) (e : EntryValue) (t : LenientState) → IsHeader (take header_size body) of_loc_rib → IsRouteMonitoring (implied_opens of_loc_rib) of_loc_rib (drop header_size body) u
-    → IsLenientEntry nothing_known 0 body e t → (more : List EffectValue) × (e ≡ message 0 (6 + length body) (up the_loc_rib (implied_info of_loc_rib) ∷ more))
+    → IsLenientEntry nothing_known 0 body e t
+    → (head : HeadValue) × (more : List EffectValue) × IsHead 0 body (up the_loc_rib (implied_info of_loc_rib) ∷ more) head × (e ≡ message head (up the_loc_rib (implied_info of_loc_rib) ∷ more))
 lenient_up body u e t is routes_are q =
     let same : q.means.header ≡ of_loc_rib = header_one (take header_size body) q.means.header of_loc_rib q.means.is is in
     let means : OfPeerLeniently route_monitoring nothing_known of_loc_rib the_loc_rib (drop header_size body) q.effects t =
@@ -278,8 +283,8 @@ lenient_up body u e t is routes_are q =
     by means
   where
     by : TellsRoutes nothing_known (implied_opens of_loc_rib) of_loc_rib the_loc_rib (drop header_size body) q.effects t ⊎ IsUnreadable nothing_known (implied_opens of_loc_rib) of_loc_rib the_loc_rib (drop header_size body) q.effects t
-        → (more : List EffectValue) × (e ≡ message 0 (6 + length body) (up the_loc_rib (implied_info of_loc_rib) ∷ more))
-    by (inl tells) = (effects_of (routes the_loc_rib Loc tells.update), q.entry_is ∙ ap (λ (l : List EffectValue). message 0 (6 + length body) l) tells.effects_are)
+        → (head : HeadValue) × (more : List EffectValue) × IsHead 0 body (up the_loc_rib (implied_info of_loc_rib) ∷ more) head × (e ≡ message head (up the_loc_rib (implied_info of_loc_rib) ∷ more))
+    by (inl tells) = (q.head, effects_of (routes the_loc_rib Loc tells.update), subst (λ (l : List EffectValue). IsHead 0 body l q.head) tells.effects_are q.is_head, q.entry_is ∙ ap (λ (l : List EffectValue). message q.head l) tells.effects_are)
     by (inr unreadable) = absurd (unreadable.none as_agreed u (lenient_update (implied_opens of_loc_rib) of_loc_rib (drop header_size body) u routes_are))
 
 -- A Loc-RIB of which no Peer Up told sends routes that can be read. What is read of them by the RFCs alone isn't what
@@ -287,7 +292,7 @@ lenient_up body u e t is routes_are q =
 lenient_is_another_meaning : (body : List ℕ) (u : UpdateValue) (e : EntryValue) (s : (meaning_of false).State) (t : (meaning_of true).State) → IsHeader (take header_size body) of_loc_rib
     → IsRouteMonitoring (implied_opens of_loc_rib) of_loc_rib (drop header_size body) u → (meaning_of false).Means (meaning_of false).start 0 body e s → (meaning_of true).Means (meaning_of true).start 0 body e t → ⊥
 lenient_is_another_meaning body u e s t is routes_are p q =
-    let strictly = strict_orphan body e s is p in
-    let (more, leniently) = lenient_up body u e t is routes_are q in
-    let both : message 0 (6 + length body) (orphan ∷ []) ≡ message 0 (6 + length body) (up the_loc_rib (implied_info of_loc_rib) ∷ more) = sym strictly ∙ leniently in
+    let (head, is_head, strictly) = strict_orphan body e s is p in
+    let (other, more, is_other, leniently) = lenient_up body u e t is routes_are q in
+    let both : message head (orphan ∷ []) ≡ message other (up the_loc_rib (implied_info of_loc_rib) ∷ more) = sym strictly ∙ leniently in
     cc

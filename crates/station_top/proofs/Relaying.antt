@@ -2,6 +2,7 @@
 use Rattle.std.proofs.Common.{◌≡◌, ℕ, List, ◌∷◌, Option, Result, Ok, Err, inl, inr, refl, sym, ◌∙◌}
 use Rattle.bmp_specs.specs.declared.causes.Cause.{Cause}
 use Rattle.bmp_specs.specs.Meaning.{Meaning}
+use Rattle.bmp_specs.specs.Openings.{nothing_told}
 use Rattle.bmp_specs.specs.Session.{session_effects}
 use Rattle.bmp_specs.specs.Values.{EffectValue, EntryValue, opened}
 use Rattle.wire_io.specs.Aside.{Aside}
@@ -26,9 +27,9 @@ module _ {O : Type 0} (faults : O → ℕ) (told : O → Option (List ℕ)) (asi
 
   -- the input was taken, and what it left is relayed
   pub relay_concludes : (meaning : Meaning) (Stands : List EntryValue → Type 0) (old new : Option YardValue) (number : ℕ) (taken : Taken) (t : IsTaken meaning Stands old new number taken) (a b : O) (r : Result (Unit {0}) EmitFault) (status : Status)
-      → Relays faults told aside (session_effects (opened ∷ t.messages)) a r b → status ≡ status_relayed r taken.cause → RelayConcludes meaning old new number (told a) (told b) status
+      → Relays faults told aside (session_effects (opened nothing_told ∷ t.messages)) a r b → status ≡ status_relayed r taken.cause → RelayConcludes meaning old new number (told a) (told b) status
   relay_concludes meaning Stands old new number taken t a b r status relays is =
-      rw is (relayed t.input t.messages taken.cause (status_relayed r taken.cause) t.come t.no_further t.lends (relayed_by (session_effects (opened ∷ t.messages)) taken.cause a b r relays))
+      rw is (relayed t.input t.messages taken.cause (status_relayed r taken.cause) t.come t.no_further t.lends (relayed_by (session_effects (opened nothing_told ∷ t.messages)) taken.cause a b r relays))
 
 -- the input was taken, and there was no memory for the tables
 pub relay_unsettled : (meaning : Meaning) (Stands : List EntryValue → Type 0) (old new : Option YardValue) (number : ℕ) (taken : Taken) (told : Option (List ℕ)) → IsTaken meaning Stands old new number taken → RelayConcludes meaning old new number told told NoMemory

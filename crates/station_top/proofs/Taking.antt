@@ -7,6 +7,7 @@ use Rattle.bmp_specs.specs.declared.causes.Cause.TheVariants.{ReadFault, Full}
 use Rattle.bmp_specs.proofs.Fronts.{read_no_further}
 use Rattle.bmp_specs.specs.Life.{LastRead, gave, gave_none, failed, most_taken, most_read, IsReadNoFurther, Given, cause_at_end}
 use Rattle.bmp_specs.specs.Meaning.{Meaning, WalksBy}
+use Rattle.bmp_specs.specs.Openings.{nothing_told}
 use Rattle.bmp_specs.specs.Values.{EntryValue, opened}
 use Rattle.bmp_specs.specs.Walk.{Verdict}
 use Rattle.wire_io.specs.declared.sink.Failed.{Failed}
@@ -96,7 +97,7 @@ pub record Taking {R : Type 0} (meaning : Meaning) (state : R → meaning.State)
   pub drained : IsDrained meaning state Stands goes.bytes walk revision
 
 -- nothing was taken
-pub taking_none : {R : Type 0} (meaning : Meaning) (state : R → meaning.State) (Stands : List EntryValue → Type 0) (a : Aside) (calls : ℕ) (walk : WalkValue R) → IsNew a → Stands (opened ∷ []) → HasReached meaning state [] [] walk → (walk.offset ≡ 0) × (walk.cutter.offset + length walk.cutter.pending ≡ 0) → Taking meaning state Stands a a calls calls 0 walk 1
+pub taking_none : {R : Type 0} (meaning : Meaning) (state : R → meaning.State) (Stands : List EntryValue → Type 0) (a : Aside) (calls : ℕ) (walk : WalkValue R) → IsNew a → Stands (opened nothing_told ∷ []) → HasReached meaning state [] [] walk → (walk.offset ≡ 0) × (walk.cutter.offset + length walk.cutter.pending ≡ 0) → Taking meaning state Stands a a calls calls 0 walk 1
 unfolding goes_none
 taking_none meaning state Stands a calls walk new first reached (place, none) = record {
   goes = goes_none a calls new;
@@ -110,7 +111,7 @@ taking_none meaning state Stands a calls walk new first reached (place, none) = 
 
 -- as many entries as there are: fewer than 64 bits hold
 exact : (meaning : Meaning) (gives : GivesMessages meaning) (Stands : List EntryValue → Type 0) (bytes : List ℕ) (messages : List EntryValue) (offset revision : ℕ) (v : Verdict) → length bytes ≤ most_taken → WalksBy meaning bytes messages offset v → HasNoted Stands messages revision
-    → revision ≡ length (opened ∷ messages)
+    → revision ≡ length (opened nothing_told ∷ messages)
 exact meaning gives Stands bytes messages offset revision v within w noted = let long = walk_lengths meaning gives meaning.start bytes messages offset v w in omega (arith, within, noted.count, long.count, long.within)
 
 -- a walk that waits was read no further

@@ -3,14 +3,15 @@ use Rattle.std.specs.Prelude.{◌≡◌, ℕ, List, ◌∷◌, length, Option, S
 use Rattle.bmp_specs.specs.declared.causes.Cause.{Cause}
 use Rattle.bmp_specs.specs.Life.{EndsBy}
 use Rattle.bmp_specs.specs.Meaning.{Meaning, WalksBy}
+use Rattle.bmp_specs.specs.Openings.{nothing_told}
 use Rattle.bmp_specs.specs.Reply.{told_count}
 use Rattle.bmp_specs.specs.Values.{EntryValue, opened}
 use Rattle.bmp_message.specs.StreamWalk.{WalkValue, HasReached, rest_of, verdict_with}
 
--- the account stands for the opening and these messages, so many entries
+-- the account stands for an opening of which nothing is told, and these messages, so many entries
 pub record HasNoted (Stands : List EntryValue → Type 0) (messages : List EntryValue) (revision : ℕ) : Type 0 where
-  pub noted : Stands (opened ∷ messages)
-  pub count : revision ≡ told_count (length (opened ∷ messages))
+  pub noted : Stands (opened nothing_told ∷ messages)
+  pub count : revision ≡ told_count (length (opened nothing_told ∷ messages))
 
 -- A walk of these bytes gave the messages that were noted, in this meaning of bodies. The state says what its reading
 -- knows.

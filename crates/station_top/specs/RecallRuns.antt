@@ -4,6 +4,7 @@ use Rattle.bmp_specs.specs.declared.causes.Cause.{Cause}
 use Rattle.bmp_specs.specs.Life.{gave_none, most_taken, Given, HasCome}
 use Rattle.bmp_specs.specs.Lines.{line, number_line, stop_line}
 use Rattle.bmp_specs.specs.Meaning.{Meaning}
+use Rattle.bmp_specs.specs.Openings.{nothing_told}
 use Rattle.bmp_specs.specs.Values.{EntryValue, opened}
 use Rattle.disk_doors.specs.Disk.{Rests}
 use Rattle.feed_archive.specs.Recovering.{Recovers, RecoverCause, FaultPlanned}
@@ -61,8 +62,8 @@ whole_input content = record { bytes = take most_taken content; last = gave_none
 pub record IsRecalled (meaning : Meaning) (Stands : List EntryValue → Type 0) (content : List ℕ) (taken : Taken) : Type 0 where
   pub messages : List EntryValue
   pub come : HasCome meaning (whole_input content) messages taken.cause
-  pub noted : Stands (opened ∷ messages)
-  pub count : taken.revision ≡ length (opened ∷ messages)
+  pub noted : Stands (opened nothing_told ∷ messages)
+  pub count : taken.revision ≡ length (opened nothing_told ∷ messages)
 
 -- the status and the text where there is no content
 abbrev pub status_unread : RecoverFault → Status
@@ -81,7 +82,7 @@ text_unread fault.NoMemory = []
 -- are the reply on some entries.
 pub data RecallMeans (meaning : Meaning) (Replies : List EntryValue → List ℕ → Type 0) (content : List ℕ) : Status → List ℕ → Type 0 where
   -- the reply on its opening and its messages, then the stop line
-  recalled : (messages : List EntryValue) (cause : Cause) (reply : List ℕ) → HasCome meaning (whole_input content) messages cause → Replies (opened ∷ messages) reply → RecallMeans meaning Replies content (status_of cause) (reply ++ stop_line cause)
+  recalled : (messages : List EntryValue) (cause : Cause) (reply : List ℕ) → HasCome meaning (whole_input content) messages cause → Replies (opened nothing_told ∷ messages) reply → RecallMeans meaning Replies content (status_of cause) (reply ++ stop_line cause)
   -- out of memory: nothing is written
   unrecalled : RecallMeans meaning Replies content NoMemory []
 

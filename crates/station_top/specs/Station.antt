@@ -11,6 +11,7 @@ use Rattle.bmp_specs.specs.Life.{IsReadNoFurther, Given, HasCome}
 use Rattle.bmp_specs.specs.Meaning.{Meaning}
 use Rattle.bmp_specs.specs.Query.{quit}
 use Rattle.bmp_specs.specs.Session.{session_effects}
+use Rattle.bmp_specs.specs.Openings.{nothing_told}
 use Rattle.bmp_specs.specs.Values.{EffectValue, EntryValue, PrefixValue, opened}
 use Rattle.relay_out.specs.Messages.{IsRelayStream, stream_items}
 use Rattle.relay_out.specs.Relayed.{ReadsBack}
@@ -152,7 +153,7 @@ pub data Runs (meaning : Meaning) (Replies : List EntryValue → List ℕ → Ty
   refused : Refuses old new number → Runs meaning Replies old new number YardFault []
   -- the input was taken, and no further than its walk goes: the reply on its opening and its messages, then the stop
   -- line, and the port is given back
-  replied : (input : Given) (messages : List EntryValue) (cause : Cause) (reply : List ℕ) → HasCome meaning input messages cause → IsReadNoFurther meaning input.bytes → Replies (opened ∷ messages) reply
+  replied : (input : Given) (messages : List EntryValue) (cause : Cause) (reply : List ℕ) → HasCome meaning input messages cause → IsReadNoFurther meaning input.bytes → Replies (opened nothing_told ∷ messages) reply
       → LendsWhereTold (λ plan shows. Comes meaning plan shows input messages cause) old new number → Runs meaning Replies old new number (status_of cause) (reply ++ stop_line cause)
   -- out of memory while the input was taken: nothing is written, and the port is given back, with what it gave until
   -- then
@@ -183,7 +184,7 @@ pub data RelayConcludes (meaning : Meaning) (old new : Option YardValue) (number
       → LendsWhereTold (λ plan shows. Comes meaning plan shows input messages cause) old new number → told1 ≡ told0 → RelayConcludes meaning old new number told0 told1 NoMemory
   -- the input was taken, and what its opening and its messages left is relayed
   relayed : (input : Given) (messages : List EntryValue) (cause : Cause) (status : Status) → HasCome meaning input messages cause → IsReadNoFurther meaning input.bytes
-      → LendsWhereTold (λ plan shows. Comes meaning plan shows input messages cause) old new number → Relayed (session_effects (opened ∷ messages)) cause told0 told1 status → RelayConcludes meaning old new number told0 told1 status
+      → LendsWhereTold (λ plan shows. Comes meaning plan shows input messages cause) old new number → Relayed (session_effects (opened nothing_told ∷ messages)) cause told0 told1 status → RelayConcludes meaning old new number told0 told1 status
 
 -- What a call comes to by its words and the yard, before anything is written: how many calls of the yard were made
 -- then, the status that is meant, and the text. Bodies mean what the call's reading says.
@@ -284,8 +285,8 @@ pub record IsTaken (meaning : Meaning) (Stands : List EntryValue → Type 0) (ol
   pub input : Given
   pub messages : List EntryValue
   pub come : HasCome meaning input messages taken.cause
-  pub noted : Stands (opened ∷ messages)
-  pub count : taken.revision ≡ length (opened ∷ messages)
+  pub noted : Stands (opened nothing_told ∷ messages)
+  pub count : taken.revision ≡ length (opened nothing_told ∷ messages)
   pub no_further : IsReadNoFurther meaning input.bytes
   pub lends : LendsWhereTold (λ plan shows. Comes meaning plan shows input messages taken.cause) old new number
 

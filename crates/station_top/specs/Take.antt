@@ -5,6 +5,7 @@ use Rattle.bmp_specs.specs.declared.causes.Cause.{Cause}
 use Rattle.bmp_specs.specs.declared.causes.Cause.TheVariants.{Ended, Terminated, CutShort, Broken, ReadFault, Full}
 use Rattle.bmp_specs.specs.Life.{LastRead, gave, gave_none, failed, most_taken, IsReadNoFurther, Given, HasCome}
 use Rattle.bmp_specs.specs.Meaning.{Meaning}
+use Rattle.bmp_specs.specs.Openings.{nothing_told}
 use Rattle.bmp_specs.specs.Values.{EntryValue, opened}
 use Rattle.wire_io.specs.Aside.{Aside, Plan}
 use Rattle.wire_io.specs.Faults.{Rose}
@@ -58,8 +59,8 @@ pub record Takes (meaning : Meaning) (Stands : List EntryValue → Type 0) (old 
   pub messages : List EntryValue
   pub took : TakesBytes meaning old new went0 went1 calls bytes last
   pub come : HasCome meaning (record { bytes = bytes; last = last }) messages taken.cause
-  pub noted : Stands (opened ∷ messages)
-  pub count : taken.revision ≡ length (opened ∷ messages)
+  pub noted : Stands (opened nothing_told ∷ messages)
+  pub count : taken.revision ≡ length (opened nothing_told ∷ messages)
   pub size : taken.bytes ≡ length bytes
   pub early : IsEarly taken.cause → (after : List ℕ) (at : LastRead) → length (bytes ++ after) ≤ most_taken → HasCome meaning (record { bytes = bytes ++ after; last = at }) messages taken.cause
 
@@ -180,8 +181,8 @@ pub record TakesInput (meaning : Meaning) (Stands : List EntryValue → Type 0) 
   pub input : Given
   pub messages : List EntryValue
   pub come : HasCome meaning input messages taken.cause
-  pub noted : Stands (opened ∷ messages)
-  pub count : taken.revision ≡ length (opened ∷ messages)
+  pub noted : Stands (opened nothing_told ∷ messages)
+  pub count : taken.revision ≡ length (opened nothing_told ∷ messages)
   pub size : taken.bytes ≡ length input.bytes
   pub no_further : IsReadNoFurther meaning input.bytes
   pub early : IsEarly taken.cause → (after : List ℕ) (at : LastRead) → length (input.bytes ++ after) ≤ most_taken → HasCome meaning (record { bytes = input.bytes ++ after; last = at }) messages taken.cause

@@ -1,5 +1,6 @@
 ghost use Rattle.std.specs.Prelude.{◌≡◌, ℕ, ◌∷◌, [], ◌++◌, ◌<◌, ◌≤◌, ◌^◌, List, IfOk, OnOk, length, sum_by};
 ghost use Rattle.bmp_specs.specs.Check.{length_of};
+ghost use Rattle.bmp_specs.specs.Openings.{nothing_told};
 ghost use Rattle.bmp_specs.specs.Values.{EntryValue, opened};
 ghost use Rattle.query_eval.specs.Replies.{PutsReply};
 
@@ -38,11 +39,11 @@ pub trait Account {
     /// It stands for these entries.
     ghost stands: { Self → List EntryValue → Type 0 };
 
-    /// The account of an opening.
+    /// The account of an opening of which nothing is told.
     fn begin(alloc: Global) -> Result<Self, NoMemory>
     where
         Self: Sized,
-        ensures { IfOk result (λ account. stands account (opened ∷ [])) };
+        ensures { IfOk result (λ account. stands account (opened nothing_told ∷ [])) };
 
     /// Notes what was made of the next message. Out of memory the account may only be dropped.
     fn note(&mut self, item: <Self::Wants as Reads>::Item) -> Result<(), NoMemory>

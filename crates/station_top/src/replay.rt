@@ -1,6 +1,7 @@
 //! The tables that the input leaves, brought up to date with many messages at once.
 
 ghost use Rattle.std.specs.Prelude.{◌++◌, ◌∷◌, [], List, IfOk, OnOk};
+ghost use Rattle.bmp_specs.specs.Openings.{nothing_told};
 ghost use Rattle.bmp_specs.specs.Values.{EntryValue, opened};
 ghost use Rattle.rib_model.specs.Entries.{entry_value};
 
@@ -9,7 +10,7 @@ use bmp_message::Entries;
 use cut_publisher::{Cut, CutLane};
 use query_eval::answer;
 use query_lang::Ask;
-use rib_model::Entry;
+use rib_model::{Entry, Opening};
 use router_tables::{Indexing, RouterTables, TablesBuilder};
 use std::alloc::Global;
 use std::mem;
@@ -34,7 +35,7 @@ pub struct Replay {
 // The bytes of an entry's message.
 fn bytes_of(entry: &Entry) -> u64 {
     match entry {
-        Entry::Message { length, .. } => *length as u64,
+        Entry::Message { head, .. } => head.length as u64,
         _ => 0,
     }
 }
@@ -42,9 +43,9 @@ fn bytes_of(entry: &Entry) -> u64 {
 impl Replay {
     ghost use Rattle.station_top.specs.Replay.{Gathers, Settled};
 
-    // The tables of an opening.
+    // The tables of an opening of which nothing is told.
     fn new(alloc: Global, indexing: Indexing) -> Result<Replay, NoMemory>
-        ensures { IfOk result (λ replay. Gathers replay (opened ∷ [])) }
+        ensures { IfOk result (λ replay. Gathers replay (opened nothing_told ∷ [])) }
     {
         let mut replay = Replay {
             alloc,
@@ -52,7 +53,7 @@ impl Replay {
             gathered: List::new(alloc),
             bytes: 0,
         };
-        replay.gather(Entry::Opened)?;
+        replay.gather(Entry::Opened(Opening::untold()))?;
         Ok(replay)
     }
 

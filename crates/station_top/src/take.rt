@@ -1,5 +1,6 @@
 ghost use Rattle.std.specs.Prelude.{◌≡◌, ℕ, List, ◌∷◌, [], IsTrue, IfOk, OnErr};
 ghost use Rattle.bmp_specs.specs.Life.{gave, cause_at_end};
+ghost use Rattle.bmp_specs.specs.Openings.{nothing_told};
 ghost use Rattle.bmp_specs.specs.Values.{opened};
 ghost use Rattle.wire_io.specs.Aside.{Plan};
 ghost use Rattle.station_doors.specs.Doors.{untouched};
@@ -70,7 +71,7 @@ fn take_bytes<P: Port, A: Account, R: BodyReading + Drop>(
     account: &mut A,
 ) -> Result<Taken, NoMemory>
     requires new { IsNew (P.aside port.old) }
-    requires opened { A.stands account.old (opened ∷ []) }
+    requires opened { A.stands account.old (opened nothing_told ∷ []) }
     ensures takes { IfOk result (Takes R.meaning (A.stands account.new) (P.aside port.old) (P.aside port.new) (P.went port.old) (P.went port.new) (P.calls port.old)) }
     ensures breaks { OnErr result ((bytes : List ℕ) × TakesBytes R.meaning (P.aside port.old) (P.aside port.new) (P.went port.old) (P.went port.new) (P.calls port.old) bytes gave) }
     ensures stays { P.stays port.new ≡ P.stays port.old }

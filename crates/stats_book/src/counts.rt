@@ -1,8 +1,8 @@
-ghost use Rattle.std.specs.Prelude.{◌≡◌, ℕ, [], ◌∷◌, ◌++◌, List};
+ghost use Rattle.std.specs.Prelude.{◌≡◌, [], ◌∷◌, ◌++◌, List};
 ghost use Rattle.bmp_specs.specs.Counts.{counts_of};
 ghost use Rattle.bmp_specs.specs.Session.{live, state_of};
 ghost use Rattle.bmp_specs.specs.Sums.{no_counts, sum_of, message_counts};
-ghost use Rattle.bmp_specs.specs.Values.{EffectValue, EntryValue, message};
+ghost use Rattle.bmp_specs.specs.Values.{EffectValue, EntryValue, HeadValue, message};
 
 use std::marker::Model;
 
@@ -58,9 +58,9 @@ impl Counts {
     pub fn add(&mut self, more: &Counts)
         ensures sums { self.new ≡ sum_of self.old more.now }
         // one more message of a session
-        ensures stands { (entries : List EntryValue) (kind len : ℕ) (effects : List EffectValue) → state_of entries ≡ live
-            → self.old ≡ counts_of entries → more.now ≡ message_counts len effects
-            → self.new ≡ counts_of (entries ++ message kind len effects ∷ []) }
+        ensures stands { (entries : List EntryValue) (head : HeadValue) (effects : List EffectValue) → state_of entries ≡ live
+            → self.old ≡ counts_of entries → more.now ≡ message_counts head.size effects
+            → self.new ≡ counts_of (entries ++ message head effects ∷ []) }
     {
         self.messages = self.messages.saturating_add(more.messages);
         self.bytes = self.bytes.saturating_add(more.bytes);

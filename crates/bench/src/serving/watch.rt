@@ -5,7 +5,7 @@ ghost use Rattle.station_doors.specs.Doors.{Opens, Reads, Closes, AsPlanned, rea
 
 use cut_publisher::{AskPass, snapshot};
 use router_tables::RouterTables;
-use station_doors::{Ended, Port, SurePort};
+use station_doors::{Ended, Port, SurePort, Told};
 use std::alloc::Global;
 use std::rt::Clock;
 use std::time::{Duration, Instant};
@@ -147,6 +147,10 @@ impl<'a, R: Clock> Port for Watch<'a, R> {
         self.end_pause();
         self.closed = Instant::now(self.rt).ok();
         self.port.close();
+    }
+
+    fn told(&self) -> Told {
+        Told::nothing()
     }
 
     fn ended(&mut self, _end: &Ended<'_>) {}

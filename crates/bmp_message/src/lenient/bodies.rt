@@ -4,10 +4,10 @@ ghost use Rattle.bmp_message.specs.Lenient.{lenient_state};
 
 use crate::BodyReading;
 use crate::dispatch::of_type;
+use crate::head::head_of;
 use crate::lenient::LenientReading;
 use crate::makes::WithEffects;
 use crate::types::MessageType;
-use bmp_frames::COMMON_HEADER;
 use rib_model::Entry;
 use std::alloc::Global;
 use wire_io::BodyFault;
@@ -20,7 +20,13 @@ impl BodyReading for LenientReading {
 
     ghost judge_wants = { λ _. ⊤ };
 
-    ghost gives_messages = { λ _ _ _ _ _ means. (means.effects, means.entry_is) };
+    ghost gives_messages = { λ _ _ _ _ _ means. record {
+      head = means.head;
+      effects = means.effects;
+      kind_is = means.is_head.kind_is;
+      size_is = means.is_head.size_is;
+      entry_is = means.entry_is;
+    } };
 
     #[inline]
     fn new(alloc: Global) -> LenientReading {
@@ -29,11 +35,8 @@ impl BodyReading for LenientReading {
 
     fn entry(&mut self, kind: u8, body: &[u8]) -> Result<Entry, BodyFault> {
         let effects = of_type::<LenientReading, WithEffects>(self, MessageType::of(kind), body)?;
-        Ok(Entry::Message {
-            kind,
-            length: COMMON_HEADER + body.len() as u32,
-            effects,
-        })
+        let head = head_of(kind, body, &effects);
+        Ok(Entry::Message { head, effects })
     }
 
     #[inline]

@@ -1,12 +1,11 @@
-ghost use Rattle.std.specs.Prelude.{◌≡◌, ◌≢◌, ◌≤◌, ◌+◌, ⊤, List, ℕ, length, IfOk, OnErr, IsErrOf};
-ghost use Rattle.bmp_specs.specs.Frame.{least};
-ghost use Rattle.bmp_specs.specs.Values.{EffectValue, EntryValue, message};
+ghost use Rattle.std.specs.Prelude.{◌≡◌, ◌≤◌, ⊤, ℕ, length, IfOk, OnErr, IsErrOf};
+ghost use Rattle.bmp_specs.specs.Values.{EntryValue};
 ghost use Rattle.peer_events.specs.Body.{most_body};
 ghost use Rattle.rib_model.specs.Entries.{entry_value};
-ghost use Rattle.bmp_message.specs.Effects.{MeansNoEntry};
+ghost use Rattle.bmp_message.specs.Effects.{HasTypeAndLength, MeansNoEntry};
 
 use crate::BodyReading;
-use bmp_frames::COMMON_HEADER;
+use crate::head::message_length;
 use rib_model::Entry;
 use wire_io::BodyFault;
 
@@ -56,18 +55,10 @@ pub struct Judged {
     pub length: u32,
 }
 
-// The length of the message with this body.
-fn message_length(body: &[u8]) -> u32
-    requires { length body.now ≤ most_body }
-    ensures { result ≡ least + length body.now }
-{
-    COMMON_HEADER + body.len() as u32
-}
-
 impl Reads for Judgements {
     type Item = Judged;
 
-    ghost is_of = { λ item entry. (effects : List EffectValue) × (entry ≡ message item.kind item.length effects) };
+    ghost is_of = { λ item entry. HasTypeAndLength item.kind item.length entry };
 
     ghost wants = { λ judge_wants kind. judge_wants kind };
 

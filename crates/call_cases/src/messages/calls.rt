@@ -1,7 +1,7 @@
 //! The calls on messages by their words.
 use super::{
-    addresses, attributes, code_tables, drills, forms, frames, lists, model, opens, paths, recent,
-    routes, steps, updates, walks, written,
+    addresses, attributes, code_tables, drills, forms, frames, heads, lists, model, opens, paths,
+    recent, routes, steps, updates, walks, written,
 };
 use crate::line::{Line, at};
 use bgp_update::UpdateReader;
@@ -13,6 +13,7 @@ enum Call {
     SharesReadTwice,
     Last,
     Frame,
+    Family,
     WritePieces,
     WriteSure,
     WriteToSlice,
@@ -43,6 +44,7 @@ enum Call {
     Fits,
     FitsNonzero,
     Walk,
+    Head,
     PutInitiation,
     PutMark,
     PutDown,
@@ -54,12 +56,13 @@ enum Call {
     ModelRows,
 }
 
-const CALLS: [(&str, Call); 44] = [
+const CALLS: [(&str, Call); 46] = [
     ("after", Call::After),
     ("shares", Call::Shares),
     ("shares-read-twice", Call::SharesReadTwice),
     ("last", Call::Last),
     ("frame", Call::Frame),
+    ("family", Call::Family),
     ("write-pieces", Call::WritePieces),
     ("write-sure", Call::WriteSure),
     ("write-to-slice", Call::WriteToSlice),
@@ -90,6 +93,7 @@ const CALLS: [(&str, Call); 44] = [
     ("fits", Call::Fits),
     ("fits-nonzero", Call::FitsNonzero),
     ("walk", Call::Walk),
+    ("head", Call::Head),
     ("put-initiation", Call::PutInitiation),
     ("put-mark", Call::PutMark),
     ("put-down", Call::PutDown),
@@ -132,6 +136,7 @@ fn on_updates(line: &mut Line, reader: &mut UpdateReader, call: Call, words: &[&
         Call::SharesReadTwice => updates::shares_read_twice(line, words),
         Call::Last => updates::last(line, words),
         Call::Frame => updates::framed(line, words),
+        Call::Family => updates::family(line, words),
         _ => on_lists(line, call, words),
     }
 }
@@ -192,6 +197,7 @@ fn on_attributes(line: &mut Line, call: Call, words: &[&str]) {
         Call::Fits => attributes::fits(line, words, false),
         Call::FitsNonzero => attributes::fits(line, words, true),
         Call::Walk => walks::walk(line, words),
+        Call::Head => heads::head(line, words),
         _ => on_written(line, call, words),
     }
 }

@@ -4,7 +4,7 @@ use super::words::{bytes_at, prefix_at, width_at};
 use crate::line::{Line, at};
 use bgp_update::{
     FramedUpdate, IdUse, NlriList, Update, UpdateReader, contained_routes, fits_family,
-    frame_update,
+    frame_update, unicast_family,
 };
 use ip_prefix::{Family, Nlri, Prefix};
 use path_attrs::{Attrs, Width};
@@ -147,6 +147,20 @@ fn put_frame(out: &mut Line, body: &[u8], ids: IdUse) {
 pub(crate) fn framed(out: &mut Line, words: &[&str]) {
     let body = bytes_at(out.alloc, words, 2);
     put_frame(out, body.as_slice(), ids_of(at(words, 1)));
+}
+
+// The family of an AFI and a SAFI, in hexadecimal.
+pub(crate) fn family(out: &mut Line, words: &[&str]) {
+    let codes = bytes_at(out.alloc, words, 1);
+    if codes.len() != 3 {
+        return out.put("no family");
+    }
+    let afi = u16::from_be_bytes([codes[0], codes[1]]);
+    match unicast_family(afi, codes[2]) {
+        Some(Family::V4) => out.put("4"),
+        Some(Family::V6) => out.put("6"),
+        None => out.put("none"),
+    }
 }
 
 // The last item of a list, and how many are left without it.

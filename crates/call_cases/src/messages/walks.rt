@@ -10,8 +10,18 @@ use rib_model::Entry;
 use std::alloc::Global;
 use wire_io::NoMemory;
 
-// The next message, as the one or the other reading gives it. An entry that is no message would be one of type 0 and
-// length 0 here.
+// The type and the length of a message. An entry that is no message would be one of type 0 and length 0 here.
+fn judged_of(entry: &Entry) -> Judged {
+    match entry {
+        Entry::Message { head, .. } => Judged {
+            kind: head.kind,
+            length: head.length,
+        },
+        _ => Judged { kind: 0, length: 0 },
+    }
+}
+
+// The next message, as the one or the other reading gives it.
 fn step(walk: &mut StreamWalk<Reading>, judges: bool) -> Result<Progress<Judged>, NoMemory>
     ensures { IfOk result (Advances walk.old walk.new) }
 {
@@ -19,10 +29,7 @@ fn step(walk: &mut StreamWalk<Reading>, judges: bool) -> Result<Progress<Judged>
         return walk.next::<Judgements>();
     }
     match walk.next::<Entries>()? {
-        Progress::Message(Entry::Message { kind, length, .. }) => {
-            Ok(Progress::Message(Judged { kind, length }))
-        }
-        Progress::Message(_) => Ok(Progress::Message(Judged { kind: 0, length: 0 })),
+        Progress::Message(entry) => Ok(Progress::Message(judged_of(&entry))),
         Progress::More => Ok(Progress::More),
         Progress::Terminated => Ok(Progress::Terminated),
         Progress::Broken(why) => Ok(Progress::Broken(why)),

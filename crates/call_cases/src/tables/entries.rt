@@ -6,7 +6,7 @@ use super::words::{long_at, peer_at, short_at, view_at};
 use crate::line::{at, behind, family_at, number_at, octet_at};
 use bmp_specs::Cause;
 use ip_prefix::{Nlri, parse_number};
-use rib_model::{Effect, EffectList, Entry};
+use rib_model::{Closing, Effect, EffectList, Entry, Head, Opening};
 use std::alloc::Global;
 use wire_io::List;
 use wire_tables::Stat;
@@ -131,13 +131,23 @@ fn put_effects(alloc: Global, effects: &mut EffectList, texts: &str) -> bool {
     is_well
 }
 
+// The head of a Route Monitoring message of a length, which tells nothing else.
+fn head_of(length: u32) -> Head {
+    Head {
+        kind: 0,
+        length,
+        peer: None,
+        reach: None,
+        unreach: None,
+    }
+}
+
 // The message of a length and its effects.
 fn message(alloc: Global, length: &str, texts: &str) -> Option<Entry> {
     let mut effects = EffectList::new(alloc);
     if put_effects(alloc, &mut effects, texts) {
         Some(Entry::Message {
-            kind: 0,
-            length: number_at(&[length], 0),
+            head: head_of(number_at(&[length], 0)),
             effects,
         })
     } else {
@@ -150,9 +160,9 @@ pub(crate) fn entry_of(alloc: Global, text: &str) -> Option<Entry> {
     match text.split_once(';') {
         Some((length, texts)) => message(alloc, length, texts),
         None => Some(if text == "open" {
-            Entry::Opened
+            Entry::Opened(Opening::untold())
         } else {
-            Entry::Closed(Cause::Ended)
+            Entry::Closed(Closing::untimed(Cause::Ended))
         }),
     }
 }

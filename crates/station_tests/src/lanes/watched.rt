@@ -10,7 +10,7 @@ use bmp_message::Reading;
 use cut_publisher::{AskList, AskPass, FeedPass, Naming, Publisher, Station, snapshot};
 use feed_worker::{LaneEnd, LanePort, serve_feed};
 use router_tables::RouterTables;
-use station_doors::{Ended, MemPort, Port};
+use station_doors::{Ended, MemPort, Port, Told};
 use std::alloc::Global;
 use std::marker::Brand;
 use std::sync::Wait;
@@ -125,6 +125,10 @@ impl Port for Watch {
     fn close(&mut self) {
         self.look(Call::Close);
         self.port.close();
+    }
+
+    fn told(&self) -> Told {
+        Told::nothing()
     }
 
     fn ended(&mut self, _end: &Ended<'_>) {}

@@ -11,7 +11,7 @@ publish_entries-requires-clause-room g c =
     let piece = c.args.piece.now in
     let gathered = c.in_ok-gathered.gathered in
     let gives = c.in_ok-gathered.ensures.gives (h.fed ++ piece) h.published.messages (c.in_ok-feed.ensures.run h.fed h.published.messages h.published.given.reached) in
-    rw c.as_slice.ensures (room_for g.B.BodyReading.meaning g.B.BodyReading.state h.first c.args.pass.now h.fed piece c.args.walk.now c.gather.new.walk h.published gathered.entries gathered.end gives h.room h.within)
+    rw c.as_slice.ensures (room_for g.B.BodyReading.meaning g.B.BodyReading.state h.came h.first c.args.pass.now h.fed piece c.args.walk.now c.gather.new.walk h.published gathered.entries gathered.end gives h.room h.within)
 
 pub published-requires : goal.published-requires
 published-requires g c =
@@ -30,14 +30,14 @@ tell_break-requires g c =
     rw c.published.ensures.aside (breaks_told g.B.BodyReading.meaning g.B.BodyReading.state _ (h.fed ++ piece) (p.messages ++ entry_values gathered.entries) c.gather.new.walk gathered.end c.follow.new.self.octets h.present gives front)
 
 pub returns-clause-published : goal.returns-clause-published
-returns-clause-published g c first fed p =
+returns-clause-published g c came first fed p =
     let piece = c.args.piece.now in
     let gathered = c.in_ok-gathered.gathered in
     let gives = c.in_ok-gathered.ensures.gives (fed ++ piece) p.messages (c.in_ok-feed.ensures.run fed p.messages p.given.reached) in
-    publishes g.B.BodyReading.meaning g.B.BodyReading.state first c.args.pass.now fed piece c.args.walk.now c.gather.new.walk p gathered.entries gathered.end gives c.publish_entries.new.pass (rw c.as_slice.ensures at c.in_ok-publish_entries.ensures)
+    publishes g.B.BodyReading.meaning g.B.BodyReading.state came first c.args.pass.now fed piece c.args.walk.now c.gather.new.walk p gathered.entries gathered.end gives c.publish_entries.new.pass (rw c.as_slice.ensures at c.in_ok-publish_entries.ensures)
 
 pub returns-clause-fronts : goal.returns-clause-fronts
-returns-clause-fronts g c first fed p front =
+returns-clause-fronts g c came first fed p front =
     let piece = c.args.piece.now in
     let gathered = c.in_ok-gathered.gathered in
     let gives = c.in_ok-gathered.ensures.gives (fed ++ piece) p.messages (c.in_ok-feed.ensures.run fed p.messages p.given.reached) in

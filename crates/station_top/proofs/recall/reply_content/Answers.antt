@@ -1,4 +1,5 @@
 use Rattle.std.proofs.Common.{◌∷◌}
+use Rattle.bmp_specs.specs.Openings.{nothing_told}
 use Rattle.bmp_specs.specs.Values.{opened}
 use Rattle.station_top.specs.RecallRuns.{whole_input}
 use Rattle.station_top.proofs.Concluding.{few, answers_write}
@@ -13,21 +14,21 @@ ready-requires g c =
 pub returns-in-Ok-ready-clause-answers : goal.returns-in-Ok-ready-clause-answers
 returns-in-Ok-ready-clause-answers g c =
     let t = c.in-Ok.ensures in
-    let tells = c.in-Ok-ready.ensures (opened ∷ t.messages) t.noted t.count (few g.R.BodyReading.meaning g.met.R.BodyReading.gives_messages (whole_input c.args.content) t.messages c.in-Ok.taken.cause c.in-Ok.taken.revision t.come t.count).bytes in
+    let tells = c.in-Ok-ready.ensures (opened nothing_told ∷ t.messages) t.noted t.count (few g.R.BodyReading.meaning g.met.R.BodyReading.gives_messages (whole_input c.args.content) t.messages c.in-Ok.taken.cause c.in-Ok.taken.revision t.come t.count).bytes in
     recall_answers g.R.BodyReading.meaning (g.A.Account.stands c.in-Ok.account) (g.A.Told.Replies.replies c.args.ask.now) c.args.content c.in-Ok.taken t c.args.out.now c.write_reply-write.new.out c.write_reply-write.result c.unless_failed.result
-    (c.write_reply-write.ensures (opened ∷ t.messages) tells) (rw c.status_after.ensures at c.unless_failed.ensures.fine) c.unless_failed.ensures.failed
+    (c.write_reply-write.ensures (opened nothing_told ∷ t.messages) tells) (rw c.status_after.ensures at c.unless_failed.ensures.fine) c.unless_failed.ensures.failed
 
 pub returns-in-Ok-ready-clause-out : goal.returns-in-Ok-ready-clause-out
 returns-in-Ok-ready-clause-out g c =
     let t = c.in-Ok.ensures in
-    let tells = c.in-Ok-ready.ensures (opened ∷ t.messages) t.noted t.count (few g.R.BodyReading.meaning g.met.R.BodyReading.gives_messages (whole_input c.args.content) t.messages c.in-Ok.taken.cause c.in-Ok.taken.revision t.come t.count).bytes in
-    answers_write c.in-Ok.taken.cause c.unless_failed.result _ _ c.write_reply-write.result (c.write_reply-write.ensures (opened ∷ t.messages) tells).written.cause (rw c.status_after.ensures at c.unless_failed.ensures.fine) c.unless_failed.ensures.failed
+    let tells = c.in-Ok-ready.ensures (opened nothing_told ∷ t.messages) t.noted t.count (few g.R.BodyReading.meaning g.met.R.BodyReading.gives_messages (whole_input c.args.content) t.messages c.in-Ok.taken.cause c.in-Ok.taken.revision t.come t.count).bytes in
+    answers_write c.in-Ok.taken.cause c.unless_failed.result _ _ c.write_reply-write.result (c.write_reply-write.ensures (opened nothing_told ∷ t.messages) tells).written.cause (rw c.status_after.ensures at c.unless_failed.ensures.fine) c.unless_failed.ensures.failed
 
 pub returns-in-Ok-ready-clause-aside : goal.returns-in-Ok-ready-clause-aside
 returns-in-Ok-ready-clause-aside g c =
     let t = c.in-Ok.ensures in
-    let tells = c.in-Ok-ready.ensures (opened ∷ t.messages) t.noted t.count (few g.R.BodyReading.meaning g.met.R.BodyReading.gives_messages (whole_input c.args.content) t.messages c.in-Ok.taken.cause c.in-Ok.taken.revision t.come t.count).bytes in
-    (c.write_reply-write.ensures (opened ∷ t.messages) tells).written.kept
+    let tells = c.in-Ok-ready.ensures (opened nothing_told ∷ t.messages) t.noted t.count (few g.R.BodyReading.meaning g.met.R.BodyReading.gives_messages (whole_input c.args.content) t.messages c.in-Ok.taken.cause c.in-Ok.taken.revision t.come t.count).bytes in
+    (c.write_reply-write.ensures (opened nothing_told ∷ t.messages) tells).written.kept
 
 pub returns-in-Err-ready-clause-answers : goal.returns-in-Err-ready-clause-answers
 returns-in-Err-ready-clause-answers g c = recall_starved g.R.BodyReading.meaning (g.A.Told.Replies.replies c.args.ask.now) c.args.content (g.O.Sink.told c.args.out.now)

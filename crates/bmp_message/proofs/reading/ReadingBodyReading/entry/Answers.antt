@@ -1,17 +1,13 @@
-use Rattle.std.proofs.Common.{◌+◌, List, length, subst}
 use Rattle.std.proofs.lemmas.Result.{err_from_is_err_and}
-use Rattle.bmp_specs.specs.MessageEffects.{IsMessageEntry}
-use Rattle.bmp_specs.specs.Values.{EffectValue, message}
 use Rattle.wire_io.proofs.Faults.{broken_below}
 use Rattle.bmp_message.specs.State.{reading_state}
-use Rattle.bmp_message.proofs.Judging.{has_entry, no_entry}
+use Rattle.bmp_message.proofs.Judging.{is_entry, no_entry}
 use Rattle.bmp_message.proofs.reading.ReadingBodyReading.entry.Goals as goal
 
 pub returns-clause-ok : goal.returns-clause-ok
 returns-clause-ok c =
     let made = c.in_ok-effects.ensures.ok in
-    subst (λ (es : List EffectValue). IsMessageEntry (reading_state c.args.self.now) c.args.kind c.args.body.now (message c.args.kind (6 + length c.args.body.now) es) (reading_state c.of_type.new.reading)) made.1
-    (has_entry (reading_state c.args.self.now) c.args.body.now c.args.kind _ c.of.ensures made.0 (reading_state c.of_type.new.reading) made.2)
+    is_entry (reading_state c.args.self.now) c.args.body.now c.args.kind _ c.of.ensures made.0 _ _ (reading_state c.of_type.new.reading) made.1 c.head_of-head.ensures made.2
 
 pub returns-in_err-effects-clause-broken : goal.returns-in_err-effects-clause-broken
 returns-in_err-effects-clause-broken c =

@@ -7,7 +7,7 @@ use Rattle.station_doors.proofs.mem_yard.MemYardYard.port.Goals as goal
 
 pub returns-clause-told : goal.returns-clause-told
 returns-clause-told g c =
-    let no : (Contains c.self.inside.fails.items c.self.inside.calls → ⊥) = search rules in
+    let no : (Contains c.self.inside.fails.items c.self.inside.calls → ⊥) = search (rules, c.contains.ensures.cases, c.contains.ensures.value, c.if-contains.false, c.deref.ensures) in
     let some : 0 < length c.self.inside.ports.items = search rules in
     let first = handed c.self.inside.ports.items c.remove-port.result some c.self.invariant.0 in
     let port = c.remove-port.result in

@@ -8,4 +8,4 @@ pub returns-in-Ok-clause-ok : goal.returns-in-Ok-clause-ok
 returns-in-Ok-clause-ok g c =
     let m = c.in-Ok.ensures.ok in
     let is = g.met.R.BodyReading.gives_messages (g.R.BodyReading.state c.args.reading.now) (g.R.BodyReading.state c.judge.new.self) c.args.kind c.args.body.now m.0 m.1 in
-    (m.0, (is.0, rw c.message_length.ensures is.1), m.1)
+    (m.0, rw c.message_length.ensures is, m.1)
