@@ -5,7 +5,7 @@ use Rattle.std.specs.Prelude.{codes, sum_by}
 use Rattle.std.proofs.lemmas.List.{get_or-append_right, take-append-le}
 use Rattle.std.proofs.lemmas.List.Elements.{All-nil, All-cons}
 use Rattle.ask_specs.specs.AskReply.{IsAskReply}
-use Rattle.ask_specs.specs.Asking.{AskValue, plain, rows, steps, full_marks}
+use Rattle.ask_specs.specs.Asking.{AskValue, plain, rows, steps, full_marks, full_routers}
 use Rattle.ask_specs.specs.Offer.{IsOfferedAsk}
 use Rattle.ask_specs.specs.Traits.{no_traits}
 use Rattle.ask_specs.proofs.OfferLaws.{offers_plain}
@@ -75,6 +75,7 @@ asked_reply (plain query) all text r = (r.lines, r.told)
 asked_reply (rows s f query traits) all text r = (r.lines, r.told)
 asked_reply (steps f lane from prefix) all text r = (r.lines, r.told)
 asked_reply (full_marks select) all text r = (r.lines, r.told)
+asked_reply full_routers all text r = (r.lines, r.told)
 
 no_error : (ask : AskValue) (lanes : ℕ) (history : History) → IsAskReplyOn ask lanes history error_query → ⊥
 no_error ask lanes history r = absurd (omega (arith, ap (λ (l : List ℕ). get_or l 0 0) (asked_reply ask (lanes_of lanes history) error_query r).1))

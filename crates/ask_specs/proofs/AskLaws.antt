@@ -1,16 +1,16 @@
 -- Plain lines have their one meaning, and each line has one meaning at most.
 use Rattle.std.proofs.Common.{◌≡◌, ℕ, Bool, true, false, List, [], ◌∷◌, ◌++◌, All, Option, Some, None, codes, get_or, refl, sym, ap, subst, ◌∙◌, arith, append-nil}
 use Rattle.std.specs.List.{join_with_byte}
-use Rattle.std.proofs.lemmas.Bool.{true≢false}
 use Rattle.std.proofs.lemmas.List.Elements.{All-nil, All-cons, All-head, All-tail}
 use Rattle.bmp_specs.specs.PrefixText.{IsPrefixText}
 use Rattle.bmp_specs.specs.Query.{QueryValue, exact, marks, AreQueryWords, IsQuery, IsSelector, IsWord, space}
 use Rattle.bmp_specs.specs.Selection.{SelectValue, select_all}
 use Rattle.bmp_specs.specs.Values.{PrefixValue}
-use Rattle.ask_specs.specs.Asking.{AskValue, plain, rows, steps, full_marks, AreAskWords, AreFullMarksWords, AreRowsWords, AreStepsWords, AreTraits, AsksOne, AsksOneQuery, AsksForRows, IsAsk, IsConservative, IsFlag, IsPrefixWord}
+use Rattle.ask_specs.specs.Asking.{AskValue, plain, rows, steps, full_marks, full_routers, AreAskWords, AreFullMarksWords, AreRowsWords, AreStepsWords, AreTraits, AsksOne, AsksOneQuery, AsksForRows, IsAsk, IsConservative, IsPrefixWord}
 use Rattle.ask_specs.specs.Traits.{CommunityValue, TraitsValue, no_traits}
 use Rattle.ask_specs.specs.TraitText.{IsThroughText, IsCommunityText, IsTypeText}
-use Rattle.ask_specs.proofs.PlainWords.{ArePaired, IsHeaded, IsPlain, is_front, headed, alone, told_changes, by_one, by_two, headed_front, headed_one, marks_headed, not_changes, plain_bare, plain_changes, plain_front, query_plain, rows_headed, traits_paired}
+use Rattle.ask_specs.proofs.PlainWords.{ArePaired, IsHeaded, IsPlain, is_front, headed, alone, told_changes, by_one, by_two, headed_one, marks_headed, not_changes, plain_bare, plain_changes, plain_front, query_plain, rows_headed, traits_paired}
+use Rattle.ask_specs.proofs.FrontWords.{Begins, behind_flag, changes_no_front, differ_first, flag_one, headed_no_front, none_begins, not_routers, other_selector, routers_no_front, selector_one}
 use Rattle.ask_specs.proofs.CommunityOne.{community_one}
 use Rattle.ask_specs.proofs.TraitOne.{number_one, through_one, type_one}
 use Rattle.ask_specs.proofs.WordLaws.{Lacks, join_one, word_is_free, words_lack}
@@ -86,6 +86,9 @@ steps_further false lane from (Some prefix) words are = absurd are.is_further
 marks_further : (select : SelectValue) (words : List (List ℕ)) → AreFullMarksWords select words → IsFurther words
 marks_further select words are = fronted (codes "full") are.marks_words are.spelled refl
 
+routers_further : (words : List (List ℕ)) → words ≡ codes "full" ∷ codes "routers" ∷ [] → IsFurther words
+routers_further words is = fronted (codes "full") (codes "routers" ∷ []) is refl
+
 headed_some : (words : List (List ℕ)) → IsHeaded words → SomeWord words
 headed_some words (by_one v rest is front n p) = (v, rest, is)
 headed_some words (by_two v t rest is front n p) = (v, t ∷ rest, is)
@@ -105,6 +108,7 @@ ask_some (plain query) words are = plain_some words (query_plain query words are
 ask_some (rows s f query traits) words are = further_some words (rows_further s f query traits words are)
 ask_some (steps f lane from prefix) words are = further_some words (steps_further f lane from prefix words are)
 ask_some (full_marks select) words are = further_some words (marks_further select words are)
+ask_some full_routers words are = further_some words (routers_further words are)
 
 -- ---- plain lines
 module _ (one : AsksOneQuery) where
@@ -125,6 +129,11 @@ module _ (one : AsksOneQuery) where
       let old = query_plain query is.words is.asks in
       let same = words_one line asked.words is.words (further_some asked.words fresh) (plain_some is.words old) asked.are_words is.are_words asked.joined is.joined in
       absurd (further_not_plain is.words (subst IsFurther same fresh) old)
+  only_plain line query full_routers is asked =
+      let fresh = routers_further asked.words asked.asks in
+      let old = query_plain query is.words is.asks in
+      let same = words_one line asked.words is.words (further_some asked.words fresh) (plain_some is.words old) asked.are_words is.are_words asked.joined is.joined in
+      absurd (further_not_plain is.words (subst IsFurther same fresh) old)
 
   plain_still : (line : List ℕ) (query : QueryValue) → IsQuery line query → IsAsk line (plain query)
   plain_still line query is = record { words = is.words; are_words = is.are_words; joined = is.joined; asks = is.asks }
@@ -133,62 +142,6 @@ module _ (one : AsksOneQuery) where
   conservative line query ask is = (only_plain line query ask is, λ same. subst (IsAsk line) (sym same) (plain_still line query is))
 
 -- ---- lines of more
--- the words don't begin with this one
-abbrev pub Begins : List ℕ → List (List ℕ) → Type 0
-Begins word words = (rest : List (List ℕ)) × (words ≡ word ∷ rest)
-
-pub flag_one : (word : List ℕ) (s t : Bool) (u v x y : List (List ℕ)) → IsFlag word s u → IsFlag word t v → ¬ (Begins word x) → ¬ (Begins word y) → u ++ x ≡ v ++ y → (s ≡ t) × (x ≡ y)
-flag_one word true true u v x y p q no_x no_y e =
-    let whole : word ∷ x ≡ word ∷ y = ap (λ (l : List (List ℕ)). l ++ x) (sym p) ∙ e ∙ ap (λ (l : List (List ℕ)). l ++ y) q in
-    (refl, cc)
-flag_one word false false u v x y p q no_x no_y e = (refl, ap (λ (l : List (List ℕ)). l ++ x) (sym p) ∙ e ∙ ap (λ (l : List (List ℕ)). l ++ y) q)
-flag_one word true false u v x y p q no_x no_y e = absurd (no_y (x, sym (ap (λ (l : List (List ℕ)). l ++ x) (sym p) ∙ e ∙ ap (λ (l : List (List ℕ)). l ++ y) q)))
-flag_one word false true u v x y p q no_x no_y e = absurd (no_x (y, ap (λ (l : List (List ℕ)). l ++ x) (sym p) ∙ e ∙ ap (λ (l : List (List ℕ)). l ++ y) q))
-
-pub full_isnt_steps : ¬ (codes "full" ≡ codes "steps")
-full_isnt_steps e = omega (arith, ap (λ (l : List ℕ). get_or l 0 0) e)
-
--- what stands behind `full` doesn't begin with `steps`, with or without `full`
-pub behind_flag : (f : Bool) (words x : List (List ℕ)) → IsFlag (codes "full") f words → ¬ (Begins (codes "steps") x) → ¬ (Begins (codes "steps") (words ++ x))
-behind_flag true words x is other (rest, e) =
-    let whole : codes "full" ∷ x ≡ codes "steps" ∷ rest = ap (λ (l : List (List ℕ)). l ++ x) (sym is) ∙ e in
-    let same : codes "full" ≡ codes "steps" = cc in
-    full_isnt_steps same
-behind_flag false words x is other (rest, e) = other (rest, ap (λ (l : List (List ℕ)). l ++ x) (sym is) ∙ e)
-
-pub headed_no_front : (a x : List (List ℕ)) (word : List ℕ) → IsHeaded a → is_front word ≡ true → ¬ (Begins word (a ++ x))
-headed_no_front a x word h new (rest, e) = headed_front a x rest word h new e
-
-pub changes_no_front : (word : List ℕ) (x : List (List ℕ)) → is_front word ≡ true → ¬ (Begins word (codes "changes" ∷ x))
-changes_no_front word x new (rest, e) =
-    let first : codes "changes" ≡ word = cc in
-    let old : is_front (codes "changes") ≡ false = refl in
-    true≢false (sym new ∙ ap is_front (sym first) ∙ old)
-
--- a selector that is named, or none, is told from what follows
-pub selector_one : {A : Type 0} (word : List ℕ) (IsText : List ℕ → A → Type 0) → ((text : List ℕ) (a b : A) → IsText text a → IsText text b → a ≡ b) → (v w : Option A) (a b x y : List (List ℕ))
-    → IsSelector word IsText v a → IsSelector word IsText w b → ¬ (Begins word x) → ¬ (Begins word y) → a ++ x ≡ b ++ y → (v ≡ w) × (x ≡ y)
-selector_one word IsText only None None a b x y p q no_x no_y e = (refl, ap (λ (l : List (List ℕ)). l ++ x) (sym p) ∙ e ∙ ap (λ (l : List (List ℕ)). l ++ y) q)
-selector_one word IsText only None (Some w) a b x y p (text, is, q) no_x no_y e = absurd (no_x (text ∷ y, ap (λ (l : List (List ℕ)). l ++ x) (sym p) ∙ e ∙ ap (λ (l : List (List ℕ)). l ++ y) q))
-selector_one word IsText only (Some v) None a b x y (text, is, p) q no_x no_y e = absurd (no_y (text ∷ x, sym (ap (λ (l : List (List ℕ)). l ++ x) (sym p) ∙ e ∙ ap (λ (l : List (List ℕ)). l ++ y) q)))
-selector_one {A = A} word IsText only (Some v) (Some w) a b x y (text, is, p) (said, said_is, q) no_x no_y e =
-    let whole : word ∷ text ∷ x ≡ word ∷ said ∷ y = ap (λ (l : List (List ℕ)). l ++ x) (sym p) ∙ e ∙ ap (λ (l : List (List ℕ)). l ++ y) q in
-    let same : text ≡ said = cc in
-    (ap (λ (z : A). Some z) (only said v w (subst (λ (l : List ℕ). IsText l v) same is) said_is), cc)
-
--- another selector in front doesn't begin with the word
-pub other_selector : {A : Type 0} (word other : List ℕ) (IsText : List ℕ → A → Type 0) (v : Option A) (a x : List (List ℕ)) → ¬ (other ≡ word) → IsSelector other IsText v a → ¬ (Begins word x) → ¬ (Begins word (a ++ x))
-other_selector word other IsText None a x differs p no_x (rest, e) = no_x (rest, ap (λ (l : List (List ℕ)). l ++ x) (sym p) ∙ e)
-other_selector word other IsText (Some v) a x differs (text, is, p) no_x (rest, e) =
-    let whole : other ∷ text ∷ x ≡ word ∷ rest = ap (λ (l : List (List ℕ)). l ++ x) (sym p) ∙ e in
-    differs cc
-
-pub none_begins : (word : List ℕ) → ¬ (Begins word [])
-none_begins word (rest, e) = absurd cc
-
-pub differ_first : (a b : List ℕ) → ¬ (get_or a 0 0 ≡ get_or b 0 0) → ¬ (a ≡ b)
-differ_first a b other same = other (ap (λ (l : List ℕ). get_or l 0 0) same)
-
 traits_one : (s t : TraitsValue) (words : List (List ℕ)) → AreTraits s words → AreTraits t words → s ≡ t
 traits_one s t words p q =
     let community_no_through : (v : Option CommunityValue) (a x : List (List ℕ)) → IsSelector (codes "community") IsCommunityText v a → ¬ (Begins (codes "through") x) → ¬ (Begins (codes "through") (a ++ x)) =
@@ -329,6 +282,29 @@ module _ (one : AsksOneQuery) where
       let selects : a ≡ b = cc in
       ap full_marks selects
 
+  rows_or_routers : (words : List (List ℕ)) (s f : Bool) (query : QueryValue) (traits : TraitsValue) → AreRowsWords s f query traits words → ¬ (words ≡ codes "full" ∷ codes "routers" ∷ [])
+  rows_or_routers words s f query traits p is =
+      let hp = rows_headed query p.query_words p.asks p.is_query in
+      let first = flag_one (codes "steps") s false p.steps_words [] (p.full_words ++ (p.query_words ++ p.traits_words)) (codes "full" ∷ codes "routers" ∷ []) p.is_steps refl
+      (behind_flag f p.full_words (p.query_words ++ p.traits_words) p.is_full (headed_no_front p.query_words p.traits_words (codes "steps") hp refl))
+      (behind_flag true (codes "full" ∷ []) (codes "routers" ∷ []) refl (routers_no_front (codes "steps") refl)) (sym p.spelled ∙ is) in
+      let second = flag_one (codes "full") f true p.full_words (codes "full" ∷ []) (p.query_words ++ p.traits_words) (codes "routers" ∷ []) p.is_full refl
+      (headed_no_front p.query_words p.traits_words (codes "full") hp refl) (routers_no_front (codes "full") refl) first.1 in
+      not_routers p.query_words p.traits_words hp second.1
+
+  steps_or_routers : (words : List (List ℕ)) (f : Bool) (lane from : ℕ) (prefix : Option PrefixValue) → AreStepsWords f lane from prefix words → ¬ (words ≡ codes "full" ∷ codes "routers" ∷ [])
+  steps_or_routers words f lane from prefix p is =
+      let tail = p.lane_text ∷ p.from_text ∷ p.prefix_words in
+      let second = flag_one (codes "full") f true p.full_words (codes "full" ∷ []) (codes "changes" ∷ tail) (codes "routers" ∷ []) p.is_full refl
+      (changes_no_front (codes "full") tail refl) (routers_no_front (codes "full") refl) (sym p.spelled ∙ is) in
+      differ_first (codes "changes") (codes "routers") (λ e. omega (arith, e)) (let whole = second.1 in cc)
+
+  marks_or_routers : (words : List (List ℕ)) (select : SelectValue) → AreFullMarksWords select words → ¬ (words ≡ codes "full" ∷ codes "routers" ∷ [])
+  marks_or_routers words select p is =
+      let whole : codes "full" ∷ p.marks_words ≡ codes "full" ∷ codes "routers" ∷ [] = sym p.spelled ∙ is in
+      let rest : p.marks_words ≡ codes "routers" ∷ [] = cc in
+      not_routers p.marks_words [] (marks_headed select p.marks_words p.are_marks) (append-nil p.marks_words ∙ rest)
+
   words_ask_one : (words : List (List ℕ)) (a b : AskValue) → All IsWord words → AreAskWords a words → AreAskWords b words → a ≡ b
   words_ask_one words (plain p) (plain q) all x y = ap plain (query_one words p q all x y)
   words_ask_one words (plain p) (rows s f q t) all x y = absurd (further_not_plain words (rows_further s f q t words y) (query_plain p words x))
@@ -346,6 +322,15 @@ module _ (one : AsksOneQuery) where
   words_ask_one words (steps f l n p) (full_marks b) all x y = absurd (steps_or_marks words f l n p b x y)
   words_ask_one words (full_marks a) (steps f l n q) all x y = absurd (steps_or_marks words f l n q a y x)
   words_ask_one words (full_marks a) (full_marks b) all x y = marks_one words a b all x y
+  words_ask_one words (plain p) full_routers all x y = absurd (further_not_plain words (routers_further words y) (query_plain p words x))
+  words_ask_one words full_routers (plain q) all x y = absurd (further_not_plain words (routers_further words x) (query_plain q words y))
+  words_ask_one words (rows s f p t) full_routers all x y = absurd (rows_or_routers words s f p t x y)
+  words_ask_one words full_routers (rows s f q t) all x y = absurd (rows_or_routers words s f q t y x)
+  words_ask_one words (steps f l n p) full_routers all x y = absurd (steps_or_routers words f l n p x y)
+  words_ask_one words full_routers (steps f l n q) all x y = absurd (steps_or_routers words f l n q y x)
+  words_ask_one words (full_marks a) full_routers all x y = absurd (marks_or_routers words a x y)
+  words_ask_one words full_routers (full_marks b) all x y = absurd (marks_or_routers words b y x)
+  words_ask_one words full_routers full_routers all x y = refl
 
   pub asks_one : AsksOne
   asks_one line a b p q =

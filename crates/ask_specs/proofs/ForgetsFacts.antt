@@ -1,5 +1,5 @@
--- No reply depends on what the port and the Per-Peer Headers told: `ForgetsFacts`.
-use Rattle.std.proofs.Common.{◌≡◌, ◌↔◌, ◌⊎◌, ℕ, ◌+◌, ◌<◌, Bool, true, false, inl, inr, List, [], ◌∷◌, ◌++◌, length, map, Option, Some, None, refl, sym, ap, ◌∙◌, subst, arith}
+-- No reply but that to `full routers` depends on what the port and the Per-Peer Headers told: `ForgetsFacts`.
+use Rattle.std.proofs.Common.{◌≡◌, ◌↔◌, ℕ, ◌+◌, ◌<◌, Bool, true, false, inl, inr, List, [], ◌∷◌, ◌++◌, length, map, Option, Some, None, refl, sym, ap, ◌∙◌, subst, arith}
 use Rattle.std.specs.Prelude.{IsTrue, MatchBool, count_by, nat_lt, ◌==◌, max, unwrap_or, filter_map, flat_map, sum_by, slice_index_or}
 use Rattle.std.specs.List.{last_or}
 use Rattle.std.specs.Option.{option_or, option_map, option_and_then}
@@ -18,7 +18,7 @@ use Rattle.bmp_specs.specs.Orders.{key_cmp}
 use Rattle.bmp_specs.specs.PeerLines.{lane_line, live_line}
 use Rattle.bmp_specs.specs.PeerUp.{IsPeerAs, IsUp}
 use Rattle.bmp_specs.specs.Query.{QueryValue, routers, cut, peers, marks, table, count, exact, longest, within, origin, stats, changes, quit}
-use Rattle.bmp_specs.specs.QueryReply.{AreAllRows, AreChangeLines, AreLaneLines, AreLines, AreMarkLines, ArePeerLines, AreReplyLines, AreRowLines, AreStatLines, IsCountLine, IsMark, IsReply, IsRouterLine, MarkValue, most_told}
+use Rattle.bmp_specs.specs.QueryReply.{AreChangeLines, AreLaneLines, AreLines, AreMarkLines, ArePeerLines, AreReplyLines, AreRowLines, AreStatLines, IsCountLine, IsMark, IsReply, IsRouterLine, MarkValue, most_told}
 use Rattle.bmp_specs.specs.QueryRows.{AsksRow}
 use Rattle.bmp_specs.specs.Reply.{reply, told_count}
 use Rattle.bmp_specs.specs.Rows.{HasStatistic, RowValue}
@@ -28,9 +28,9 @@ use Rattle.bmp_specs.specs.StatKind.{kind_cmp, kind_of}
 use Rattle.bmp_specs.specs.Steps.{steps_in, steps_of}
 use Rattle.bmp_specs.specs.TableRows.{AreRows}
 use Rattle.bmp_specs.specs.Values.{EffectValue, EntryValue, KeyValue, PrefixValue, StepValue, opened, message, closed}
-use Rattle.ask_specs.specs.AskReply.{AreAskedChangeLines, AreAskedLaneLines, AreAskedLines, AreAskedRowLines, AreFurtherLines, AreStepsLines, AsksTraitRow, IsAskReply, IsAskedCount, IsAskedStep, IsFurtherReply, told_change}
-use Rattle.ask_specs.specs.Asking.{AskValue, plain, rows, steps, full_marks}
-use Rattle.ask_specs.specs.Facts.{ForgetsFacts, bare}
+use Rattle.ask_specs.specs.AskReply.{AreAskedChangeLines, AreAskedLaneLines, AreAskedLines, AreAskedRowLines, AreFurtherLines, AreStepsLines, AsksTraitRow, IsAskedCount, IsAskedStep, IsFurtherReply, told_change}
+use Rattle.ask_specs.specs.Asking.{AskValue, plain, rows, steps, full_marks, full_routers}
+use Rattle.ask_specs.specs.Facts.{AsksFacts, ForgetsFacts, bare}
 use Rattle.ask_specs.specs.FullMarks.{AreFullMarkLines, IsOfTable, IsRowCount, RowCountValue}
 use Rattle.ask_specs.specs.Traits.{TraitsValue}
 
@@ -262,11 +262,12 @@ lane_lines (changes number from prefix) lane a b e lines p = at_lane lane a b e 
 lane_lines (count select) lane a b e lines p = absurd p
 lane_lines quit lane a b e lines p = absurd p
 
-asked_lane_lines : (ask : AskValue) (lane : ℕ) (a b : List EntryValue) → Alike a b → (lines : List (List ℕ)) → AreAskedLaneLines ask lane a lines → AreAskedLaneLines ask lane b lines
-asked_lane_lines (plain query) lane a b e lines p = absurd p
-asked_lane_lines (rows with_steps full query traits) lane a b e lines p = asked_rows lane a b e with_steps full query traits lines p
-asked_lane_lines (steps full number from prefix) lane a b e lines p = at_lane lane a b e (number == lane) _ _ _ (asked_changes lane a b e full from prefix lines) p
-asked_lane_lines (full_marks select) lane a b e lines p = full_mark_lines lane a b e select lines p
+asked_lane_lines : (ask : AskValue) → ¬ (AsksFacts ask) → (lane : ℕ) (a b : List EntryValue) → Alike a b → (lines : List (List ℕ)) → AreAskedLaneLines ask lane a lines → AreAskedLaneLines ask lane b lines
+asked_lane_lines (plain query) other lane a b e lines p = absurd p
+asked_lane_lines (rows with_steps full query traits) other lane a b e lines p = asked_rows lane a b e with_steps full query traits lines p
+asked_lane_lines (steps full number from prefix) other lane a b e lines p = at_lane lane a b e (number == lane) _ _ _ (asked_changes lane a b e full from prefix lines) p
+asked_lane_lines (full_marks select) other lane a b e lines p = full_mark_lines lane a b e select lines p
+asked_lane_lines full_routers other lane a b e lines p = absurd (other tt)
 
 -- ---- the rows that are counted
 abbrev CountsRows : SelectValue → ℕ → List EntryValue → List RowValue → Type 0
@@ -292,10 +293,10 @@ module _ (lanes : List (List EntryValue)) where
     λ p. record { parts = p.parts; each = parts_from (AreLaneLines query) (lane_lines query) lanes p.parts p.each; all = p.all },
   )
 
-  asked_lines_as : (ask : AskValue) (lines : List (List ℕ)) → AreAskedLines ask lanes lines ↔ AreAskedLines ask bared lines
-  asked_lines_as ask lines = (
-    λ p. record { parts = p.parts; each = parts_to (AreAskedLaneLines ask) (asked_lane_lines ask) lanes p.parts p.each; all = p.all },
-    λ p. record { parts = p.parts; each = parts_from (AreAskedLaneLines ask) (asked_lane_lines ask) lanes p.parts p.each; all = p.all },
+  asked_lines_as : (ask : AskValue) → ¬ (AsksFacts ask) → (lines : List (List ℕ)) → AreAskedLines ask lanes lines ↔ AreAskedLines ask bared lines
+  asked_lines_as ask other lines = (
+    λ p. record { parts = p.parts; each = parts_to (AreAskedLaneLines ask) (asked_lane_lines ask other) lanes p.parts p.each; all = p.all },
+    λ p. record { parts = p.parts; each = parts_from (AreAskedLaneLines ask) (asked_lane_lines ask other) lanes p.parts p.each; all = p.all },
   )
 
   count_as : (select : SelectValue) (lines : List (List ℕ)) → IsCountLine select lanes lines ↔ IsCountLine select bared lines
@@ -327,18 +328,18 @@ module _ (lanes : List (List EntryValue)) where
 
   rows_lines_as : (with_steps full : Bool) (query : QueryValue) (traits : TraitsValue) (lines : List (List ℕ)) → AreFurtherLines (rows with_steps full query traits) lanes lines ↔ AreFurtherLines (rows with_steps full query traits) bared lines
   rows_lines_as with_steps full (count select) traits lines = asked_count_as select traits lines
-  rows_lines_as with_steps full routers traits lines = asked_lines_as (rows with_steps full routers traits) lines
-  rows_lines_as with_steps full cut traits lines = asked_lines_as (rows with_steps full cut traits) lines
-  rows_lines_as with_steps full (peers router peer) traits lines = asked_lines_as (rows with_steps full (peers router peer) traits) lines
-  rows_lines_as with_steps full (marks select) traits lines = asked_lines_as (rows with_steps full (marks select) traits) lines
-  rows_lines_as with_steps full (table select) traits lines = asked_lines_as (rows with_steps full (table select) traits) lines
-  rows_lines_as with_steps full (exact prefix select) traits lines = asked_lines_as (rows with_steps full (exact prefix select) traits) lines
-  rows_lines_as with_steps full (longest address select) traits lines = asked_lines_as (rows with_steps full (longest address select) traits) lines
-  rows_lines_as with_steps full (within prefix select) traits lines = asked_lines_as (rows with_steps full (within prefix select) traits) lines
-  rows_lines_as with_steps full (origin asn select) traits lines = asked_lines_as (rows with_steps full (origin asn select) traits) lines
-  rows_lines_as with_steps full (stats key) traits lines = asked_lines_as (rows with_steps full (stats key) traits) lines
-  rows_lines_as with_steps full (changes number from prefix) traits lines = asked_lines_as (rows with_steps full (changes number from prefix) traits) lines
-  rows_lines_as with_steps full quit traits lines = asked_lines_as (rows with_steps full quit traits) lines
+  rows_lines_as with_steps full routers traits lines = asked_lines_as (rows with_steps full routers traits) (λ f. f) lines
+  rows_lines_as with_steps full cut traits lines = asked_lines_as (rows with_steps full cut traits) (λ f. f) lines
+  rows_lines_as with_steps full (peers router peer) traits lines = asked_lines_as (rows with_steps full (peers router peer) traits) (λ f. f) lines
+  rows_lines_as with_steps full (marks select) traits lines = asked_lines_as (rows with_steps full (marks select) traits) (λ f. f) lines
+  rows_lines_as with_steps full (table select) traits lines = asked_lines_as (rows with_steps full (table select) traits) (λ f. f) lines
+  rows_lines_as with_steps full (exact prefix select) traits lines = asked_lines_as (rows with_steps full (exact prefix select) traits) (λ f. f) lines
+  rows_lines_as with_steps full (longest address select) traits lines = asked_lines_as (rows with_steps full (longest address select) traits) (λ f. f) lines
+  rows_lines_as with_steps full (within prefix select) traits lines = asked_lines_as (rows with_steps full (within prefix select) traits) (λ f. f) lines
+  rows_lines_as with_steps full (origin asn select) traits lines = asked_lines_as (rows with_steps full (origin asn select) traits) (λ f. f) lines
+  rows_lines_as with_steps full (stats key) traits lines = asked_lines_as (rows with_steps full (stats key) traits) (λ f. f) lines
+  rows_lines_as with_steps full (changes number from prefix) traits lines = asked_lines_as (rows with_steps full (changes number from prefix) traits) (λ f. f) lines
+  rows_lines_as with_steps full quit traits lines = asked_lines_as (rows with_steps full quit traits) (λ f. f) lines
 
   -- ---- the replies
   reply_as : (query : QueryValue) (bytes : List ℕ) → IsReply query lanes bytes ↔ IsReply query bared bytes
@@ -354,7 +355,8 @@ module _ (lanes : List (List EntryValue)) where
   )
 
 pub forgets_facts : ForgetsFacts
-forgets_facts (plain query) lanes bytes = reply_as lanes query bytes
-forgets_facts (rows with_steps full query traits) lanes bytes = further_as lanes (rows with_steps full query traits) (rows_lines_as lanes with_steps full query traits) bytes
-forgets_facts (steps full number from prefix) lanes bytes = further_as lanes (steps full number from prefix) (asked_lines_as lanes (steps full number from prefix)) bytes
-forgets_facts (full_marks select) lanes bytes = further_as lanes (full_marks select) (asked_lines_as lanes (full_marks select)) bytes
+forgets_facts (plain query) other lanes bytes = reply_as lanes query bytes
+forgets_facts (rows with_steps full query traits) other lanes bytes = further_as lanes (rows with_steps full query traits) (rows_lines_as lanes with_steps full query traits) bytes
+forgets_facts (steps full number from prefix) other lanes bytes = further_as lanes (steps full number from prefix) (asked_lines_as lanes (steps full number from prefix) other) bytes
+forgets_facts (full_marks select) other lanes bytes = further_as lanes (full_marks select) (asked_lines_as lanes (full_marks select) other) bytes
+forgets_facts full_routers other lanes bytes = absurd (other tt)

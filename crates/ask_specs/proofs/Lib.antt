@@ -4,8 +4,10 @@ pub mod WordLaws
 pub mod PlainWords
 pub mod TraitOne
 pub mod CommunityOne
+pub mod FrontWords
 pub mod AskLaws
 pub mod WrongLaws
+pub mod WrongRouters
 pub mod FullTexts
 pub mod CopyCases
 pub mod TextLaws
@@ -23,3 +25,5 @@ pub mod OfferLaws
 pub mod FullMarkLaws
 pub mod CountsAdd
 pub mod ForgetsFacts
+pub mod LastOne
+pub mod RouterLaws

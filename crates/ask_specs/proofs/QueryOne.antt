@@ -14,7 +14,8 @@ use Rattle.ip_prefix.proofs.OneValue.{address_one, prefix_one}
 use Rattle.bmp_specs.specs.QueryReply.{IsReply}
 use Rattle.ask_specs.specs.AskReply.{IsAskReply, KeepsReplies}
 use Rattle.ask_specs.specs.Asking.{AskValue, AsksOneQuery, plain}
-use Rattle.ask_specs.proofs.AskLaws.{Begins, conservative, differ_first, none_begins, other_selector, selector_one, words_one, plain_some}
+use Rattle.ask_specs.proofs.FrontWords.{Begins, differ_first, none_begins, other_selector, selector_one}
+use Rattle.ask_specs.proofs.AskLaws.{conservative, words_one, plain_some}
 use Rattle.ask_specs.proofs.PlainWords.{query_plain}
 use Rattle.ask_specs.proofs.TextLaws.{distinguisher_lacks, distinguisher_one, view_text_one}
 use Rattle.ask_specs.proofs.TraitOne.{number_one, up_to_one}

@@ -9,12 +9,13 @@ use Rattle.bmp_specs.specs.Query.{QueryValue, table, count, exact, longest, with
 use Rattle.bmp_specs.specs.Rows.{RowValue}
 use Rattle.bmp_specs.specs.Selection.{SelectValue}
 use Rattle.bmp_specs.specs.Values.{OtherValue}
-use Rattle.ask_specs.specs.Asking.{AskValue, plain, rows, steps, full_marks, AreAskWords, AreFullMarksWords, AreRowsWords, AreTraits, AsksForRows, IsAsk, IsFlag, TellsRows}
+use Rattle.ask_specs.specs.Asking.{AskValue, plain, rows, steps, full_marks, full_routers, AreAskWords, AreFullMarksWords, AreRowsWords, AreTraits, AsksForRows, IsAsk, IsFlag, TellsRows}
 use Rattle.ask_specs.specs.Traits.{TraitsValue}
 use Rattle.ask_specs.specs.TraitText.{IsThroughText, IsCommunityText, IsTypeText}
 use Rattle.ask_specs.specs.Wrong.{AsksNothing, FlagsTell, DivisionTells}
 use Rattle.ask_specs.proofs.PlainWords.{ArePaired, IsHeaded, by_one, by_two, headed_one, heads, is_front, is_trait, marks_headed, not_changes, plain_bare, plain_front, query_plain, rows_headed, traits_paired}
-use Rattle.ask_specs.proofs.AskLaws.{Begins, ask_some, behind_flag, changes_no_front, differ_first, flag_one, full_isnt_steps, headed_no_front, none_begins, other_selector, selector_one}
+use Rattle.ask_specs.proofs.FrontWords.{Begins, behind_flag, changes_no_front, differ_first, flag_one, full_isnt_steps, headed_no_front, none_begins, other_selector, selector_one}
+use Rattle.ask_specs.proofs.AskLaws.{ask_some}
 use Rattle.ask_specs.proofs.CommunityOne.{community_one}
 use Rattle.ask_specs.proofs.TraitOne.{through_one}
 use Rattle.ask_specs.proofs.WordLaws.{Lacks, join_one, words_lack}
@@ -62,12 +63,19 @@ lacks_space (b ∷ bs) e = go (b == space) refl e (λ rest. lacks_space bs rest)
     go false told e later = (λ same. true≢false (sym (eq-eqb b space same) ∙ told), later e)
 
 -- the words of `full marks` begin with these two
-marks_begin : (select : SelectValue) (words : List (List ℕ)) → AreFullMarksWords select words → Begins (codes "full") words × ((next : List ℕ) (rest : List (List ℕ)) → words ≡ codes "full" ∷ next ∷ rest → next ≡ codes "marks")
+pub marks_begin : (select : SelectValue) (words : List (List ℕ)) → AreFullMarksWords select words → Begins (codes "full") words × ((next : List ℕ) (rest : List (List ℕ)) → words ≡ codes "full" ∷ next ∷ rest → next ≡ codes "marks")
 marks_begin select words are = (
   (are.marks_words, are.spelled),
   λ next rest e. (let whole : codes "full" ∷ codes "marks" ∷ are.are_marks.selectors ≡ codes "full" ∷ next ∷ rest = sym (are.spelled ∙ ap (λ (l : List (List ℕ)). codes "full" ∷ l) are.are_marks.spelled) ∙ e in
       let same : codes "marks" ≡ next = cc in sym same),
 )
+
+-- and those of `full routers` are these two
+pub routers_only : (words rest : List (List ℕ)) (next : List ℕ) → words ≡ codes "full" ∷ codes "routers" ∷ [] → words ≡ codes "full" ∷ next ∷ rest → next ≡ codes "routers"
+routers_only words rest next are is =
+    let whole : codes "full" ∷ codes "routers" ∷ [] ≡ codes "full" ∷ next ∷ rest = sym are ∙ is in
+    let same : codes "routers" ≡ next = cc in
+    sym same
 
 -- `full` stands before `steps` in no line
 steps_behind_full : (rest : List (List ℕ)) (ask : AskValue) → ¬ (AreAskWords ask (codes "full" ∷ codes "steps" ∷ rest))
@@ -87,26 +95,27 @@ steps_behind_full rest (steps f lane from prefix) are =
     changes_no_front (codes "steps") (are.lane_text ∷ are.from_text ∷ are.prefix_words) refl (rest, second.1)
 steps_behind_full rest (full_marks select) are =
     differ_first (codes "steps") (codes "marks") (λ e. omega (arith, e)) ((marks_begin select (codes "full" ∷ codes "steps" ∷ rest) are).1 (codes "steps") rest refl)
+steps_behind_full rest full_routers are = differ_first (codes "steps") (codes "routers") (λ e. omega (arith, e)) (routers_only (codes "full" ∷ codes "steps" ∷ rest) rest (codes "steps") are refl)
 
 pub full_steps : AsksNothing (codes "full steps table")
 full_steps ask is =
     steps_behind_full (codes "table" ∷ []) ask
     (line_words (codes "full steps table") (codes "full") (codes "steps" ∷ codes "table" ∷ []) ask (lacks_space (codes "full") refl, (lacks_space (codes "steps") refl, (lacks_space (codes "table") refl, tt))) refl is)
 
--- words whose verb has another first letter aren't those of `count`
-other_verb : (verb : List ℕ) (behind words x rest : List (List ℕ)) → ¬ (get_or verb 0 0 ≡ get_or (codes "count") 0 0) → words ≡ verb ∷ behind → ¬ (words ++ x ≡ codes "count" ∷ rest)
-other_verb verb behind words x rest differ is e =
-    let whole : verb ∷ (behind ++ x) ≡ codes "count" ∷ rest = ap (λ (l : List (List ℕ)). l ++ x) (sym is) ∙ e in
-    let same : verb ≡ codes "count" = cc in
-    differ_first verb (codes "count") differ same
+-- words whose verb has another first letter don't begin with the word
+pub other_verb : (verb word : List ℕ) (behind words x rest : List (List ℕ)) → ¬ (get_or verb 0 0 ≡ get_or word 0 0) → words ≡ verb ∷ behind → ¬ (words ++ x ≡ word ∷ rest)
+other_verb verb word behind words x rest differ is e =
+    let whole : verb ∷ (behind ++ x) ≡ word ∷ rest = ap (λ (l : List (List ℕ)). l ++ x) (sym is) ∙ e in
+    let same : verb ≡ word = cc in
+    differ_first verb word differ same
 
 -- `count` is the verb of no query that tells rows
 no_count : (query : QueryValue) (words x rest : List (List ℕ)) → TellsRows query → AreQueryWords query words → ¬ (words ++ x ≡ codes "count" ∷ rest)
-no_count (table select) words x rest tells is e = other_verb (codes "table") is.selectors words x rest (λ f. omega (arith, f)) is.spelled e
-no_count (exact prefix select) words x rest tells is e = other_verb (codes "prefix") (is.text ∷ is.selectors) words x rest (λ f. omega (arith, f)) is.spelled e
-no_count (longest address select) words x rest tells is e = other_verb (codes "match") (is.text ∷ is.selectors) words x rest (λ f. omega (arith, f)) is.spelled e
-no_count (within prefix select) words x rest tells is e = other_verb (codes "within") (is.text ∷ is.selectors) words x rest (λ f. omega (arith, f)) is.spelled e
-no_count (origin number select) words x rest tells is e = other_verb (codes "origin") (is.text ∷ is.selectors) words x rest (λ f. omega (arith, f)) is.spelled e
+no_count (table select) words x rest tells is e = other_verb (codes "table") (codes "count") is.selectors words x rest (λ f. omega (arith, f)) is.spelled e
+no_count (exact prefix select) words x rest tells is e = other_verb (codes "prefix") (codes "count") (is.text ∷ is.selectors) words x rest (λ f. omega (arith, f)) is.spelled e
+no_count (longest address select) words x rest tells is e = other_verb (codes "match") (codes "count") (is.text ∷ is.selectors) words x rest (λ f. omega (arith, f)) is.spelled e
+no_count (within prefix select) words x rest tells is e = other_verb (codes "within") (codes "count") (is.text ∷ is.selectors) words x rest (λ f. omega (arith, f)) is.spelled e
+no_count (origin number select) words x rest tells is e = other_verb (codes "origin") (codes "count") (is.text ∷ is.selectors) words x rest (λ f. omega (arith, f)) is.spelled e
 no_count _ words x rest tells is e = absurd tells
 
 -- `full` stands before a number of rows in no line
@@ -127,6 +136,7 @@ full_before_count words (steps f lane from prefix) is are =
     omega (arith, ap length second.1)
 full_before_count words (full_marks select) is are =
     differ_first (codes "count") (codes "marks") (λ e. omega (arith, e)) ((marks_begin select words are).1 (codes "count") [] is)
+full_before_count words full_routers is are = differ_first (codes "count") (codes "routers") (λ e. omega (arith, e)) (routers_only words [] (codes "count") are is)
 
 pub full_count : AsksNothing (codes "full count")
 full_count ask is =
@@ -152,7 +162,7 @@ rows_no_marks (origin number select) words rest asks is e = other_third (codes "
 rows_no_marks _ words rest asks is e = absurd asks
 
 -- a query for rows behind `full`, and `steps` or none, is told from what stands in front
-rows_behind : (s : Bool) (front : List (List ℕ)) (next : List ℕ) (rest : List (List ℕ)) (t f : Bool) (query : QueryValue) (traits : TraitsValue) (words : List (List ℕ)) → IsFlag (codes "steps") s front → ¬ (next ≡ codes "full")
+pub rows_behind : (s : Bool) (front : List (List ℕ)) (next : List ℕ) (rest : List (List ℕ)) (t f : Bool) (query : QueryValue) (traits : TraitsValue) (words : List (List ℕ)) → IsFlag (codes "steps") s front → ¬ (next ≡ codes "full")
     → words ≡ front ++ (codes "full" ∷ next ∷ rest) → (are : AreRowsWords t f query traits words) → are.query_words ++ are.traits_words ≡ next ∷ rest
 rows_behind s front next rest t f query traits words is_front_flag isnt is are =
     let h = rows_headed query are.query_words are.asks are.is_query in
@@ -190,6 +200,7 @@ full_marks_behind words (full_marks select) is are =
     let parts = headed_one are.marks_words (codes "marks" ∷ []) [] (codes "through" ∷ codes "1" ∷ []) (marks_headed select are.marks_words are.are_marks) h tt (refl, tt) (append-nil are.marks_words ∙ rest) in
     let none = parts.1 in
     omega (arith, ap length none)
+full_marks_behind words full_routers is are = differ_first (codes "marks") (codes "routers") (λ e. omega (arith, e)) (routers_only words (codes "through" ∷ codes "1" ∷ []) (codes "marks") are is)
 
 steps_full_marks : (words : List (List ℕ)) (ask : AskValue) → words ≡ codes "steps" ∷ codes "full" ∷ codes "marks" ∷ [] → ¬ (AreAskWords ask words)
 steps_full_marks words (plain query) is are = plain_front words (codes "full" ∷ codes "marks" ∷ []) (codes "steps") (query_plain query words are) refl is
@@ -199,6 +210,10 @@ steps_full_marks words (steps f lane from prefix) is are =
     behind_flag f are.full_words (codes "changes" ∷ tail) are.is_full (changes_no_front (codes "steps") tail refl) (codes "full" ∷ codes "marks" ∷ [], sym are.spelled ∙ is)
 steps_full_marks words (full_marks select) is are =
     let whole : codes "full" ∷ are.marks_words ≡ codes "steps" ∷ codes "full" ∷ codes "marks" ∷ [] = sym are.spelled ∙ is in
+    let same : codes "full" ≡ codes "steps" = cc in
+    full_isnt_steps same
+steps_full_marks words full_routers is are =
+    let whole : codes "full" ∷ codes "routers" ∷ [] ≡ codes "steps" ∷ codes "full" ∷ codes "marks" ∷ [] = sym are ∙ is in
     let same : codes "full" ≡ codes "steps" = cc in
     full_isnt_steps same
 
@@ -229,6 +244,7 @@ full_before_cut words (steps f lane from prefix) is are =
     omega (arith, ap length second.1)
 full_before_cut words (full_marks select) is are =
     differ_first (codes "cut") (codes "marks") (λ e. omega (arith, e)) ((marks_begin select words are).1 (codes "cut") [] is)
+full_before_cut words full_routers is are = differ_first (codes "cut") (codes "routers") (λ e. omega (arith, e)) (routers_only words [] (codes "cut") are is)
 
 pub full_marks_through : AsksNothing (codes "full marks through 1")
 full_marks_through ask is =
@@ -294,6 +310,7 @@ trait_behind_other verb text next said ask front one new are =
     by_ask words x h paired is (full_marks select) are same =
         let b = (marks_begin select words are).0 in
         headed_no_front (verb ∷ []) x (codes "full") h refl (b.0, sym is ∙ b.1)
+    by_ask words x h paired is full_routers are same = headed_no_front (verb ∷ []) x (codes "full") h refl (codes "routers" ∷ [], sym is ∙ are)
 
 pub other_through : AsksNothing (codes "table other 35 through 64500")
 other_through ask is =

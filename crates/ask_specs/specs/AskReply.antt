@@ -18,9 +18,10 @@ use Rattle.bmp_specs.specs.Session.{session_effects}
 use Rattle.bmp_specs.specs.Steps.{steps_of}
 use Rattle.bmp_specs.specs.TableRows.{AreRows}
 use Rattle.bmp_specs.specs.Values.{EntryValue, EffectValue, PrefixValue, StepValue, announce_step}
-use Rattle.ask_specs.specs.Asking.{AskValue, IsAsk, plain, rows, steps, full_marks}
+use Rattle.ask_specs.specs.Asking.{AskValue, IsAsk, plain, rows, steps, full_marks, full_routers}
 use Rattle.ask_specs.specs.FullLine.{full_line, further_fields}
 use Rattle.ask_specs.specs.FullMarks.{AreFullMarkLines}
+use Rattle.ask_specs.specs.FullRouters.{AreFullRouterLines}
 use Rattle.ask_specs.specs.Traits.{TraitsValue, HasTraits}
 
 -- The plain query asks for the row, and its route has all that the selectors of path attributes ask. So the longest match
@@ -94,6 +95,7 @@ AreAskedLaneLines (plain query) lane entries lines = ⊥
 AreAskedLaneLines (rows with_steps full query traits) lane entries lines = AreAskedRowLines with_steps full query traits lane entries lines
 AreAskedLaneLines (steps full number from prefix) lane entries lines = MatchBool (number == lane) (AreAskedChangeLines full lane entries from prefix lines) (lines ≡ [])
 AreAskedLaneLines (full_marks select) lane entries lines = AreFullMarkLines lane entries select lines
+AreAskedLaneLines full_routers lane entries lines = AreFullRouterLines lane entries lines
 
 -- lanes with these entries have these lines in all, lane after lane
 pub record AreAskedLines (ask : AskValue) (lanes : List (List EntryValue)) (lines : List (List ℕ)) : Type 0 where

@@ -1,6 +1,6 @@
 -- Our query language with further words. A plain line is a query of `bmp_specs` (`Query`). A line of the wider language is a
--- plain line, or one with words in front of it and selectors behind it, or asks for all changes of a lane, or for marks with
--- the number of their rows. So no plain line means anything else.
+-- plain line, or one with words in front of it and selectors behind it, or asks for all changes of a lane, for marks with
+-- the number of their rows, or for routers with all that their connections told. So no plain line means anything else.
 use Rattle.std.specs.Prelude.{◌≡◌, ◌↔◌, ℕ, Bool, true, false, List, [], ◌∷◌, ◌++◌, Option, Some, None, All, codes}
 use Rattle.std.specs.List.{join_with_byte}
 use Rattle.bmp_specs.specs.NumberText.{IsNumberText, IsStepText}
@@ -23,6 +23,8 @@ pub data AskValue : Type 0 where
   steps : Bool → ℕ → ℕ → Option PrefixValue → AskValue
   -- the marks, each with the number of its rows, by these selectors
   full_marks : SelectValue → AskValue
+  -- the routers, each with from where and when its last connection came, and with what was passed over
+  full_routers : AskValue
 
 -- the query asks for rows
 abbrev pub AsksForRows : QueryValue → Type 0
@@ -108,6 +110,7 @@ AreAskWords (plain query) words = AreQueryWords query words
 AreAskWords (rows with_steps full query traits) words = AreRowsWords with_steps full query traits words
 AreAskWords (steps full lane from prefix) words = AreStepsWords full lane from prefix words
 AreAskWords (full_marks select) words = AreFullMarksWords select words
+AreAskWords full_routers words = words ≡ codes "full" ∷ codes "routers" ∷ []
 
 -- the line asks this
 pub record IsAsk (line : List ℕ) (ask : AskValue) : Type 0 where

@@ -5,6 +5,8 @@ pub mod Asking
 pub mod Offer
 pub mod FullLine
 pub mod FullMarks
+pub mod Connection
+pub mod FullRouters
 pub mod Facts
 pub mod AskReply
 pub mod StepRows

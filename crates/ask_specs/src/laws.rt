@@ -6,6 +6,7 @@ ghost use Rattle.ask_specs.specs.AskReply.{KeepsReplies};
 ghost use Rattle.ask_specs.specs.FullLine.{BeginsWithLine, TellsAll};
 ghost use Rattle.ask_specs.specs.Facts.{ForgetsFacts};
 ghost use Rattle.ask_specs.specs.FullMarks.{BeginsWithMark, CountsAddUp, CountsOnce};
+ghost use Rattle.ask_specs.specs.FullRouters.{BeginsWithRouter, StaysAfterClose};
 ghost use Rattle.ask_specs.specs.Lives.{LivesAnnounceOfUp};
 ghost use Rattle.ask_specs.specs.Mirror.{KeepsExactCopy};
 ghost use Rattle.ask_specs.specs.MirrorReply.{ChangeLinesTell, ChangesTell, RowsTell};
@@ -106,4 +107,14 @@ pub fn marks_add_up()
 /// peer, or which families were passed over.
 pub fn replies_forget_facts()
     ensures { ForgetsFacts }
+{}
+
+/// A line of `full routers` is the line of `routers`, without its end, and then further fields.
+pub fn full_routers_begin_with_routers()
+    ensures { BeginsWithRouter }
+{}
+
+/// What a connection told and counted stays after it is closed.
+pub fn connections_stay_after_close()
+    ensures { StaysAfterClose }
 {}

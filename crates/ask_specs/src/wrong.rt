@@ -17,6 +17,11 @@ pub fn full_marks_take_no_more()
     ensures { AsksNothing (codes "full marks through 1") × AsksNothing (codes "steps full marks") × AsksNothing (codes "full cut") }
 {}
 
+/// `full routers` takes no selector and no `steps`.
+pub fn full_routers_take_no_more()
+    ensures { AsksNothing (codes "full routers through 1") × AsksNothing (codes "full routers router 1") × AsksNothing (codes "steps full routers") }
+{}
+
 /// A community of an AS of four octets has no number of more than two.
 pub fn a_number_too_large_names_none()
     ensures { NamesNone (codes "rt:65536:65536") }

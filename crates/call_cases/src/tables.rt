@@ -2,6 +2,7 @@
 
 mod asks;
 mod calls;
+mod connections;
 mod entries;
 mod lines;
 mod origins;

@@ -1,4 +1,5 @@
 pub mod MarkLaws
 pub mod Marking
 pub mod Standings
+pub mod UpPeers
 mod Refuted

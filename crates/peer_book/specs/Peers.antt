@@ -1,5 +1,5 @@
 -- What a book of peers is to a contract. What an `Arc` holds is seen through it.
-use Rattle.std.specs.Prelude.{Bool, true, false, List, Option, None, Some}
+use Rattle.std.specs.Prelude.{Bool, true, false, List, map, Option, None, Some}
 use Rattle.std.specs.Arc.{arc_value}
 use Rattle.std.specs.Borrow.{Bor}
 use Rattle.std.specs.BTreeMap.{insert_entry, is_at}
@@ -83,6 +83,10 @@ with_peer_there peers key (Some peer) = set_value (is_at (key_cmp key)) peers pe
 -- the peers with the mark set, where its peer is up
 abbrev pub with_mark : Peers → KeyValue → View → Family → Peers
 with_mark peers key view family = with_peer_there peers key (option_map (λ p. marked_peer p view family) (peer_at peers key))
+
+-- the keys of the peers that are up
+abbrev pub up_keys : Peers → List KeyValue
+up_keys peers = map (λ e. e.0) (filter (λ e. is_up_peer e.1) peers)
 
 -- the peers after a place, or all of them
 abbrev pub after_place : Option (Bor KeyValue) → Peers → Peers

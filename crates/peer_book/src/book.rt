@@ -1,13 +1,14 @@
-ghost use Rattle.std.specs.Prelude.{◌≡◌, ◌↔◌, [], ◌∷◌, ◌++◌, List, IsTrue, IfOk, OnOk, OnErr};
+ghost use Rattle.std.specs.Prelude.{◌≡◌, ◌↔◌, [], ◌∷◌, ◌++◌, List, length, IsTrue, IfOk, OnOk, OnErr};
 ghost use Rattle.std.specs.Bool.{OnFalse};
 ghost use Rattle.std.specs.Arc.{arc_value};
 ghost use Rattle.std.specs.Option.{option_map};
 ghost use Rattle.bmp_specs.specs.Complete.{IsComplete};
 ghost use Rattle.bmp_specs.specs.PeerUp.{IsUp};
+ghost use Rattle.bmp_specs.specs.Reply.{told_count};
 ghost use Rattle.bmp_specs.specs.Values.{EffectValue, up, down, mark};
 ghost use Rattle.peer_book.specs.Marks.{no_marks};
-ghost use Rattle.peer_book.specs.Peers.{up_peer, down_peer, is_up_at, info_at, is_complete_at, with_peer, with_mark};
-ghost use Rattle.peer_book.specs.Standing.{StandsForPeers};
+ghost use Rattle.peer_book.specs.Peers.{up_peer, down_peer, is_up_at, info_at, is_complete_at, up_keys, with_peer, with_mark};
+ghost use Rattle.peer_book.specs.Standing.{AreUp, StandsForPeers};
 
 use crate::peer::{Peer, PeerState};
 use bgp_open::{DownInfo, PeerInfo};
@@ -112,6 +113,14 @@ impl PeerBook {
             Some(peer) => peer.is_complete(view, family),
             None => false,
         }
+    }
+
+    /// How many peers are up, at most 2^64 - 1.
+    pub fn count_up(&self) -> u64
+        ensures count { result ≡ told_count (length (up_keys self.now)) }
+        ensures stands { (effects : List EffectValue) → StandsForPeers self.now effects → AreUp result effects }
+    {
+        self.peers.values().filter(|peer| peer.is_up()).count() as u64
     }
 
     /// An equal book.

@@ -59,6 +59,7 @@ stand_by_key tables entries h = record {
       peers = peers_by_key tables.session.books.peers _ h.session.books.peers;
       stats = h.session.books.stats;
     };
+    last = h.session.last;
   };
   rows = h.rows;
   steps = h.steps;

@@ -29,4 +29,5 @@ pub mod HistoryLanes
 pub mod TraitLaws
 pub mod KeptPairs
 pub mod FullMarksTold
+pub mod FullRoutersTold
 mod Refuted

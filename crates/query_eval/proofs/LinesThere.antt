@@ -1,7 +1,7 @@
 -- There are lines of a lane for all entries that its tables stand for.
 use Rattle.std.proofs.Common.{◌≡◌, ℕ, Bool, true, false, List, [], ◌∷◌, length, map, Option, Some, refl}
 use Rattle.std.specs.Prelude.{MatchBool, ◌==◌}
-use Rattle.ask_specs.specs.Asking.{steps, full_marks}
+use Rattle.ask_specs.specs.Asking.{steps, full_marks, full_routers}
 use Rattle.ask_specs.specs.AskReply.{AreAskedChangeLines, AreAskedLaneLines}
 use Rattle.ask_specs.specs.Traits.{TraitsValue, no_traits}
 use Rattle.bmp_specs.specs.Counts.{counts_of}
@@ -18,8 +18,9 @@ use Rattle.bmp_specs.proofs.OrderLaws.{key_total}
 use Rattle.bmp_specs.specs.Orders.{key_cmp}
 use Rattle.std.specs.List.Sorted.{IsStrictlySortedBy}
 use Rattle.std.specs.Map.{keys_of}
-use Rattle.peer_book.specs.Peers.{Peers}
+use Rattle.peer_book.specs.Peers.{Peers, up_keys}
 use Rattle.peer_book.specs.Standing.{StandsForPeers}
+use Rattle.peer_book.proofs.UpPeers.{all_up}
 use Rattle.router_tables.specs.Tables.{TablesValue, StandsFor}
 use Rattle.query_eval.specs.Puts.{AreKeptRows}
 use Rattle.query_lang.specs.Asks.{ask_value, row_query_value}
@@ -29,12 +30,13 @@ use Rattle.query_lang.specs.declared.ask.Ask.TheVariants.{Rows}
 use Rattle.query_lang.specs.declared.ask.RowQuery.{RowQuery}
 use Rattle.query_lang.specs.declared.ask.RowQuery.TheVariants.{Table, Exact, Longest, Within, Origin}
 use Rattle.query_eval.specs.Replies.{StandsForLane, TellsByLane}
-use Rattle.query_eval.specs.Told.{states_in, state_lines, up_keys, marks_in, mark_lines, plain_mark}
+use Rattle.query_eval.specs.Told.{states_in, state_lines, marks_in, mark_lines, plain_mark}
 use Rattle.query_eval.proofs.InOrder.{by_key, by_key_sorted, peers_by_key, tables_by_key, stand_by_key}
 use Rattle.query_eval.proofs.FullMarksTold.{are_full_mark_lines}
+use Rattle.query_eval.proofs.FullRoutersTold.{last_there}
 use Rattle.query_eval.proofs.MarksTold.{are_mark_lines}
 use Rattle.query_eval.proofs.PeerSteps.{states_ordered}
-use Rattle.query_eval.proofs.PeersTold.{are_peer_lines, all_up}
+use Rattle.query_eval.proofs.PeersTold.{are_peer_lines}
 use Rattle.query_eval.proofs.RowAnswers.{are_table, are_counted, are_exact, are_longest, are_within, are_origin, rows_plain}
 use Rattle.query_eval.proofs.RowChangeLaws.{changes_there}
 use Rattle.query_eval.proofs.StatsTold.{stat_lines_there}
@@ -44,8 +46,11 @@ module _ (lane : ℕ) (tables : TablesValue) (entries : List EntryValue) (stands
   abbrev book : Peers
   book = by_key key_cmp tables.session.books.peers
 
+  peers_ordered : IsStrictlySortedBy key_cmp (keys_of book)
+  peers_ordered = by_key_sorted key_cmp key_total tables.session.books.peers
+
   ordered : IsStrictlySortedBy key_cmp (keys_of (states_in book))
-  ordered = states_ordered book (by_key_sorted key_cmp key_total tables.session.books.peers)
+  ordered = states_ordered book peers_ordered
 
   book_stands : StandsForPeers book (session_effects entries)
   book_stands = peers_by_key tables.session.books.peers (session_effects entries) stands.session.books.peers
@@ -54,8 +59,8 @@ module _ (lane : ℕ) (tables : TablesValue) (entries : List EntryValue) (stands
   router_there idle = (idle_line lane, refl)
   router_there (shut cause) = (closed_line lane cause, refl)
   router_there live = (
-    live_line lane (told_count (length (up_keys (states_in book)))) (counts_of entries) (lane_name entries) (lane_description entries),
-    (up_keys (states_in book), all_up book ordered (session_effects entries) book_stands, refl),
+    live_line lane (told_count (length (up_keys book))) (counts_of entries) (lane_name entries) (lane_description entries),
+    (up_keys book, all_up book (session_effects entries) peers_ordered book_stands, refl),
   )
 
   changes_lines : (number from : ℕ) (prefix : PrefixValue) → (lines : List (List ℕ)) × AreLaneLines (changes number from prefix) lane entries lines
@@ -79,9 +84,6 @@ module _ (lane : ℕ) (tables : TablesValue) (entries : List EntryValue) (stands
   in_order_stands : StandsFor in_order entries
   in_order_stands = stand_by_key tables entries stands
 
-  peers_ordered : IsStrictlySortedBy key_cmp (keys_of book)
-  peers_ordered = by_key_sorted key_cmp key_total tables.session.books.peers
-
   row_lines : (query : QueryValue) (rows : List RowValue) → AreKeptRows query no_traits lane entries rows → (lines : List (List ℕ)) × AreRowLines query lane entries lines
   row_lines query rows are = (map (route_line lane) rows, record { rows = rows; are_rows = rows_plain query lane entries rows are; told = refl })
 
@@ -102,6 +104,9 @@ module _ (lane : ℕ) (tables : TablesValue) (entries : List EntryValue) (stands
 
   full_marks_lines : (select : SelectValue) → (lines : List (List ℕ)) × AreAskedLaneLines (full_marks select) lane entries lines
   full_marks_lines select = (_, are_full_mark_lines select lane in_order entries in_order_stands ordered)
+
+  full_routers_lines : (lines : List (List ℕ)) × AreAskedLaneLines full_routers lane entries lines
+  full_routers_lines = let h = last_there in_order entries in_order_stands peers_ordered in (_, record { last = h.0; is_last = h.1; told = refl })
 
   -- the rows of a query that tells rows
   query_rows_there : (rows : RowQuery) (traits : TraitsValue) → (known : List RowValue) × AreKeptRows (row_query_value rows) traits lane entries known
@@ -124,6 +129,9 @@ changes_lines_there full asked from prefix number lane entries stands = asked_ch
 
 pub full_marks_lines_there : (select : SelectValue) (number : ℕ) (lane : TablesValue × ℕ) (entries : List EntryValue) → StandsForLane lane entries → (lines : List (List ℕ)) × AreAskedLaneLines (full_marks select) number entries lines
 full_marks_lines_there select number lane entries stands = full_marks_lines number lane.0 entries stands.tables select
+
+pub full_routers_lines_there : (number : ℕ) (lane : TablesValue × ℕ) (entries : List EntryValue) → StandsForLane lane entries → (lines : List (List ℕ)) × AreAskedLaneLines full_routers number entries lines
+full_routers_lines_there number lane entries stands = full_routers_lines number lane.0 entries stands.tables
 
 pub rows_there : (select : SelectValue) (traits : TraitsValue) (number : ℕ) (lane : TablesValue × ℕ) (entries : List EntryValue) → StandsForLane lane entries → (rows : List RowValue) × AreKeptRows (count select) traits number entries rows
 rows_there select traits number lane entries stands =

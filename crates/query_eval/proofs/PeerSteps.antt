@@ -1,23 +1,21 @@
 -- The peers of a book, one after another.
-use Rattle.std.proofs.Common.{◌≡◌, ◌<◌, ◌+◌, ℕ, Bool, true, false, cond, List, [], ◌∷◌, ◌++◌, length, map, Option, Some, refl, sym, ap, ◌∙◌, subst, arith}
+use Rattle.std.proofs.Common.{◌≡◌, ◌<◌, ℕ, List, [], ◌∷◌, ◌++◌, length, map, Option, Some, refl, sym, ap, ◌∙◌, subst, arith}
 use Rattle.std.specs.Prelude.{slice_get}
 use Rattle.std.specs.List.{filter}
 use Rattle.std.specs.List.Sorted.{IsStrictlySortedBy}
 use Rattle.std.specs.Map.{keys_of}
 use Rattle.std.specs.Option.{option_map}
-use Rattle.std.proofs.lemmas.Bool.{cond-true, cond-false}
 use Rattle.std.proofs.lemmas.List.{map-append}
 use Rattle.std.proofs.lemmas.List.Elements.{filter-append}
 use Rattle.bmp_specs.specs.Orders.{key_cmp}
 use Rattle.bmp_specs.specs.PeerUp.{StateValue}
 use Rattle.bmp_specs.specs.QueryReply.{peer_line}
-use Rattle.bmp_specs.specs.Reply.{told_count}
 use Rattle.bmp_specs.specs.Values.{KeyValue}
 use Rattle.bmp_specs.proofs.OrderLaws.{key_total}
 use Rattle.peer_book.specs.Peers.{Peers, PeerValue, keyed_state}
 use Rattle.query_eval.specs.Later.{later}
 use Rattle.query_eval.specs.Selecting.{keeps_peer}
-use Rattle.query_eval.specs.Told.{states_in, state_lines, up_keys, is_up_state}
+use Rattle.query_eval.specs.Told.{states_in, state_lines}
 use Rattle.query_eval.proofs.Walking.{next_is, keys_same, later_same, first_mapped}
 
 key_kept : (e : KeyValue × PeerValue) → (keyed_state e).0 ≡ e.0
@@ -43,17 +41,3 @@ module _ (router : Option ℕ) (peer : Option KeyValue) (lane : ℕ) where
   lines_first left rest e is =
       ap (state_lines router peer lane) is ∙ ap (map (peer_line lane)) (filter-append (λ (p : KeyValue × StateValue). keeps_peer router peer lane p.0) (e ∷ []) rest)
       ∙ map-append (peer_line lane) (filter (λ (p : KeyValue × StateValue). keeps_peer router peer lane p.0) (e ∷ [])) (filter (λ (p : KeyValue × StateValue). keeps_peer router peer lane p.0) rest)
-
--- how many are up of the first peer and of the others
-count_first : (e : KeyValue × StateValue) (rest : List (KeyValue × StateValue)) (b : Bool) → is_up_state e ≡ b → length (up_keys (e ∷ rest)) ≡ cond b 1 0 + length (up_keys rest)
-count_first e rest true is = ap (λ (l : List (KeyValue × StateValue)). length (map (λ p. p.0) l)) (cond-true (is_up_state e) _ _ is) ∙ omega arith
-count_first e rest false is = ap (λ (l : List (KeyValue × StateValue)). length (map (λ p. p.0) l)) (cond-false (is_up_state e) _ _ is) ∙ omega arith
-
-pub counted_up : (left rest : List (KeyValue × StateValue)) (e : KeyValue × StateValue) (n m all : ℕ) → left ≡ e ∷ rest → is_up_state e ≡ true → m ≡ told_count (n + 1) → told_count (n + length (up_keys left)) ≡ all → told_count (m + length (up_keys rest)) ≡ all
-counted_up left rest e n m all is up more so_far = let l : length (up_keys left) ≡ 1 + length (up_keys rest) = ap (λ (x : List (KeyValue × StateValue)). length (up_keys x)) is ∙ count_first e rest true up in omega (arith, l, more, so_far)
-
-pub counted_down : (left rest : List (KeyValue × StateValue)) (e : KeyValue × StateValue) (n all : ℕ) → left ≡ e ∷ rest → is_up_state e ≡ false → told_count (n + length (up_keys left)) ≡ all → told_count (n + length (up_keys rest)) ≡ all
-counted_down left rest e n all is down so_far = let l : length (up_keys left) ≡ 0 + length (up_keys rest) = ap (λ (x : List (KeyValue × StateValue)). length (up_keys x)) is ∙ count_first e rest false down in omega (arith, l, so_far)
-
-pub counted_all : (left : List (KeyValue × StateValue)) (n all : ℕ) → left ≡ [] → told_count n ≡ n → told_count (n + length (up_keys left)) ≡ all → n ≡ all
-counted_all left n all none within so_far = let l : length (up_keys left) ≡ 0 = ap (λ (x : List (KeyValue × StateValue)). length (up_keys x)) none in omega (arith, l, within, so_far)

@@ -1,5 +1,5 @@
 -- The peers that a book tells are those that the entries name, each as its last Peer Up or Peer Down left it.
-use Rattle.std.proofs.Common.{◌≡◌, ℕ, Bool, true, List, [], ◌∷◌, length, map, Option, None, Some, refl, sym, ap, ◌∙◌, subst}
+use Rattle.std.proofs.Common.{◌≡◌, ℕ, Bool, List, [], ◌∷◌, length, map, Option, None, Some, refl, sym, ap, ◌∙◌, subst}
 use Rattle.std.specs.Prelude.{◌↔◌}
 use Rattle.std.specs.List.{Contains, filter}
 use Rattle.std.specs.List.Sorted.{IsStrictlySortedBy}
@@ -9,7 +9,6 @@ use Rattle.std.specs.Option.{option_map}
 use Rattle.std.proofs.lemmas.Map.Keys.{IsDistinct-from_sorted}
 use Rattle.std.proofs.lemmas.Map.Views.{Contains-from_lookup, lookup-from_Contains, tells_apart}
 use mathlib.Core.Logic.Iff.{trans as then_iff}
-use Rattle.bmp_specs.specs.Listed.{AreAll}
 use Rattle.bmp_specs.specs.Orders.{key_cmp}
 use Rattle.bmp_specs.specs.Counts.{counts_of}
 use Rattle.bmp_specs.specs.PeerLines.{live_line}
@@ -25,13 +24,9 @@ use Rattle.bmp_specs.proofs.OrderLaws.{key_total, key_exact}
 use Rattle.peer_book.specs.Peers.{Peers, PeerValue, keyed_state, peer_at, state_at, state_of as peer_state}
 use Rattle.peer_book.specs.Standing.{StandsForPeers}
 use Rattle.query_eval.specs.Selecting.{keeps_peer}
-use Rattle.query_eval.specs.Told.{states_in, state_lines, up_keys, is_up_state}
+use Rattle.query_eval.specs.Told.{states_in, state_lines}
 use Rattle.query_eval.proofs.Keeping.{peer_decides, from_filter, to_filter, sorted_kept, from_map, to_map}
 use Rattle.query_eval.proofs.Walking.{keys_same}
-
-same_keys : (keys : List KeyValue) → map (λ key. key) keys ≡ keys
-same_keys [] = refl
-same_keys (k ∷ ks) = ap (λ (l : List KeyValue). k ∷ l) (same_keys ks)
 
 module _ (book : Peers) (ordered : IsStrictlySortedBy key_cmp (keys_of (states_in book))) where
   book_ordered : IsStrictlySortedBy key_cmp (keys_of book)
@@ -62,23 +57,6 @@ module _ (book : Peers) (ordered : IsStrictlySortedBy key_cmp (keys_of (states_i
 
     pub peer_told : (x : KeyValue × StateValue) → Contains (states_in book) x ↔ IsPeerAs effects x.0 x.1
     peer_told x = then_iff (state_told x) (state_is x.0 x.1)
-
-    -- those that are up
-    is_up_key : (x : KeyValue × StateValue) → is_up_state x ≡ true → IsPeerAs effects x.0 x.1 → IsUp effects x.0
-    is_up_key (key, up_state info) up is = (info, is)
-    is_up_key (key, down_state info) up is = absurd cc
-
-    pub all_up : AreAll (λ key. key) key_cmp (IsUp effects) (up_keys (states_in book))
-    all_up = record {
-      ordered = subst (IsStrictlySortedBy key_cmp) (sym (same_keys (up_keys (states_in book)))) (sorted_kept is_up_state (λ (p : KeyValue × StateValue). p.0) key_cmp (states_in book) ordered);
-      exact = λ key. (
-        λ c.
-            let h = from_map (λ (p : KeyValue × StateValue). p.0) (filter is_up_state (states_in book)) key c in
-            let k = from_filter is_up_state (states_in book) h.0 h.1 in
-            subst (IsUp effects) h.2 (is_up_key h.0 k.1 ((peer_told h.0).0 k.0)),
-        λ up. to_map (λ (p : KeyValue × StateValue). p.0) (filter is_up_state (states_in book)) (key, up_state up.0) (to_filter is_up_state (states_in book) (key, up_state up.0) ((peer_told (key, up_state up.0)).1 up.1) refl),
-      );
-    }
 
 module _ (router : Option ℕ) (peer : Option KeyValue) (lane : ℕ) (entries : List EntryValue) where
   -- the lines of a book's peers that are asked for

@@ -5,9 +5,10 @@ use Rattle.std.specs.Prelude.{IsTrue}
 use Rattle.std.proofs.lemmas.Bool.{false≢true}
 use Rattle.ask_specs.specs.Items.{are_items}
 use Rattle.std.specs.List.{Contains}
-use Rattle.ask_specs.specs.Asking.{rows as rows_asked, steps}
+use Rattle.ask_specs.specs.Asking.{full_routers, rows as rows_asked, steps}
 use Rattle.ask_specs.specs.AskReply.{AsksTraitRow, IsAskReply, told_change}
 use Rattle.ask_specs.specs.FullLine.{full_line}
+use Rattle.ask_specs.specs.FullRouters.{full_router_line}
 use Rattle.ask_specs.specs.Traits.{HasCommunity, StandIn, large, no_traits, plain}
 use Rattle.bmp_specs.specs.declared.peers.View.{View}
 use Rattle.bmp_specs.specs.declared.peers.View.TheVariants.{InPre, InPost}
@@ -27,6 +28,7 @@ use Rattle.bmp_specs.specs.Reply.{reply}
 use Rattle.bmp_specs.specs.RouteLine.{route_line}
 use Rattle.bmp_specs.specs.Rows.{RowValue, HasRow}
 use Rattle.bmp_specs.specs.Selection.{SelectValue, IsRowSelected, select_all}
+use Rattle.bmp_specs.specs.Session.{idle}
 use Rattle.bmp_specs.specs.TableRows.{AreRows}
 use Rattle.bmp_specs.specs.Values.{AddressValue, AttrsValue, EffectValue, KeyValue, NlriValue, OpenValue, OtherValue, PeerInfoValue, message, opened, opened_step, up, announce}
 use Rattle.bmp_specs.proofs.ListedOne.{contains_cases, contains_first}
@@ -296,3 +298,11 @@ a_full_change_tells_its_times r =
     let one = change_lines_one true 0 0 None (opened nothing_told ∷ []) _ _ part (change_lines true 0 0 None (opened nothing_told ∷ [])) in
     let lines : r.lines ≡ steps_line 0 1 ∷ told_change true 0 opening ∷ [] = first_part r.lines r.are_lines.parts r.are_lines.each.count r.are_lines.all ∙ one in
     omega (arith, ap (λ (text : List ℕ). slice_index text 32) (r.told ∙ ap (reply 1) lines))
+
+-- `full routers` tells a router by the line that `routers` tells of it, without its times.
+a_full_router_tells_its_times : IsAskReply full_routers ([] ∷ []) (codes "at 0\nrouter 0 idle\nend 1\n") → ⊥
+unfolding digits
+a_full_router_tells_its_times r =
+    let part = r.are_lines.each.each 0 [] [] (omega arith) in
+    let lines : r.lines ≡ full_router_line 0 idle part.last ∷ [] = first_part r.lines r.are_lines.parts r.are_lines.each.count r.are_lines.all ∙ part.told in
+    omega (arith, ap length (r.told ∙ ap (reply 0) lines))

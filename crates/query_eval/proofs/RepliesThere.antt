@@ -1,7 +1,7 @@
 -- There is a reply on all entries that a cut stands for.
 use Rattle.std.proofs.Common.{◌≡◌, ℕ, ◌<◌, Bool, List, [], ◌∷◌, length, Option, refl, ap, arith}
 use Rattle.std.specs.Prelude.{sum_by, flat_map, slice_index_or}
-use Rattle.ask_specs.specs.Asking.{plain, rows as asked_rows, steps as steps_asked, full_marks}
+use Rattle.ask_specs.specs.Asking.{plain, rows as asked_rows, steps as steps_asked, full_marks, full_routers}
 use Rattle.ask_specs.specs.AskReply.{AreAskedLaneLines, AreAskedLines, AreFurtherLines, IsAskReply, IsAskedCount}
 use Rattle.ask_specs.specs.Traits.{TraitsValue, no_traits}
 use Rattle.bmp_specs.specs.PeerLines.{count_line}
@@ -16,7 +16,7 @@ use Rattle.query_lang.specs.TraitValues.{traits_value}
 use Rattle.query_lang.specs.declared.ask.RowsAsk.{RowsAsk}
 use Rattle.query_lang.specs.declared.traits.Traits.{Traits}
 use Rattle.query_lang.specs.declared.ask.Ask.{Ask}
-use Rattle.query_lang.specs.declared.ask.Ask.TheVariants.{Query, Rows, Count, Changes, FullMarks}
+use Rattle.query_lang.specs.declared.ask.Ask.TheVariants.{Query, Rows, Count, Changes, FullMarks, FullRouters}
 use Rattle.query_lang.specs.declared.ask.RowQuery.{RowQuery}
 use Rattle.query_lang.specs.declared.ask.RowQuery.TheVariants.{Table, Exact, Longest, Within, Origin}
 use Rattle.query_lang.specs.Queries.{query_value}
@@ -24,7 +24,7 @@ use Rattle.router_tables.specs.Tables.{TablesValue}
 use Rattle.query_eval.specs.Puts.{AreAskedRows, AreKeptRows}
 use Rattle.query_eval.specs.Replies.{StandsForLane, StandForLanes, AreLanes, TellsByLane}
 use Rattle.query_eval.proofs.LaneSteps.{gather}
-use Rattle.query_eval.proofs.LinesThere.{changes_lines_there, full_marks_lines_there, lines_there, rows_lines_there, rows_there}
+use Rattle.query_eval.proofs.LinesThere.{changes_lines_there, full_marks_lines_there, full_routers_lines_there, lines_there, rows_lines_there, rows_there}
 use Rattle.query_eval.proofs.RowAnswers.{rows_plain}
 
 module _ (cut : List (TablesValue × ℕ)) (lanes : List (List EntryValue)) (stand : StandForLanes cut lanes) where
@@ -95,6 +95,9 @@ module _ (cut : List (TablesValue × ℕ)) (lanes : List (List EntryValue)) (sta
   marks_lines : (select : SelectValue) → (lines : List (List ℕ)) × AreFurtherLines (full_marks select) lanes lines
   marks_lines select = let h = all_lines (AreAskedLaneLines (full_marks select)) (full_marks_lines_there select) in (h.0, record { parts = h.1.parts; each = h.1.each; all = h.1.all })
 
+  routers_lines : (lines : List (List ℕ)) × AreFurtherLines full_routers lanes lines
+  routers_lines = let h = all_lines (AreAskedLaneLines full_routers) full_routers_lines_there in (h.0, record { parts = h.1.parts; each = h.1.each; all = h.1.all })
+
 pub reply_there : (cut : List (TablesValue × ℕ)) (query : QueryValue) (lanes : List (List EntryValue)) → (query ≡ quit → ⊥) → StandForLanes cut lanes → (text : List ℕ) × IsReply query lanes text
 reply_there cut query lanes asks stand = let h = reply_lines cut lanes stand query asks in (reply (sum_by length lanes) h.0, record { lines = h.0; are_lines = h.1; told = refl })
 
@@ -104,3 +107,4 @@ ask_reply_there cut (Rows ask) lanes asks stand = let h = rows_lines cut lanes s
 ask_reply_there cut (Count select traits) lanes asks stand = let h = count_lines cut lanes stand select (traits_value traits) in (reply (sum_by length lanes) h.0, record { lines = h.0; are_lines = h.1; told = refl })
 ask_reply_there cut (Changes full asked from prefix) lanes asks stand = let h = changes_lines cut lanes stand full asked from prefix in (reply (sum_by length lanes) h.0, record { lines = h.0; are_lines = h.1; told = refl })
 ask_reply_there cut (FullMarks select) lanes asks stand = let h = marks_lines cut lanes stand select in (reply (sum_by length lanes) h.0, record { lines = h.0; are_lines = h.1; told = refl })
+ask_reply_there cut FullRouters lanes asks stand = let h = routers_lines cut lanes stand in (reply (sum_by length lanes) h.0, record { lines = h.0; are_lines = h.1; told = refl })

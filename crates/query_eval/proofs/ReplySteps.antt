@@ -5,7 +5,7 @@ use Rattle.std.specs.Prelude.{sum_by, slice_index_or}
 use Rattle.std.specs.List.{concat}
 use Rattle.std.specs.Result.{is_err}
 use Rattle.std.proofs.lemmas.List.Sums.{sum_by-cons}
-use Rattle.ask_specs.specs.Asking.{AskValue, plain, rows as rows_asked, steps, full_marks}
+use Rattle.ask_specs.specs.Asking.{AskValue, plain, rows as rows_asked, steps, full_marks, full_routers}
 use Rattle.ask_specs.specs.AskReply.{AreAskedLines, IsAskReply, IsAskedCount}
 use Rattle.ask_specs.specs.Traits.{TraitsValue, no_traits}
 use Rattle.bmp_specs.specs.Lines.{at_line, end_line}
@@ -64,6 +64,7 @@ ask_made (plain query) lanes text is = (is.lines, is.are_lines, is.told)
 ask_made (rows_asked with_steps full query traits) lanes text is = (is.lines, is.are_lines, is.told)
 ask_made (steps full lane from prefix) lanes text is = (is.lines, is.are_lines, is.told)
 ask_made (full_marks select) lanes text is = (is.lines, is.are_lines, is.told)
+ask_made full_routers lanes text is = (is.lines, is.are_lines, is.told)
 
 text_is : (cut : List (TablesValue × ℕ)) (rev : ℕ) → rev ≡ total cut → (lanes : List (List EntryValue)) (text : List ℕ) (lines : List (List ℕ)) → StandForLanes cut lanes → text ≡ reply (sum_by length lanes) lines → text ≡ at_line rev ++ (concat lines ++ end_line (told_count (length lines)))
 text_is cut rev rev_is lanes text lines stand is = is ∙ ap (λ (n : ℕ). at_line n ++ (concat lines ++ end_line (told_count (length lines)))) (sym (rev_is ∙ revision_is cut lanes stand))
@@ -104,6 +105,7 @@ by_lanes (rows_asked with_steps full (changes number from prefix) traits) tells 
 by_lanes (rows_asked with_steps full quit traits) tells lanes lines are = absurd tells
 by_lanes (steps full lane from prefix) tells lanes lines are = record { parts = are.parts; each = are.each; all = are.all }
 by_lanes (full_marks select) tells lanes lines are = record { parts = are.parts; each = are.each; all = are.all }
+by_lanes full_routers tells lanes lines are = record { parts = are.parts; each = are.each; all = are.all }
 
 module _ {O : Type 0} {faults : O → ℕ} {told : O → Option (List ℕ)} {aside : O → Aside} where
   -- the number of rows

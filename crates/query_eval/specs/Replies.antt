@@ -6,7 +6,7 @@ use Rattle.cut_publisher.specs.Cuts.{Stands}
 use Rattle.cut_publisher.specs.History.{part}
 use Rattle.rib_model.specs.declared.entry.Entry.{Entry}
 use Rattle.rib_model.specs.Entries.{entry_values}
-use Rattle.ask_specs.specs.Asking.{AskValue, TellsRows, plain, rows, steps, full_marks}
+use Rattle.ask_specs.specs.Asking.{AskValue, TellsRows, plain, rows, steps, full_marks, full_routers}
 use Rattle.ask_specs.specs.AskReply.{AreAskedLaneLines, AreFurtherLines, IsAskReply}
 use Rattle.ask_specs.specs.Traits.{TraitsValue, no_traits}
 use Rattle.bmp_specs.specs.Listed.{AreParallel}
@@ -102,3 +102,4 @@ AsksByLane (plain query) = TellsByLane query
 AsksByLane (rows with_steps full query traits) = TellsRows query
 AsksByLane (steps full lane from prefix) = Unit {0}
 AsksByLane (full_marks select) = Unit {0}
+AsksByLane full_routers = Unit {0}

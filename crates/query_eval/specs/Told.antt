@@ -34,10 +34,6 @@ abbrev pub is_up_state : KeyValue × StateValue → Bool
 is_up_state (key, up_state info) = true
 is_up_state (key, down_state info) = false
 
--- the peers that are up
-abbrev pub up_keys : List (KeyValue × StateValue) → List KeyValue
-up_keys states = map (λ p. p.0) (filter is_up_state states)
-
 -- a mark of these parts
 abbrev pub mark_as : KeyValue → View → Family → Bool → MarkValue
 mark_as key view family complete = record { key = key; view = view; family = family; complete = complete }

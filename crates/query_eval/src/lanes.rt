@@ -14,6 +14,7 @@ ghost use Rattle.query_eval.specs.Replies.{StandsForLane, StandForLanes, AreAskL
 use crate::changes::put_changes;
 use crate::count::count_kept_rows;
 use crate::full_marks::put_full_marks;
+use crate::full_routers::put_full_routers;
 use crate::longest::put_longest;
 use crate::marks::put_marks;
 use crate::origin::put_origin;
@@ -115,6 +116,7 @@ fn put_ask_lines<O: Sink>(
             prefix,
         } => put_lane_changes(out, *full, lane, tables, *number, *from, prefix),
         Ask::FullMarks(select) => put_full_marks(out, lane, tables, select),
+        Ask::FullRouters => put_full_routers(out, lane, tables),
         // excluded by the premise: rows are counted over all lanes together
         Ask::Count(_, _) => unreachable!(),
     }

@@ -4,7 +4,7 @@
 //! cut, a line for each row, lane after lane, and the number of rows. Rows may be asked for by what the path
 //! attributes of their routes have. Before the rows of each lane the number of its steps may be asked for, and
 //! all steps that a lane keeps may be asked for too. With `full`, rows and changes are told with all path
-//! attributes. A reply takes no memory and no lock.
+//! attributes, and routers with all that their last connections told. A reply takes no memory and no lock.
 //!
 //! Proved: `answer` writes the reply on every history that the cut stands for, or a front of it where a
 //! write failed. `put_told_within` writes the rows that `within P` asks of a lane, each by a line of the
@@ -19,6 +19,7 @@ mod changes;
 mod count;
 mod front;
 mod full_marks;
+mod full_routers;
 mod kept;
 mod lanes;
 mod longest;

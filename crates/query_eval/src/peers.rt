@@ -1,16 +1,15 @@
-ghost use Rattle.std.specs.Prelude.{◌≡◌, [], ◌∷◌, length, slice_get};
+ghost use Rattle.std.specs.Prelude.{◌≡◌, [], ◌∷◌, slice_get};
 ghost use Rattle.std.specs.List.Sorted.{IsStrictlySortedBy};
 ghost use Rattle.std.specs.Map.{keys_of};
 ghost use Rattle.std.specs.Option.{option_map};
 ghost use Rattle.bmp_specs.specs.Orders.{key_cmp};
 ghost use Rattle.bmp_specs.specs.Query.{peers};
 ghost use Rattle.bmp_specs.specs.QueryReply.{AreLaneLines};
-ghost use Rattle.bmp_specs.specs.Reply.{told_count};
 ghost use Rattle.peer_book.specs.Line.{line_value};
 ghost use Rattle.router_tables.specs.Tables.{StandsFor};
 ghost use Rattle.query_eval.specs.Later.{later};
 ghost use Rattle.query_eval.specs.Puts.{WritesLines, PutsLines};
-ghost use Rattle.query_eval.specs.Told.{states_in, state_lines, up_keys, is_up_state};
+ghost use Rattle.query_eval.specs.Told.{states_in, state_lines, is_up_state};
 
 use crate::selection::is_peer_selected;
 use bmp_frames::PeerKey;
@@ -38,22 +37,6 @@ pub(crate) fn is_up(line: &PeerLine<'_>) -> bool
         PeerState::Up(_) => true,
         PeerState::Down(_) => false,
     }
-}
-
-// How many peers of a book are up, at most 2^64 - 1.
-pub(crate) fn count_up(book: &PeerBook) -> u64
-    ensures count { result ≡ told_count (length (up_keys (states_in book.now))) }
-    ensures ordered { IsStrictlySortedBy key_cmp (keys_of (states_in book.now)) }
-{
-    let mut count: u64 = 0;
-    let mut place: Option<PeerKey> = None;
-    while let Some(line) = next_peer(book, place) {
-        if is_up(&line) {
-            count = count.saturating_add(1);
-        }
-        place = Some(line.key);
-    }
-    count
 }
 
 // Writes the line of a peer, where it is asked for.

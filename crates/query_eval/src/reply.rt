@@ -44,6 +44,7 @@ fn count_asked(ask: &Ask) -> Option<(Select, Traits)>
         Ask::Count(select, traits) => Some((*select, *traits)),
         Ask::Changes { .. } => None,
         Ask::FullMarks(_) => None,
+        Ask::FullRouters => None,
     }
 }
 

@@ -7,7 +7,6 @@ ghost use Rattle.reply_text.specs.Router.{router_line};
 ghost use Rattle.router_tables.specs.Tables.{StandsFor};
 ghost use Rattle.query_eval.specs.Puts.{PutsLines};
 
-use crate::peers::count_up;
 use reply_text::{RouterLine, RouterState, put_router};
 use router_tables::{LaneState, RouterTables};
 use wire_io::{Failed, Sink};
@@ -20,7 +19,7 @@ fn router_state(tables: &RouterTables) -> RouterState<'_>
         LaneState::Idle => RouterState::Idle,
         LaneState::Closed(cause) => RouterState::Closed(cause),
         LaneState::Live => RouterState::Live(RouterLine {
-            peers: count_up(tables.peers()),
+            peers: tables.peers().count_up(),
             counts: tables.counts(),
             name: tables.name(),
             descr: tables.descr(),

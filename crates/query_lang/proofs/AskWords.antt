@@ -7,10 +7,11 @@ use Rattle.bmp_specs.specs.PrefixText.{IsPrefixText}
 use Rattle.bmp_specs.specs.Query.{QueryValue, changes, marks, table, count, exact, longest, within, origin, AreQueryWords, IsQuery}
 use Rattle.bmp_specs.specs.Selection.{SelectValue}
 use Rattle.bmp_specs.specs.Values.{PrefixValue}
-use Rattle.ask_specs.specs.Asking.{AskValue, plain, rows, steps, full_marks, AreAskWords, AreTraits, AsksForRows, IsAsk, IsFlag, IsFurtherChanges, IsMore, IsPrefixWord, TellsRows}
+use Rattle.ask_specs.specs.Asking.{AskValue, plain, rows, steps, full_marks, full_routers, AreAskWords, AreTraits, AsksForRows, IsAsk, IsFlag, IsFurtherChanges, IsMore, IsPrefixWord, TellsRows}
 use Rattle.ask_specs.specs.Offer.{IsOfferedAsk}
 use Rattle.ask_specs.specs.Traits.{TraitsValue, no_traits}
-use Rattle.ask_specs.proofs.AskLaws.{Begins, SomeWord, ask_some, behind_flag, changes_no_front, headed_no_front}
+use Rattle.ask_specs.proofs.AskLaws.{SomeWord, ask_some}
+use Rattle.ask_specs.proofs.FrontWords.{Begins, behind_flag, changes_no_front, differ_first, headed_no_front, routers_no_front}
 use Rattle.ask_specs.proofs.PlainWords.{IsHeaded, by_one, by_two, is_front, marks_headed, not_changes, rows_headed}
 use Rattle.query_lang.specs.Reading.{words_of, further_words, AreChangesWords, AsksBehind, AsksWith, EndsWith, TakesFirst, Unnamed}
 use Rattle.query_lang.specs.declared.ask.Ask.{Ask}
@@ -90,6 +91,10 @@ changes_none s f rest none (plain q) asks = asks
 changes_none s f rest none (rows u g q t) asks = let with_traits = asks.2 in not_changes with_traits.front with_traits.back rest (rows_headed q with_traits.front with_traits.asks with_traits.is_query) (sym with_traits.spelled)
 changes_none s f rest none (steps g lane from p) asks = none asks.0 lane from p asks.2
 changes_none s f rest none (full_marks select) asks = not_changes (codes "changes" ∷ rest) [] rest (marks_headed select (codes "changes" ∷ rest) asks.2) (append-nil (codes "changes" ∷ rest))
+changes_none s f rest none full_routers asks =
+    let whole : codes "changes" ∷ rest ≡ codes "routers" ∷ [] = asks.2 in
+    let same : codes "changes" ≡ codes "routers" = cc in
+    differ_first (codes "changes") (codes "routers") (λ e. omega (arith, e)) same
 
 -- ---- behind `marks`
 -- a verb with another third letter
@@ -121,31 +126,75 @@ marks_none s f words word others split named none (steps g lane from p) asks =
     let same : codes "changes" ≡ word = cc in
     omega (arith, ap (λ (l : List ℕ). get_or l 0 0) (same ∙ named))
 marks_none s f words word others split named none (full_marks select) asks = none select asks
+marks_none s f words word others split named none full_routers asks =
+    let whole : codes "routers" ∷ [] ≡ word ∷ others = sym asks.2 ∙ split in
+    let same : codes "routers" ≡ word = cc in
+    differ_first (codes "routers") (codes "marks") (λ e. omega (arith, e)) (same ∙ named)
 
 pub no_marks_behind : (s f : Bool) (words : List (List ℕ)) (word : List ℕ) (others : List (List ℕ)) (r : Option Ask) → words ≡ word ∷ others → word ≡ codes "marks" → IfNone r ((select : SelectValue) → AsksBehind s f words (full_marks select) → ⊥) → IfNone r ((v : AskValue) → AsksBehind s f words v → ⊥)
 no_marks_behind s f words word others (Some a) split named none = tt
 no_marks_behind s f words word others None split named none = marks_none s f words word others split named none
 
--- words other than `changes` and `marks` ask for rows
-pub rows_none : (s f : Bool) (words : List (List ℕ)) (word : List ℕ) (others : List (List ℕ)) → words ≡ word ∷ others → (word ≡ codes "changes" → ⊥) → (word ≡ codes "marks" → ⊥) → ((q : QueryValue) (t : TraitsValue) → AsksWith q t words → (s ≡ true → TellsRows q) → (f ≡ true → TellsRows q) → ⊥)
+-- ---- behind `routers`
+-- a verb with another first letter
+other_first : (verb : List ℕ) (behind words x others : List (List ℕ)) → ¬ (get_or verb 0 0 ≡ get_or (codes "routers") 0 0) → words ≡ verb ∷ behind → ¬ (words ++ x ≡ codes "routers" ∷ others)
+other_first verb behind words x others differ is e =
+    let whole : verb ∷ (behind ++ x) ≡ codes "routers" ∷ others = ap (λ (l : List (List ℕ)). l ++ x) (sym is) ∙ e in
+    let same : verb ≡ codes "routers" = cc in
+    differ_first verb (codes "routers") differ same
+
+-- a query for rows doesn't begin so
+not_routers : (q : QueryValue) (words x others : List (List ℕ)) → AsksForRows q → AreQueryWords q words → ¬ (words ++ x ≡ codes "routers" ∷ others)
+not_routers (table select) words x others asks is e = other_first (codes "table") is.selectors words x others (λ f. omega (arith, f)) is.spelled e
+not_routers (count select) words x others asks is e = other_first (codes "count") is.selectors words x others (λ f. omega (arith, f)) is.spelled e
+not_routers (exact prefix select) words x others asks is e = other_first (codes "prefix") (is.text ∷ is.selectors) words x others (λ f. omega (arith, f)) is.spelled e
+not_routers (longest address select) words x others asks is e = other_first (codes "match") (is.text ∷ is.selectors) words x others (λ f. omega (arith, f)) is.spelled e
+not_routers (within prefix select) words x others asks is e = other_first (codes "within") (is.text ∷ is.selectors) words x others (λ f. omega (arith, f)) is.spelled e
+not_routers (origin number select) words x others asks is e = other_first (codes "origin") (is.text ∷ is.selectors) words x others (λ f. omega (arith, f)) is.spelled e
+not_routers _ words x others asks is e = absurd asks
+
+-- behind `routers` nothing is asked but it alone
+pub routers_none : (s f : Bool) (rest : List (List ℕ)) → (s ≡ false → f ≡ true → rest ≡ [] → ⊥) → (v : AskValue) → AsksBehind s f (codes "routers" ∷ rest) v → ⊥
+routers_none s f rest none (plain q) asks = asks
+routers_none s f rest none (rows u g q t) asks = let with_traits = asks.2 in not_routers q with_traits.front with_traits.back rest with_traits.asks with_traits.is_query (sym with_traits.spelled)
+routers_none s f rest none (steps g lane from p) asks =
+    let are = asks.2 in
+    let whole : codes "changes" ∷ are.lane_text ∷ are.from_text ∷ are.prefix_words ≡ codes "routers" ∷ rest = sym are.spelled in
+    let same : codes "changes" ≡ codes "routers" = cc in
+    differ_first (codes "changes") (codes "routers") (λ e. omega (arith, e)) same
+routers_none s f rest none (full_marks select) asks =
+    let are = asks.2 in
+    let whole : codes "marks" ∷ are.selectors ≡ codes "routers" ∷ rest = sym are.spelled in
+    let same : codes "marks" ≡ codes "routers" = cc in
+    differ_first (codes "marks") (codes "routers") (λ e. omega (arith, e)) same
+routers_none s f rest none full_routers asks =
+    let whole : codes "routers" ∷ rest ≡ codes "routers" ∷ [] = asks.2 in
+    none asks.0 asks.1 cc
+
+-- words other than `changes`, `marks` and `routers` ask for rows
+pub rows_none : (s f : Bool) (words : List (List ℕ)) (word : List ℕ) (others : List (List ℕ)) → words ≡ word ∷ others → (word ≡ codes "changes" → ⊥) → (word ≡ codes "marks" → ⊥) → (word ≡ codes "routers" → ⊥) → ((q : QueryValue) (t : TraitsValue) → AsksWith q t words → (s ≡ true → TellsRows q) → (f ≡ true → TellsRows q) → ⊥)
     → (v : AskValue) → AsksBehind s f words v → ⊥
-rows_none s f words word others split other unmarked none (plain q) asks = asks
-rows_none s f words word others split other unmarked none (rows u g q t) asks = none q t asks.2 asks.3 asks.4
-rows_none s f words word others split other unmarked none (steps g lane from p) asks =
+rows_none s f words word others split other unmarked unrouted none (plain q) asks = asks
+rows_none s f words word others split other unmarked unrouted none (rows u g q t) asks = none q t asks.2 asks.3 asks.4
+rows_none s f words word others split other unmarked unrouted none (steps g lane from p) asks =
     let are = asks.2 in
     let whole : word ∷ others ≡ codes "changes" ∷ are.lane_text ∷ are.from_text ∷ are.prefix_words = sym split ∙ are.spelled in
     let same : word ≡ codes "changes" = cc in
     other same
-rows_none s f words word others split other unmarked none (full_marks select) asks =
+rows_none s f words word others split other unmarked unrouted none (full_marks select) asks =
     let are = asks.2 in
     let whole : word ∷ others ≡ codes "marks" ∷ are.selectors = sym split ∙ are.spelled in
     let same : word ≡ codes "marks" = cc in
     unmarked same
+rows_none s f words word others split other unmarked unrouted none full_routers asks =
+    let whole : word ∷ others ≡ codes "routers" ∷ [] = sym split ∙ asks.2 in
+    let same : word ≡ codes "routers" = cc in
+    unrouted same
 
-pub no_rows_behind : (s f : Bool) (words : List (List ℕ)) (word : List ℕ) (others : List (List ℕ)) (q : QueryValue) (t : TraitsValue) (r : Option Ask) → words ≡ word ∷ others → (word ≡ codes "changes" → ⊥) → (word ≡ codes "marks" → ⊥) → ((v : QueryValue) (u : TraitsValue) → AsksWith v u words → (v ≡ q) × (u ≡ t))
+pub no_rows_behind : (s f : Bool) (words : List (List ℕ)) (word : List ℕ) (others : List (List ℕ)) (q : QueryValue) (t : TraitsValue) (r : Option Ask) → words ≡ word ∷ others → (word ≡ codes "changes" → ⊥) → (word ≡ codes "marks" → ⊥) → (word ≡ codes "routers" → ⊥) → ((v : QueryValue) (u : TraitsValue) → AsksWith v u words → (v ≡ q) × (u ≡ t))
     → IfNone r (AsksForRows q → (s ≡ true → TellsRows q) → (f ≡ true → TellsRows q) → ⊥) → IfNone r ((v : AskValue) → AsksBehind s f words v → ⊥)
-no_rows_behind s f words word others q t (Some a) split other unmarked one none = tt
-no_rows_behind s f words word others q t None split other unmarked one none = rows_none s f words word others split other unmarked (λ v u asks with_s with_f.
+no_rows_behind s f words word others q t (Some a) split other unmarked unrouted one none = tt
+no_rows_behind s f words word others q t None split other unmarked unrouted one none = rows_none s f words word others split other unmarked unrouted (λ v u asks with_s with_f.
     let same = (one v u asks).0 in
     none (subst (λ (w : QueryValue). AsksForRows w) same asks.asks) (λ e. subst (λ (w : QueryValue). TellsRows w) same (with_s e)) (λ e. subst (λ (w : QueryValue). TellsRows w) same (with_f e)))
 
@@ -202,6 +251,13 @@ module _ (line : List ℕ) (first second : List (List ℕ)) (s f : Bool) (with_s
       let two = first_one (codes "full") true f (codes "full" ∷ []) are.marks_words first second refl
       (no_front (codes "full") refl) (codes "marks", are.are_marks.selectors, are.are_marks.spelled) (sym one.1) with_full in
       (sym one.0, sym two.0, subst (AreQueryWords (marks select)) two.1 are.are_marks)
+  asks_behind no_query full_routers is =
+      let are : words_of line ≡ codes "full" ∷ codes "routers" ∷ [] = asked_words line full_routers is.is_ask in
+      let one = first_one (codes "steps") false s [] (codes "full" ∷ codes "routers" ∷ []) (words_of line) first refl
+      (behind_flag true (codes "full" ∷ []) (codes "routers" ∷ []) refl (routers_no_front (codes "steps") refl)) (codes "full", codes "routers" ∷ [], refl) are with_steps in
+      let two = first_one (codes "full") true f (codes "full" ∷ []) (codes "routers" ∷ []) first second refl
+      (routers_no_front (codes "full") refl) (codes "routers", [], refl) (sym one.1) with_full in
+      (sym one.0, sym two.0, sym two.1)
 
   -- what stands behind them, where none of them does
   bare : s ≡ false → f ≡ false → words_of line ≡ second
@@ -271,6 +327,12 @@ module _ (line : List ℕ) (first second : List (List ℕ)) (s f : Bool) (with_s
             with_steps.spelled ∙ ap (λ (l : List (List ℕ)). l ++ first) (no_flag (codes "steps") s with_steps.front with_steps.is_flag no_steps)
             ∙ with_full.spelled ∙ ap (λ (l : List (List ℕ)). l ++ second) flag;
       })
+  behind_offered no_query full_routers (no_steps, is_full, are) =
+      let flag : with_full.front ≡ codes "full" ∷ [] = subst (λ (b : Bool). IsFlag (codes "full") b with_full.front) is_full with_full.is_flag in
+      asks_offered line full_routers (
+      with_steps.spelled ∙ ap (λ (l : List (List ℕ)). l ++ first) (no_flag (codes "steps") s with_steps.front with_steps.is_flag no_steps)
+      ∙ with_full.spelled ∙ ap (λ (l : List (List ℕ)). l ++ second) flag ∙ ap (λ (l : List (List ℕ)). codes "full" ∷ l) are
+      )
 
 -- ---- a prefix, or nothing
 pub prefix_ends : (p : Option PrefixValue) (words others : List (List ℕ)) (text : List ℕ) → words ≡ text ∷ others → (others ≡ [] → ⊥) → IsPrefixWord p words → ⊥

@@ -18,6 +18,7 @@ use Rattle.ask_specs.proofs.NoCommunity.{names_none}
 use Rattle.ask_specs.proofs.PlainWords.{by_one, is_front, plain_bare, plain_front, query_plain}
 use Rattle.ask_specs.proofs.TraitOne.{Small}
 use Rattle.ask_specs.proofs.WrongLaws.{full_count, full_steps, other_through}
+use Rattle.ask_specs.proofs.WrongRouters.{full_routers_router, steps_before_full_routers}
 use Rattle.query_lang.specs.Reading.{words_of, AsksBehind, AsksWith, Takes}
 use Rattle.query_lang.specs.Verbs.{verb_of, verb_text}
 use Rattle.query_lang.specs.declared.verb.Verb.{Verb}
@@ -86,10 +87,10 @@ asks_verb verb q t others asks =
     verb_one verb (verb_of q) head
 
 -- a verb whose queries tell no rows, behind `steps`, `full` or both
-tells_none : (s f : Bool) (verb : Verb) (others : List (List ℕ)) → ((q : QueryValue) → TellsRows q → verb ≡ verb_of q → ⊥) → (verb_text verb ≡ codes "changes" → ⊥) → (verb_text verb ≡ codes "marks" → ⊥) → ((q : QueryValue) → (s ≡ true → TellsRows q) → (f ≡ true → TellsRows q) → TellsRows q)
+tells_none : (s f : Bool) (verb : Verb) (others : List (List ℕ)) → ((q : QueryValue) → TellsRows q → verb ≡ verb_of q → ⊥) → (verb_text verb ≡ codes "changes" → ⊥) → (verb_text verb ≡ codes "marks" → ⊥) → (verb_text verb ≡ codes "routers" → ⊥) → ((q : QueryValue) → (s ≡ true → TellsRows q) → (f ≡ true → TellsRows q) → TellsRows q)
     → (ask : AskValue) → AsksBehind s f (verb_text verb ∷ others) ask → ⊥
-tells_none s f verb others none other unmarked told =
-    rows_none s f (verb_text verb ∷ others) (verb_text verb) others refl other unmarked (λ q t asks with_s with_f. none q (told q with_s with_f) (asks_verb verb q t others asks))
+tells_none s f verb others none other unmarked unrouted told =
+    rows_none s f (verb_text verb ∷ others) (verb_text verb) others refl other unmarked unrouted (λ q t asks with_s with_f. none q (told q with_s with_f) (asks_verb verb q t others asks))
 
 -- none of the two words stands in front
 bare_line : (line first : List ℕ) (others : List (List ℕ)) → words_of line ≡ first ∷ others → (first ≡ codes "steps" → ⊥) → (first ≡ codes "full" → ⊥) → ((q : QueryValue) → IsQuery line q → ⊥) → (v : AskValue) → IsOfferedAsk line v → AsksBehind false false (words_of line) v
@@ -114,22 +115,22 @@ peers_tells_no_rows (origin number select) tells e = absurd cc
 peers_tells_no_rows _ tells e = absurd tells
 
 -- `steps` before a verb whose queries tell no rows
-no_steps_of : (verb : Verb) (line : List ℕ) → ((q : QueryValue) → TellsRows q → verb ≡ verb_of q → ⊥) → (verb_text verb ≡ codes "changes" → ⊥) → (verb_text verb ≡ codes "marks" → ⊥) → (verb_text verb ≡ codes "full" → ⊥) → words_of line ≡ codes "steps" ∷ verb_text verb ∷ [] → (ask : AskValue) → IsOfferedAsk line ask → ⊥
-no_steps_of verb line none other unmarked no_full split ask is =
+no_steps_of : (verb : Verb) (line : List ℕ) → ((q : QueryValue) → TellsRows q → verb ≡ verb_of q → ⊥) → (verb_text verb ≡ codes "changes" → ⊥) → (verb_text verb ≡ codes "marks" → ⊥) → (verb_text verb ≡ codes "routers" → ⊥) → (verb_text verb ≡ codes "full" → ⊥) → words_of line ≡ codes "steps" ∷ verb_text verb ∷ [] → (ask : AskValue) → IsOfferedAsk line ask → ⊥
+no_steps_of verb line none other unmarked unrouted no_full split ask is =
     let behind : List (List ℕ) = verb_text verb ∷ [] in
-    tells_none true false verb [] none other unmarked (λ q with_s _. with_s refl) ask
+    tells_none true false verb [] none other unmarked unrouted (λ q with_s _. with_s refl) ask
     (asks_behind line behind behind true false (takes_first (codes "steps") (words_of line) behind split) (takes_no_first (codes "full") behind (other_unnamed (codes "full") (verb_text verb) behind [] refl no_full))
     (front_no_query line (codes "steps") behind refl split) ask is)
 
 -- A number of rows has no lanes' steps before it.
 steps_stand_before_no_count : (ask : AskValue) → IsOfferedAsk (codes "steps count") ask → ⊥
 unfolding words_of
-steps_stand_before_no_count = no_steps_of Count (codes "steps count") count_tells_no_rows (λ e. cc e) (λ e. omega (arith, ap (λ (l : List ℕ). get_or l 0 0) e)) (λ e. cc e) refl
+steps_stand_before_no_count = no_steps_of Count (codes "steps count") count_tells_no_rows (λ e. cc e) (λ e. omega (arith, ap (λ (l : List ℕ). get_or l 0 0) e)) (λ e. omega (arith, ap (λ (l : List ℕ). get_or l 0 0) e)) (λ e. cc e) refl
 
 -- Nor have the peers.
 steps_stand_before_no_peers : (ask : AskValue) → IsOfferedAsk (codes "steps peers") ask → ⊥
 unfolding words_of
-steps_stand_before_no_peers = no_steps_of Peers (codes "steps peers") peers_tells_no_rows (λ e. cc e) (λ e. omega (arith, ap (λ (l : List ℕ). get_or l 0 0) e)) (λ e. cc e) refl
+steps_stand_before_no_peers = no_steps_of Peers (codes "steps peers") peers_tells_no_rows (λ e. cc e) (λ e. omega (arith, ap (λ (l : List ℕ). get_or l 0 0) e)) (λ e. omega (arith, ap (λ (l : List ℕ). get_or l 0 0) e)) (λ e. cc e) refl
 
 -- A number of rows has no path attributes to tell.
 full_stands_before_no_count : (ask : AskValue) → IsOfferedAsk (codes "full count") ask → ⊥
@@ -140,10 +141,22 @@ full_stands_before_no_count ask is = full_count ask is.is_ask
 full_stands_behind_steps : (ask : AskValue) → IsOfferedAsk (codes "full steps table") ask → ⊥
 full_stands_behind_steps ask is = full_steps ask is.is_ask
 
+-- `full routers` takes no selector, and no `steps`.
+full_routers_take_no_selector : (ask : AskValue) → IsOfferedAsk (codes "full routers router 1") ask → ⊥
+full_routers_take_no_selector ask is = full_routers_router ask is.is_ask
+
+full_routers_take_no_steps : (ask : AskValue) → IsOfferedAsk (codes "steps full routers") ask → ⊥
+full_routers_take_no_steps ask is = steps_before_full_routers ask is.is_ask
+
 -- Who passes over `full` asks for the rows as a query tells them.
 full_is_not_passed_over : (q : QueryValue) → IsOfferedAsk (codes "full table") (plain q) → ⊥
 unfolding words_of
 full_is_not_passed_over q is = plain_front (words_of (codes "full table")) (codes "table" ∷ []) (codes "full") (query_plain q (words_of (codes "full table")) (asked_words (codes "full table") (plain q) is.is_ask)) refl refl
+
+-- And for the routers.
+nor_before_routers : (q : QueryValue) → IsOfferedAsk (codes "full routers") (plain q) → ⊥
+unfolding words_of
+nor_before_routers q is = plain_front (words_of (codes "full routers")) (codes "routers" ∷ []) (codes "full") (query_plain q (words_of (codes "full routers")) (asked_words (codes "full routers") (plain q) is.is_ask)) refl refl
 
 -- Who passes over `steps` asks for the rows alone.
 steps_is_not_passed_over : (q : QueryValue) → IsOfferedAsk (codes "steps table") (plain q) → ⊥

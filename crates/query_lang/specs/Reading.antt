@@ -4,7 +4,7 @@ use Rattle.std.specs.List.{slice_split}
 use Rattle.bmp_specs.specs.Query.{QueryValue, marks, space, AreQueryWords, IsSelector}
 use Rattle.bmp_specs.specs.NumberText.{IsNumberText, IsStepText}
 use Rattle.bmp_specs.specs.Values.{PrefixValue}
-use Rattle.ask_specs.specs.Asking.{AskValue, plain, rows, steps, full_marks, AreTraits, AsksForRows, IsFlag, IsPrefixWord, TellsRows}
+use Rattle.ask_specs.specs.Asking.{AskValue, plain, rows, steps, full_marks, full_routers, AreTraits, AsksForRows, IsFlag, IsPrefixWord, TellsRows}
 use Rattle.ask_specs.specs.Traits.{TraitsValue}
 
 -- the words of a line, which stand between its spaces
@@ -103,3 +103,4 @@ AsksBehind with_steps full words (plain query) = ⊥
 AsksBehind with_steps full words (rows s f query traits) = (s ≡ with_steps) × (f ≡ full) × AsksWith query traits words × (with_steps ≡ true → TellsRows query) × (full ≡ true → TellsRows query)
 AsksBehind with_steps full words (steps f lane from prefix) = (with_steps ≡ false) × (f ≡ full) × AreChangesWords lane from prefix words
 AsksBehind with_steps full words (full_marks select) = (with_steps ≡ false) × (full ≡ true) × AreQueryWords (marks select) words
+AsksBehind with_steps full words full_routers = (with_steps ≡ false) × (full ≡ true) × (words ≡ codes "routers" ∷ [])

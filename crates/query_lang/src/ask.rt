@@ -65,6 +65,10 @@ pub enum Ask {
 
     /// `full marks`: the marks, each with the number of its rows.
     FullMarks(Select),
+
+    /// `full routers`: the routers, each with from where and when its last connection came, and with the parts
+    /// that were passed over.
+    FullRouters,
 }
 
 // The query as one that tells rows. None exactly where it tells none.

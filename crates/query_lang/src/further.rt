@@ -146,6 +146,17 @@ fn asked_marks(steps: bool, full: bool, text: &[u8]) -> Option<Ask>
     }
 }
 
+// Reads nothing behind `routers`, which has `full` in front of it, and no `steps`.
+fn asked_routers(steps: bool, full: bool, rest: &[u8]) -> Option<Ask>
+    ensures some { IfSome result (λ a. AsksBehind steps full (codes "routers" ∷ further_words rest.now) (ask_value a)) }
+    ensures none { IfNone result ((v : AskValue) → AsksBehind steps full (codes "routers" ∷ further_words rest.now) v → ⊥) }
+{
+    if steps || !full || !rest.is_empty() {
+        return None;
+    }
+    Some(Ask::FullRouters)
+}
+
 // Reads what stands behind `steps` and `full`, or behind none of them.
 pub(crate) fn asked_behind(steps: bool, full: bool, text: &[u8]) -> Option<Ask>
     ensures some { IfSome result (λ a. AsksBehind steps full (words_of text.now) (ask_value a)) }
@@ -157,6 +168,9 @@ pub(crate) fn asked_behind(steps: bool, full: bool, text: &[u8]) -> Option<Ask>
     }
     if word == b"marks".as_slice() {
         return asked_marks(steps, full, text);
+    }
+    if word == b"routers".as_slice() {
+        return asked_routers(steps, full, rest);
     }
     match query_with(text) {
         Some((query, traits)) => asked_rows(steps, full, &query, traits),

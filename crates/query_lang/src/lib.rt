@@ -3,8 +3,8 @@
 //! A line is words with exactly one space between two of them: a word for what is asked, what is sought,
 //! and selectors in a fixed order, `router N`, `peer KEY`, `view V` and `family F`. Further forms have
 //! `steps`, for a copy of a lane's rows, or `full`, for all path attributes, before a query that tells rows;
-//! `changes` without a prefix, or with `full` in front; `marks` with `full` in front; and selectors of path attributes behind a query for
-//! rows, `through L`, `community C` and `other T`. No call takes memory.
+//! `changes` without a prefix, or with `full` in front; `marks` and `routers` with `full` in front; and selectors of
+//! path attributes behind a query for rows, `through L`, `community C` and `other T`. No call takes memory.
 //!
 //! Proved: `parse` reads a line exactly where it is a query, and as the one query that it is; `parse_ask`
 //! reads it exactly where it asks something, and a query as that query;

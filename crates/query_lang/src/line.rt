@@ -29,7 +29,8 @@ pub fn parse(line: &[u8]) -> Option<Query>
 
 /// Reads a line, without its end, as what it asks for: a query, as `parse` reads it, or a query for rows with
 /// `steps` or `full` in front of it or selectors of path attributes behind it, or the changes on a lane, all of
-/// them or with `full` in front, or `marks` with `full` in front. A line asks one thing at most. None exactly where the line asks nothing.
+/// them or with `full` in front, or `marks` or `routers` with `full` in front. A line asks one thing at most. None
+/// exactly where the line asks nothing.
 pub fn parse_ask(line: &[u8]) -> Option<Ask>
     ensures some { IfSome result (λ a. IsOfferedAsk line.now (ask_value a)) }
     ensures only { IfSome result (λ a. (v : AskValue) → IsOfferedAsk line.now v → v ≡ ask_value a) }

@@ -1,8 +1,9 @@
 -- Wrong texts and answers, which the clauses of their calls refuse.
-use Rattle.std.proofs.Common.{◌≡◌, ℕ, false, true, List, [], ◌∷◌, length, replicate, slice_index, codes, Option, None, Some, Ok, refl, ap, arith}
+use Rattle.std.proofs.Common.{◌≡◌, ℕ, false, true, List, [], ◌∷◌, length, length-append, replicate, slice_index, codes, Option, None, Some, Ok, refl, ap, arith}
 use Rattle.std.specs.Fmt.{digits}
 use Rattle.bmp_specs.specs.declared.peers.View.TheVariants.{InPre}
-use Rattle.bmp_specs.specs.declared.wire.Family.TheVariants.{V4}
+use Rattle.bmp_specs.specs.declared.causes.Cause.TheVariants.{Ended}
+use Rattle.bmp_specs.specs.declared.wire.Family.TheVariants.{V4, V6}
 use Rattle.bmp_specs.specs.AddressText.{dotted}
 use Rattle.bmp_specs.specs.EscapedText.{escaped_text}
 use Rattle.bmp_specs.specs.NumberText.{number_text}
@@ -10,9 +11,11 @@ use Rattle.bmp_specs.specs.PeerText.{hex_text, distinguisher_text}
 use Rattle.bmp_specs.specs.declared.wire.SegmentKind.TheVariants.{Sequence}
 use Rattle.bmp_specs.specs.RouteLine.{comma_list, route_line}
 use Rattle.bmp_specs.specs.Rows.{RowKeyValue}
+use Rattle.bmp_specs.specs.Session.{live, shut}
 use Rattle.bmp_specs.specs.Values.{AddressValue, AttrsValue, OtherValue, SegmentValue, opened_step}
 use Rattle.ask_specs.specs.AskReply.{told_change}
 use Rattle.ask_specs.specs.FullLine.{full_line, raw_path}
+use Rattle.ask_specs.specs.FullRouters.{ConnectionValue, full_router_line, host_text}
 use Rattle.ask_specs.specs.TraitText.{extended_text}
 use Rattle.wire_io.specs.Aside.{Aside}
 use Rattle.wire_io.specs.Writes.{Writes}
@@ -126,3 +129,36 @@ a_full_change_has_its_times = refl
 a_full_change_is_not_told_without_times : told_change true 3 (record { number = 0; step = opened_step }) ≡ codes "change 3 0 opened\n" → ⊥
 unfolding digits
 a_full_change_is_not_told_without_times e = omega (arith, ap length e)
+
+-- a connection from 192.0.2.1 that was closed 16 seconds after it was opened, and had a route of 1/128 passed over
+abbrev connection : ConnectionValue
+connection = record {
+  came = record { from = Some (record { address = ipv4 192 0 2 1; port = 50852 }); since = Some 1764571484 };
+  until = Some 1764571500;
+  up = 1;
+  counts = record { messages = 2; bytes = 233; orphans = 0; unread = 1; mirrored = 0; passed = 0 };
+  name = codes "r1";
+  descr = codes "test";
+  passed = record { tlvs = 0; stats = 0; routes = 1; families = 1; others = record { family = record { afi = 1; safi = 128 }; count = 1 } ∷ []; more = 0 };
+}
+
+a_closed_connection_is_told_whole : full_router_line 0 (shut Ended) connection
+    ≡ codes "router 0 closed ended from=192.0.2.1:50852 since=1764571484 until=1764571500 peers=1 messages=2 bytes=233 orphans=0 unread=1 mirrored=0 passed=0 name=r1 descr=test tlvs=0 stats=0 malformed=0 others=1/128:1 more=0\n"
+unfolding digits dotted
+a_closed_connection_is_told_whole = refl
+
+-- A route of another family is told as a malformed one.
+another_family_is_not_malformed : full_router_line 0 (shut Ended) connection
+    ≡ codes "router 0 closed ended from=192.0.2.1:50852 since=1764571484 until=1764571500 peers=1 messages=2 bytes=233 orphans=0 unread=1 mirrored=0 passed=0 name=r1 descr=test tlvs=0 stats=0 malformed=1 others=- more=0\n" → ⊥
+unfolding digits dotted
+another_family_is_not_malformed e = omega (arith, ap length e)
+
+-- The line of an open connection tells when it was closed.
+an_open_connection_is_not_told_as_closed : full_router_line 0 live connection
+    ≡ codes "router 0 live peers=1 messages=2 bytes=233 orphans=0 unread=1 mirrored=0 passed=0 name=r1 descr=test from=192.0.2.1:50852 since=1764571484 until=1764571500 tlvs=0 stats=0 malformed=0 others=1/128:1 more=0\n" → ⊥
+unfolding digits dotted
+an_open_connection_is_not_told_as_closed e = omega (arith, ap length e)
+
+-- An IPv6 address stands without brackets, so its port is told as more of it.
+an_ipv6_address_does_not_stand_bare : (text : List ℕ) → host_text V6 text ≡ text → ⊥
+an_ipv6_address_does_not_stand_bare text e = omega (arith, ap length e, length-append text (codes "]"))

@@ -10,6 +10,7 @@ use Rattle.bmp_specs.specs.PeerLines.{named_field}
 use Rattle.bmp_specs.specs.PeerText.{key_text}
 use Rattle.bmp_specs.specs.RouteLine.{absent, comma, underscore, text_or_absent, hop_text, origin_text, path_text, yes_or_no, aggregator_text, comma_list, community_text, others_text}
 use Rattle.bmp_specs.specs.Values.{AttrsValue, KeyValue, PeerInfoValue}
+use Rattle.ask_specs.specs.Connection.{PassedValue, malformed_of}
 
 -- pieces, each after the mark
 abbrev pub behind : ℕ → List (List ℕ) → List ℕ
@@ -71,14 +72,11 @@ metrics_text a = codes " med=" ++ (text_or_absent number_text a.med ++ (codes " 
 abbrev pub remaining_text : AttrsValue → List ℕ
 remaining_text a = codes " agg=" ++ (text_or_absent aggregator_text a.aggregator ++ (codes " comm=" ++ (comma_list (map community_text a.communities) ++ (codes " other=" ++ others_text a.others))))
 
--- the fields of a router with a connection, up to its peers
-abbrev pub peers_fields : ℕ → ℕ → List (List ℕ)
-peers_fields lane up = number_text lane ∷ codes "live" ∷ named_field (codes "peers") (number_text up) ∷ []
-
--- the fields of the counts of a session
-abbrev pub counts_fields : CountsValue → List (List ℕ)
-counts_fields counts =
-    named_field (codes "messages") (number_text counts.messages)
+-- the fields of how many peers are up, and of the counts of a session
+abbrev pub counts_fields : ℕ → CountsValue → List (List ℕ)
+counts_fields up counts =
+    named_field (codes "peers") (number_text up)
+    ∷ named_field (codes "messages") (number_text counts.messages)
     ∷ named_field (codes "bytes") (number_text counts.bytes)
     ∷ named_field (codes "orphans") (number_text counts.orphans)
     ∷ named_field (codes "unread") (number_text counts.unread)
@@ -89,6 +87,14 @@ counts_fields counts =
 -- the fields of sysName and sysDescr
 abbrev pub name_fields : List ℕ → List ℕ → List (List ℕ)
 name_fields name descr = named_field (codes "name") (escaped_text name) ∷ named_field (codes "descr") (escaped_text descr) ∷ []
+
+-- the fields of the parts that were passed over, up to the families
+abbrev pub cause_counts : PassedValue → List (List ℕ)
+cause_counts passed =
+    named_field (codes "tlvs") (number_text passed.tlvs)
+    ∷ named_field (codes "stats") (number_text passed.stats)
+    ∷ named_field (codes "malformed") (number_text (malformed_of passed))
+    ∷ []
 
 -- the fields of a peer that is up, up to its ports
 abbrev pub session_fields : ℕ → KeyValue → PeerInfoValue → List (List ℕ)

@@ -1,8 +1,8 @@
 ghost use Rattle.std.specs.Prelude.{◌≡◌, ◌++◌, [], ◌∷◌, codes};
-ghost use Rattle.bmp_specs.specs.Lines.{further};
+ghost use Rattle.ask_specs.specs.FullRouters.{counted_fields};
 ghost use Rattle.bmp_specs.specs.NumberText.{number_text};
 ghost use Rattle.bmp_specs.specs.PeerLines.{closed_line, live_line};
-ghost use Rattle.reply_text.specs.Pieces.{counts_fields, name_fields, peers_fields, spaced};
+ghost use Rattle.reply_text.specs.Pieces.{counts_fields, name_fields, spaced};
 ghost use Rattle.reply_text.specs.Router.{router_line};
 ghost use Rattle.wire_io.specs.Writes.{Writes};
 
@@ -55,7 +55,7 @@ pub fn put_router<O: Sink>(out: &mut O, lane: u32, state: &RouterState<'_>) -> R
 }
 
 // Writes the fields of a lane and of its state.
-fn put_state<O: Sink>(out: &mut O, lane: u32, state: &[u8]) -> Result<(), Failed>
+pub(crate) fn put_state<O: Sink>(out: &mut O, lane: u32, state: &[u8]) -> Result<(), Failed>
     ensures { Writes O.faults O.told O.aside out.old (codes "router" ++ spaced (number_text lane ∷ state.now ∷ [])) result out.new }
 {
     write_pieces(
@@ -81,33 +81,34 @@ fn put_closed<O: Sink>(out: &mut O, lane: u32, cause: Cause) -> Result<(), Faile
 fn put_live<O: Sink>(out: &mut O, lane: u32, line: &RouterLine<'_>) -> Result<(), Failed>
     ensures { Writes O.faults O.told O.aside out.old (live_line lane line.now.peers line.now.counts line.now.name.now line.now.descr.now) result out.new }
 {
-    put_peers(out, lane, line.peers)?;
-    put_counts(out, &line.counts)?;
-    put_names(out, line.name, line.descr)
+    put_state(out, lane, b"live")?;
+    put_counted(out, line.peers, &line.counts, line.name, line.descr)?;
+    write_all(out, b"\n")
 }
 
-// Writes the fields of a lane with a connection and of how many of its peers are up.
-fn put_peers<O: Sink>(out: &mut O, lane: u32, peers: u64) -> Result<(), Failed>
-    ensures { Writes O.faults O.told O.aside out.old (codes "router" ++ spaced (peers_fields lane peers)) result out.new }
+// Writes the fields of what a connection counted and of what its router calls itself.
+pub(crate) fn put_counted<O: Sink>(
+    out: &mut O,
+    peers: u64,
+    counts: &Counts,
+    name: &[u8],
+    descr: &[u8],
+) -> Result<(), Failed>
+    ensures { Writes O.faults O.told O.aside out.old (spaced (counted_fields peers counts.now name.now descr.now)) result out.new }
+{
+    put_counts(out, peers, counts)?;
+    put_names(out, name, descr)
+}
+
+// Writes the fields of how many peers are up and of the counts of a session.
+fn put_counts<O: Sink>(out: &mut O, peers: u64, counts: &Counts) -> Result<(), Failed>
+    ensures { Writes O.faults O.told O.aside out.old (spaced (counts_fields peers counts.now)) result out.new }
 {
     write_pieces(
         out,
         &[
-            b"router ",
-            Buffer::new().format(lane).as_bytes(),
-            b" live peers=",
+            b" peers=",
             Buffer::new().format(peers).as_bytes(),
-        ],
-    )
-}
-
-// Writes the fields of the counts of a session.
-fn put_counts<O: Sink>(out: &mut O, counts: &Counts) -> Result<(), Failed>
-    ensures { Writes O.faults O.told O.aside out.old (spaced (counts_fields counts.now)) result out.new }
-{
-    write_pieces(
-        out,
-        &[
             b" messages=",
             Buffer::new().format(counts.messages).as_bytes(),
             b" bytes=",
@@ -124,11 +125,10 @@ fn put_counts<O: Sink>(out: &mut O, counts: &Counts) -> Result<(), Failed>
     )
 }
 
-// Writes the fields of sysName and sysDescr (RFC 7854, section 4.4), and the end of the line.
+// Writes the fields of sysName and sysDescr (RFC 7854, section 4.4).
 fn put_names<O: Sink>(out: &mut O, name: &[u8], descr: &[u8]) -> Result<(), Failed>
-    ensures { Writes O.faults O.told O.aside out.old (further (name_fields name.now descr.now)) result out.new }
+    ensures { Writes O.faults O.told O.aside out.old (spaced (name_fields name.now descr.now)) result out.new }
 {
     put_text(out, b" name=", name)?;
-    put_text(out, b" descr=", descr)?;
-    write_all(out, b"\n")
+    put_text(out, b" descr=", descr)
 }

@@ -2,6 +2,7 @@ pub mod StepCopies
 pub mod Beginnings
 pub mod BookSteps
 pub mod CountSteps
+pub mod LastSteps
 pub mod SessionSteps
 pub mod StepSteps
 pub mod RouteSteps

@@ -1,5 +1,6 @@
 pub mod State
 pub mod Books
+pub mod Last
 pub mod Session
 pub mod Views
 pub mod Tables

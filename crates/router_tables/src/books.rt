@@ -1,13 +1,18 @@
 ghost use Rattle.std.specs.Prelude.{◌≡◌, [], ◌++◌, List, IfOk, OnOk};
-ghost use Rattle.bmp_specs.specs.Values.{EffectValue};
+ghost use Rattle.ask_specs.specs.Connection.{last_messages};
+ghost use Rattle.bmp_specs.specs.Counts.{counts_of};
+ghost use Rattle.bmp_specs.specs.Session.{session_effects, session_messages};
+ghost use Rattle.bmp_specs.specs.Values.{EffectValue, EntryValue};
 ghost use Rattle.rib_model.specs.Effects.{item_values};
 ghost use Rattle.router_tables.specs.Books.{StandsForBooks};
+ghost use Rattle.router_tables.specs.Last.{StandsForLeft};
 
+use crate::left::Left;
 use crate::shared_peers::{bring_up, set_mark, take_down};
 use crate::shared_stats::{forget, set_statistic};
 use peer_book::PeerBook;
 use rib_model::Effect;
-use stats_book::StatsBook;
+use stats_book::{Counts, StatsBook};
 use std::alloc::Global;
 use std::marker::Model;
 use std::sync::Arc;
@@ -81,6 +86,19 @@ impl Books {
         ensures { result.now ≡ self.now.stats }
     {
         &self.stats
+    }
+
+    // What the session leaves where it ends, which counted this: its connection is the last one.
+    pub(crate) fn left(&self, counts: Counts) -> Result<Left, NoMemory>
+        ensures { IfOk result (λ left. (entries : List EntryValue) → last_messages entries ≡ session_messages entries → counts ≡ counts_of entries
+            → StandsForBooks self.now (session_effects entries) → StandsForLeft left entries) }
+    {
+        Ok(Left {
+            peers: self.peers.count_up(),
+            counts,
+            name: Arc::try_clone(&self.name)?,
+            description: Arc::try_clone(&self.description)?,
+        })
     }
 
     // Takes one effect, or those on many routes. Out of memory, the books may only be dropped.

@@ -1,4 +1,5 @@
 ghost use Rattle.std.specs.Prelude.{◌≡◌, [], ◌∷◌, ◌++◌, List, IfOk, OnOk};
+ghost use Rattle.ask_specs.specs.FullRouters.{IsLastConnection};
 ghost use Rattle.bmp_specs.specs.Session.{session_effects};
 ghost use Rattle.bmp_specs.specs.Sums.{no_counts};
 ghost use Rattle.bmp_specs.specs.Values.{EntryValue};
@@ -11,20 +12,22 @@ ghost use Rattle.router_tables.specs.State.{state_value};
 use crate::books::Books;
 use crate::counting::count_message;
 use crate::effects::take_effects;
+use crate::last::LastConnection;
 use crate::rows::Rows;
 use crate::state::LaneState;
 use rib_model::Entry;
-use stats_book::Counts;
+use stats_book::{Connection, Counts};
 use std::alloc::Global;
 use std::marker::Model;
 use wire_io::NoMemory;
 
-// The present session of a lane, without its routes.
+// The present session of a lane, without its routes, and the lane's last connection.
 #[derive(Drop)]
 pub(crate) struct Session {
     state: LaneState,
     counts: Counts,
     books: Books,
+    last: LastConnection,
 }
 
 impl Model for Session {
@@ -33,7 +36,7 @@ impl Model for Session {
 
     ghost Value = { SessionValue };
 
-    ghost view = { λ s. record { state = state_value s.state; counts = s.counts; books = s.books } };
+    ghost view = { λ s. record { state = state_value s.state; counts = s.counts; books = s.books; last = s.last } };
 }
 
 impl Session {
@@ -45,6 +48,7 @@ impl Session {
             state: LaneState::Idle,
             counts: Counts::none(),
             books: Books::new(alloc)?,
+            last: LastConnection::none(alloc),
         })
     }
 
@@ -56,6 +60,7 @@ impl Session {
             state: self.state,
             counts: self.counts,
             books: self.books.share()?,
+            last: self.last.share()?,
         })
     }
 
@@ -77,6 +82,12 @@ impl Session {
         &self.books
     }
 
+    pub(crate) fn connection(&self) -> Connection<'_>
+        ensures { (entries : List EntryValue) → StandsForSession self.now entries → IsLastConnection entries result }
+    {
+        self.last.connection(self.counts, &self.books)
+    }
+
     // Takes one entry. Out of memory, the session and its rows may only be dropped.
     pub(crate) fn take(
         &mut self,
@@ -89,8 +100,9 @@ impl Session {
             → StandsForRows rows.new (session_effects (entries ++ entry_value entry.now ∷ []))) }
     {
         match entry {
-            Entry::Opened(_) => {
+            Entry::Opened(came) => {
                 rows.clear();
+                self.last.open(*came);
                 self.start_over(alloc, LaneState::Live)
             }
             Entry::Message { head, effects } => {
@@ -99,21 +111,25 @@ impl Session {
                 }
                 let effects = effects.as_slice();
                 count_message(&mut self.counts, head, effects);
+                self.last.take(head, effects)?;
                 take_effects(&mut self.books, rows, effects)
             }
             Entry::Closed(closing) => {
                 rows.clear();
+                self.last
+                    .close(self.state, closing, self.counts, &self.books)?;
                 let state = self.state.after_closing(closing.cause);
                 self.start_over(alloc, state)
             }
         }
     }
 
-    // Nothing is told and counted, and the lane is in this state.
+    // Nothing is told and counted, and the lane is in this state. Its last connection stays.
     fn start_over(&mut self, alloc: Global, state: LaneState) -> Result<(), NoMemory>
         ensures state { OnOk result (self.new.state ≡ state_value state) }
         ensures counts { OnOk result (self.new.counts ≡ no_counts) }
         ensures books { OnOk result (StandsForBooks self.new.books []) }
+        ensures last { OnOk result (self.new.last ≡ self.old.last) }
     {
         self.books = Books::new(alloc)?;
         self.counts = Counts::none();

@@ -1,5 +1,6 @@
 ghost use Rattle.std.specs.Prelude.{◌≡◌, [], ◌∷◌, ◌++◌, List, None, IfOk, IsNone, OnErr, OnOk};
 ghost use Rattle.std.specs.Option.{option_copied};
+ghost use Rattle.ask_specs.specs.FullRouters.{IsLastConnection};
 ghost use Rattle.bmp_specs.specs.Values.{EntryValue, NlriValue};
 ghost use Rattle.rib_model.specs.Entries.{entry_value, entry_values};
 ghost use Rattle.router_tables.specs.State.{state_value};
@@ -18,7 +19,7 @@ use peer_book::PeerBook;
 use recent_ring::Recent;
 use rib_model::{Entry, Step};
 use route_runs::RouteTable;
-use stats_book::{Counts, StatsBook};
+use stats_book::{Connection, Counts, StatsBook};
 use std::alloc::Global;
 use std::collections::BTreeMap;
 use std::marker::Model;
@@ -93,8 +94,8 @@ impl RouterTables {
     }
 
     /// Equal tables. The map of peers is copied, at the price of an entry for each peer that has tables and of a
-    /// counter for each of its tables, and so is the list of the last steps, as `Recent::copy` says. All else is
-    /// shared, and a book is copied once it changes.
+    /// counter for each of its tables, and so is the list of the last steps, as `Recent::copy` says, and that of the
+    /// families that were passed over, as `Passed::copy` says. All else is shared, and a book is copied once it changes.
     pub fn share(&self) -> Result<RouterTables, NoMemory>
         ensures { IfOk result (λ copy. copy ≡ self.now) }
     {
@@ -132,6 +133,15 @@ impl RouterTables {
         ensures { result.now ≡ self.now.session.books.description }
     {
         self.session.books().description()
+    }
+
+    /// The last connection of the lane, open or closed: from where it came and when, what its session counted and told, and
+    /// which parts of its messages were passed over. All of it stays after the close until another connection is opened; of
+    /// a lane that never had one all is nothing.
+    pub fn connection(&self) -> Connection<'_>
+        ensures { (entries : List EntryValue) → StandsFor self.now entries → IsLastConnection entries result }
+    {
+        self.session.connection()
     }
 
     /// The peers of the present session (RFC 7854, sections 4.9 and 4.10).

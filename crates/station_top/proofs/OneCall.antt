@@ -3,7 +3,7 @@ use Rattle.std.proofs.Common.{◌≡◌, ℕ, Bool, true, false, cond, List, [],
 use Rattle.std.specs.List.{join_with_byte}
 use Rattle.std.specs.Option.{option_map}
 use Rattle.std.specs.Str.{bytes_eq}
-use Rattle.ask_specs.specs.Asking.{AskValue, plain as plain_query, rows, steps, full_marks}
+use Rattle.ask_specs.specs.Asking.{AskValue, plain as plain_query, rows, steps, full_marks, full_routers}
 use Rattle.ask_specs.specs.Offer.{IsOfferedAsk}
 use Rattle.ask_specs.specs.Traits.{CommunityValue, TraitsValue, plain as short, large, extended}
 use Rattle.ask_specs.proofs.OfferLaws.{offers_one}
@@ -17,7 +17,7 @@ use Rattle.ip_prefix.proofs.OneValue.{address_one, prefix_one}
 use Rattle.query_lang.specs.Asks.{ask_value, row_query_value}
 use Rattle.query_lang.specs.Queries.{query_value}
 use Rattle.query_lang.specs.declared.ask.Ask.{Ask}
-use Rattle.query_lang.specs.declared.ask.Ask.TheVariants.{Query as Asked, Rows as AsRows, Count as AsCount, Changes as FurtherChanges, FullMarks as AsFullMarks}
+use Rattle.query_lang.specs.declared.ask.Ask.TheVariants.{Query as Asked, Rows as AsRows, Count as AsCount, Changes as FurtherChanges, FullMarks as AsFullMarks, FullRouters as AsFullRouters}
 use Rattle.query_lang.specs.declared.ask.RowQuery.{RowQuery}
 use Rattle.query_lang.specs.declared.ask.RowQuery.TheVariants.{Table as ByTable, Exact as ByExact, Longest as ByLongest, Within as ByWithin, Origin as ByOrigin}
 use Rattle.query_lang.specs.declared.query.Query.{Query}
@@ -111,6 +111,7 @@ ask_at (rows with_steps full (count select) traits) = AsCount select (traits_at 
 ask_at (rows with_steps full query traits) = rows_ask_at with_steps full (rows_at query) traits
 ask_at (steps full lane from prefix) = FurtherChanges full lane from prefix
 ask_at (full_marks select) = AsFullMarks select
+ask_at full_routers = AsFullRouters
 
 rows_ask_back : (with_steps full : Bool) (query : RowQuery) (t : Traits) → ask_at (rows with_steps full (row_query_value query) (traits_value t)) ≡ AsRows (record { steps = with_steps; full = full; query = query; traits = t })
 unfolding ask_at rows_ask_at rows_at
@@ -127,6 +128,7 @@ ask_back (AsRows ask) = rows_ask_back ask.steps ask.full ask.query ask.traits
 ask_back (AsCount select traits) = ap (λ (t : Traits). AsCount select t) (traits_back traits)
 ask_back (FurtherChanges full lane from prefix) = refl
 ask_back (AsFullMarks select) = refl
+ask_back AsFullRouters = refl
 
 same_ask : (a b : Ask) → ask_value a ≡ ask_value b → a ≡ b
 same_ask a b same = sym (ask_back a) ∙ ap ask_at same ∙ ask_back b

@@ -2,7 +2,7 @@
 use Rattle.std.proofs.Common.{◌≡◌, ◌<◌, ℕ, List, [], ◌∷◌, ◌++◌, ◌∙◌, true, false, length, codes, ap, arith}
 use Rattle.std.specs.List.{join_with_byte}
 use Rattle.bmp_specs.specs.Query.{QueryValue, AreQueryWords, routers, cut, peers, marks, table, count, exact, longest, within, origin, stats, changes, quit, space}
-use Rattle.ask_specs.specs.Asking.{AreAskWords, AskValue, plain, rows, steps, full_marks, AsksForRows}
+use Rattle.ask_specs.specs.Asking.{AreAskWords, AskValue, plain, rows, steps, full_marks, full_routers, AsksForRows}
 use Rattle.ask_specs.specs.Offer.{IsOfferedAsk}
 
 joined_some : (name : List ℕ) (others : List (List ℕ)) → 0 < length name → [] ≡ join_with_byte space (name ∷ others) → ⊥
@@ -66,6 +66,7 @@ module _ (words : List (List ℕ)) (none : [] ≡ join_with_byte space words) wh
       begins (codes "changes") (are.lane_text ∷ are.from_text ∷ are.prefix_words) (omega arith)
       (are.spelled ∙ ap (λ (l : List (List ℕ)). l ++ (codes "changes" ∷ are.lane_text ∷ are.from_text ∷ are.prefix_words)) are.is_full)
   no_ask (full_marks select) are = begins (codes "full") are.marks_words (omega arith) are.spelled
+  no_ask full_routers are = begins (codes "full") (codes "routers" ∷ []) (omega arith) are
 
 pub no_line : (ask : AskValue) → IsOfferedAsk [] ask → ⊥
 no_line ask is = no_ask is.is_ask.words is.is_ask.joined ask is.is_ask.asks

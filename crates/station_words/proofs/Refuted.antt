@@ -8,9 +8,10 @@ use Rattle.bmp_specs.specs.Query.{cut}
 use Rattle.bmp_specs.specs.Values.{PrefixValue}
 use Rattle.ip_prefix.proofs.Decimals.{all_digits}
 use Rattle.query_lang.specs.Reading.{words_of}
-use Rattle.ask_specs.specs.Asking.{plain as plain_query}
+use Rattle.ask_specs.specs.Asking.{full_routers, plain as plain_query}
+use Rattle.ask_specs.specs.Offer.{IsOfferedAsk}
 use Rattle.ask_specs.proofs.OfferLaws.{offers_plain}
-use Rattle.query_lang.proofs.LineWords.{is_query}
+use Rattle.query_lang.proofs.LineWords.{is_query, line_joined}
 use Rattle.station_doors.specs.Doors.{most_places}
 use Rattle.station_doors.specs.declared.listening.Log.TheVariants.{Routers, Clients}
 use Rattle.station_words.specs.Complaints.{AreCall, AreSound, IsBestBeginning, IsGoodBeginning, IsGiven, IsValueOf, JoinWords, LacksWords, ServeComplains, StandInFront, name_of, no_archive, no_lanes, no_messages, no_prefix, no_query, no_question, no_recalled, no_seed, no_vrps}
@@ -192,6 +193,16 @@ an_empty_word_is_no_good_beginning (inr (inr (ask, asking))) = no_line ask askin
 a_query_in_front_is_told : IsBestBeginning 0 2 (codes "cut" ∷ codes "x" ∷ []) → ⊥
 unfolding words_of
 a_query_in_front_is_told (is, none) = none 1 (omega arith) (omega arith) (inr (plain_query cut, record { is_offered = (offers_plain (codes "cut") cut (plain_query cut) (is_query (codes "cut") cut refl)).1 refl; goes_on = λ same. cc same }))
+
+-- so is `full routers`
+is_full_routers : IsOfferedAsk (codes "full routers") full_routers
+unfolding words_of
+is_full_routers =
+    let (are, joined) = line_joined (codes "full routers") in
+    record { is_ask = record { words = words_of (codes "full routers"); are_words = are; joined = joined; asks = refl }; is_offered = tt }
+
+full_routers_in_front_is_told : IsBestBeginning 1 3 (codes "full" ∷ codes "routers" ∷ codes "x" ∷ []) → ⊥
+full_routers_in_front_is_told (is, none) = none 2 (omega arith) (omega arith) (inr (full_routers, record { is_offered = is_full_routers; goes_on = λ same. cc same }))
 
 -- and `steps`, `full` and both in front of words that are none
 steps_in_front_is_told : IsBestBeginning 0 2 (codes "steps" ∷ codes "peers" ∷ []) → ⊥

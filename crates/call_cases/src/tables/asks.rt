@@ -109,6 +109,7 @@ fn asks_quit(ask: &Ask) -> bool
         Ask::Count(_, _) => false,
         Ask::Changes { .. } => false,
         Ask::FullMarks(_) => false,
+        Ask::FullRouters => false,
     }
 }
 

@@ -1,4 +1,5 @@
 //! Lines of replies, of lane 0.
+use super::connections::put_connection;
 use super::entries::stat_of;
 use super::routes::{bytes_at, nlri_at, route_at};
 use super::states::{info_of, list_of};
@@ -52,6 +53,7 @@ enum Kind {
     Missed,
     Stop,
     Router,
+    FullRouter,
     Peer,
     Mark,
     Stat,
@@ -59,7 +61,7 @@ enum Kind {
     Route,
 }
 
-const KINDS: [(&str, Kind); 13] = [
+const KINDS: [(&str, Kind); 14] = [
     ("at", Kind::At),
     ("end", Kind::End),
     ("count", Kind::Count),
@@ -68,6 +70,7 @@ const KINDS: [(&str, Kind); 13] = [
     ("missed", Kind::Missed),
     ("stop", Kind::Stop),
     ("router", Kind::Router),
+    ("full-router", Kind::FullRouter),
     ("peer", Kind::Peer),
     ("mark", Kind::Mark),
     ("stat", Kind::Stat),
@@ -111,6 +114,7 @@ fn put_other(alloc: Global, sink: &mut MemSink, kind: Kind, words: &[&str]) -> R
     match kind {
         Kind::Stop => put_stop(sink, &cause_of(behind(words, 2))),
         Kind::Router => put_router_in(alloc, sink, words),
+        Kind::FullRouter => put_connection(alloc, sink, words),
         Kind::Peer => put_of_peer(alloc, sink, words),
         Kind::Mark => put_mark_of(sink, words),
         Kind::Stat => put_stat(sink, 0, &peer_of(0), &stat_of(behind(words, 2))),

@@ -12,3 +12,6 @@ returns-in-Changes g c = rw c.in-Changes.is (puts_of_tables _ _ _ _ _ c.put_lane
 
 pub returns-in-FullMarks : goal.returns-in-FullMarks
 returns-in-FullMarks g c = rw c.in-FullMarks.is (puts_of_tables _ _ _ _ _ c.put_full_marks.ensures)
+
+pub returns-in-FullRouters : goal.returns-in-FullRouters
+returns-in-FullRouters g c = rw c.in-FullRouters.is (puts_of_tables _ _ _ _ _ c.put_full_routers.ensures)
