@@ -5,6 +5,7 @@ and lists as lists, and raises `UnknownLine` for a line that it doesn't know. `S
 and gives the reply of a query.
 """
 import collections
+import datetime
 import functools
 import ipaddress
 import re
@@ -52,6 +53,10 @@ class StationError(Exception):
 
 class NoSuchRouter(StationError):
     """No connected router has a name, or several have it."""
+
+
+class NotConnected(NoSuchRouter):
+    """No connected router has a name."""
 
 
 # Most words of a table stand in it often, so what was read last is kept.
@@ -274,18 +279,63 @@ def route_of(words):
     return {"peer": key_of(peer), "view": view_of(view), "prefix": prefix, "id": identifier} | attributes_of(attributes)
 
 
+def endpoint_of(text):
+    """From where a connection came, which stays a text: an address, in brackets where it is of IPv6, and a port."""
+    found = re.fullmatch(r"(?:\[([0-9a-f:]+)\]|([0-9.]+)):([0-9]+)", text)
+    if not found or number(found[3]) > 0xFFFF:
+        raise ValueError(text)
+    ipaddress.ip_address(found[1] or found[2])
+    return text
+
+
+def address_in(text):
+    """The address of such a text, without its port."""
+    return text.rpartition(":")[0].strip("[]")
+
+
+def others_of(text):
+    """How often each other family was passed over, by its AFI and SAFI as a text."""
+    found = {}
+    for family, colon, count in (item.partition(":") for item in listed(text, str)):
+        afi, slash, safi = family.partition("/")
+        if not colon or not slash or number(afi) > 0xFFFF or number(safi) > 0xFF or family in found:
+            raise ValueError(text)
+        found[family] = number(count)
+    return found
+
+
+# What the fields of a router are read by. A whole line has the last two groups too.
+OPENING = {"from": endpoint_of, "since": number, "until": number}
+COUNTED = dict.fromkeys(("peers", "messages", "bytes", "orphans", "unread", "mirrored", "passed"), number)
+COUNTED |= dict.fromkeys(("name", "descr"), unescaped)
+NOT_READ = dict.fromkeys(("tlvs", "stats", "malformed"), number) | {"others": others_of, "more": number}
+
+
+def read_fields(words, readers):
+    """The fields of these names; of an opening each may be missing."""
+    return {name: optional(value, readers[name]) if name in OPENING else readers[name](value)
+            for name, value in pairs(words, tuple(readers)).items()}
+
+
 def read_router(words):
-    fields = {"router": number(words[0]), "state": words[1]}
-    if words[1] == "idle" and len(words) == 2:
-        return fields
-    if words[1] == "closed":
-        return fields | cause_of(words[2:])
-    if words[1] != "live":
+    """A router's line; of a whole one also from where its last connection came, when, and what of it wasn't read. After a close
+    that has what the connection counted, too."""
+    fields, rest = {"router": number(words[0]), "state": words[1]}, words[2:]
+    if words[1] == "live":
+        fields |= read_fields(rest, COUNTED if len(rest) == len(COUNTED) else COUNTED | OPENING | NOT_READ)
+    elif words[1] == "closed":
+        place = next((place for place, word in enumerate(rest) if "=" in word), len(rest))
+        fields |= cause_of(rest[:place])
+        if place < len(rest):
+            return fields | read_fields(rest[place:], OPENING | COUNTED | NOT_READ)
+    elif words[1] != "idle":
         raise ValueError(words[1])
-    counts = ("peers", "messages", "bytes", "orphans", "unread", "mirrored", "passed")
-    values = pairs(words[2:], counts + ("name", "descr"))
-    fields |= {name: number(values[name]) for name in counts}
-    return fields | {"name": unescaped(values["name"]), "descr": unescaped(values["descr"])}
+    elif rest:
+        fields |= read_fields(rest, OPENING)
+    # What is open has no end, and what never was has nothing.
+    if any(fields.get(name) is not None for name in (("until",) if words[1] == "live" else OPENING)):
+        raise ValueError(rest)
+    return fields
 
 
 def read_peer(words):
@@ -504,19 +554,43 @@ def escaped(text):
     return "".join(chr(byte) if 0x21 <= byte <= 0x7E and byte != 0x25 else f"%{byte:02X}" for byte in text.encode("utf-8"))
 
 
-def lane_of(name, routers):
-    """The lane of the one router that is connected by this name, or by the one that this text is in its escaped form. A name
-    in whose place the station has bytes that are no UTF-8 is known by its escaped form, or by `\\xHH` for each such byte."""
+def names_meant(name):
+    """The names that a text stands for: itself, and the one that it is the escaped form of. A name in whose place the station has
+    bytes that are no UTF-8 is known by its escaped form, or by `\\xHH` for each such byte."""
     try:
-        names = {name, unescaped(name)}
+        return {name, unescaped(name)}
     except ValueError:
-        names = {name}
+        return {name}
+
+
+def lane_of(name, routers):
+    """The lane of the one router that is connected by this name."""
+    names = names_meant(name)
     found = [row["router"] for row in routers if row["state"] == "live" and row["name"] in names]
     if len(found) == 1:
         return found[0]
     if found:
         raise NoSuchRouter(f"{len(found)} connected routers have the name {name}: they are at lanes {' and '.join(map(str, found))}")
-    raise NoSuchRouter(f"no connected router has the name {name}")
+    raise NotConnected(f"no connected router has the name {name}")
+
+
+def moment(seconds):
+    """A time of a station, which counts seconds since 1970."""
+    try:
+        return datetime.datetime.fromtimestamp(seconds, datetime.timezone.utc).strftime("%Y-%m-%dT%H:%M:%SZ")
+    except (OverflowError, ValueError, OSError):
+        return f"{seconds} seconds after 1970"
+
+
+def ends_of(name, routers):
+    """How the last connections of a name ended, by whole lines: a text for each lane that has had no other since."""
+    names = names_meant(name)
+    for row in routers:
+        if row["state"] == "closed" and row.get("name") in names:
+            came = f" from {row['from']}" if row["from"] else ""
+            until = f" at {moment(row['until'])}" if row["until"] is not None else ""
+            cause = " ".join(str(row[word]) for word in ("cause", "offset", "why") if word in row)
+            yield f"its connection{came} in lane {row['router']} closed{until}: {cause}"
 
 
 def without_attributes(query):

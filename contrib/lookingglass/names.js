@@ -31,10 +31,36 @@ export function addressOf(text) {
   return '::ffff:' + [high >> 8, high & 255, low >> 8, low & 255].join('.');
 }
 
+// Address families (RFC 4760) that the station doesn't keep, by their AFI and SAFI.
+const FAMILIES = {'1/2': 'IPv4 multicast', '2/2': 'IPv6 multicast', '1/4': 'labelled IPv4', '2/4': 'labelled IPv6', '1/5': 'multicast VPN',
+  '1/73': 'IPv4 SR policies', '2/73': 'IPv6 SR policies', '1/128': 'VPN-IPv4', '2/128': 'VPN-IPv6', '1/132': 'route target constraints',
+  '1/133': 'IPv4 flow specifications', '2/133': 'IPv6 flow specifications', '1/134': 'VPN-IPv4 flow specifications',
+  '2/134': 'VPN-IPv6 flow specifications', '25/65': 'VPLS', '25/70': 'EVPN', '16388/71': 'BGP-LS', '16388/72': 'VPN of BGP-LS'};
+
+export function familyOf(text) {
+  const [afi, safi] = text.split('/');
+  const name = FAMILIES[text];
+  return name ? `${name} (AFI ${afi}, SAFI ${safi})` : `AFI ${afi}, SAFI ${safi}`;
+}
+
+// A time of the station, which counts seconds since 1970.
+export function moment(seconds) {
+  const date = new Date(seconds * 1000);
+  return Number.isNaN(date.getTime()) ? seconds + ' seconds after 1970' : date.toISOString().slice(0, 19).replace('T', ' ') + ' UTC';
+}
+
+export function duration(seconds) {
+  const [size, name, smaller, below] = seconds >= 86400 ? [86400, 'd', 3600, 'h'] : seconds >= 3600 ? [3600, 'h', 60, 'min']
+    : seconds >= 60 ? [60, 'min', 1, 's'] : [1, 's'];
+  const rest = smaller ? Math.floor(seconds % size / smaller) : 0;
+  return `${Math.floor(seconds / size)} ${name}${rest ? ` ${rest} ${below}` : ''}`;
+}
+
 // Who a router and a peer are.
 
 export class Names {
   constructor(routers, peers) {
+    this.answer = routers;
     this.routers = new Map(routers.rows.map(row => [row.router, row]));
     this.peers = new Map(peers.rows.map(row => [row.router + ' ' + row.peer, row]));
   }
@@ -45,19 +71,24 @@ export class Names {
 
   // The routers that are connected by this name, by their numbers.
   lanes(name) {
+    return this.called(name).filter(n => this.routers.get(n).state === 'live');
+  }
+
+  // These and those that have gone, of which the station may tell the name.
+  called(name) {
     return [...this.routers.values()].filter(row => row.name === name).map(row => row.router);
   }
 
   // The numbers of the routers that a text means: digits are a number, anything else is a name.
-  meant(text) {
-    return /^[0-9]+$/.test(text) ? [Number(text)] : this.lanes(text);
+  meant(text, isGoneToo) {
+    return /^[0-9]+$/.test(text) ? [Number(text)] : isGoneToo ? this.called(text) : this.lanes(text);
   }
 
   // Two connections of one name are told apart by their numbers.
   router(n) {
     const row = this.routers.get(n);
     if (!row || !row.name) return 'Router ' + n;
-    return this.lanes(row.name).length > 1 ? `${row.name} (router ${n})` : row.name;
+    return this.called(row.name).length > 1 ? `${row.name} (router ${n})` : row.name;
   }
 
   // What is to be said of names that several of these routers have.

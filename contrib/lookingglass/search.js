@@ -2,7 +2,7 @@
 
 import {$, api, h, link, look, plural, told} from './elements.js';
 import {Names} from './names.js';
-import {routersPage, stateOf} from './routers.js';
+import {routersPage, sinceOf, stateOf} from './routers.js';
 import {Answer, completeness} from './routes.js';
 
 // The path attributes by which routes are asked for, each with what a title says of it.
@@ -71,7 +71,7 @@ export async function searchPage(parameters) {
   if (!question) {
     $('status').textContent = '';
     if (named.length) return routersPage(new URLSearchParams(named.map(row => ['router', row.router])), `Routers named ${q}`);
-    const why = 'That is no prefix, no address, no AS number and no community, and no connected router has such a name.';
+    const why = 'That is no prefix, no address, no AS number and no community, and no router has such a name.';
     $('answer').replaceChildren(h('h1', {}, q), h('p', {class: 'note'}, why), routerLinks(names));
     return;
   }
@@ -109,10 +109,11 @@ export async function searchPage(parameters) {
 
 function routerLinks(names) {
   const rows = [...names.routers.values()];
+  const cell = (name, text) => h('td', {'data-label': name, class: text ? '' : 'blank'}, text || '');
   return h('section', {class: 'card'}, h('div', {class: 'head'}, h('h2', {}, 'Routers')), h('table', {},
-    h('thead', {}, h('tr', {}, ['Router', 'State', 'Peers up'].map(name => h('th', {scope: 'col'}, name)))),
+    h('thead', {}, h('tr', {}, ['Router', 'State', 'Since', 'Peers up'].map(name => h('th', {scope: 'col'}, name)))),
     h('tbody', {}, rows.map(row => h('tr', {},
       h('th', {scope: 'row'}, link(names.router(row.router), '/routers', {router: row.router})),
-      h('td', {'data-label': 'State'}, stateOf(row)),
-      h('td', {'data-label': 'Peers up', class: row.state === 'live' ? '' : 'blank'}, row.state === 'live' ? String(row.peers) : ''))))));
+      h('td', {'data-label': 'State'}, stateOf(row)), cell('Since', sinceOf(row, names.answer)),
+      cell('Peers up', row.state === 'live' ? String(row.peers) : null))))));
 }

@@ -174,6 +174,8 @@ def rows_are_told_anew():
     asked = []
 
     def say(query):
+        if query == "full routers":
+            return b"error query\n"
         asked.append(query)
         return routers(*names.pop(0)) if query == "routers" else turns[query]
 

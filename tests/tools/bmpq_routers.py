@@ -79,6 +79,31 @@ def routers_by_their_names():
 
 
 @test
+def a_router_that_has_gone():
+    """Where no connected router has a name, it is said how the last ones ended that had it, if the station tells."""
+    counts = b"peers=1 messages=3 bytes=270 orphans=0 unread=0 mirrored=0 passed=0 name=%s descr="
+    unread = b"tlvs=0 stats=0 malformed=0 others=- more=0"
+    lines = [b"router 0 closed broken 270 body from=192.0.2.1:50852 since=1764571484 until=1764571500 %s %s" % (counts % b"r%201", unread),
+             b"router 1 closed ended from=- since=- until=- %s %s" % (counts % b"r2", unread),
+             b"router 2 live %s from=[2001:db8::1]:5 since=7 until=- %s" % (counts % b"r3", unread), b"router 3 idle from=- since=- until=-",
+             b"router 4 closed readfault 20 from=[2001:db8::1]:9 since=5 until=18446744073709551615 %s %s" % (counts % b"r2", unread)]
+    none = "bmpq: no connected router has the name "
+    ended = "; its connection from 192.0.2.1:50852 in lane 0 closed at 2025-12-01T06:45:00Z: broken 270 body"
+    far = "; its connection from [2001:db8::1]:9 in lane 4 closed at 18446744073709551615 seconds after 1970: readfault 20"
+    for knows in True, False:
+        answers = {"routers": reply(b"router 0 closed broken 270 body", b"router 1 closed ended", LIVE % (2, b"r3"), b"router 3 idle", b"router 4 closed readfault 20"),
+                   "full routers": reply(*lines) if knows else b"error query\n"}
+        with Stub(lambda query: answers.get(query, reply())) as stub:
+            for name, told in (("r 1", ended), ("r%201", ended), ("r2", "; its connection in lane 1 closed: ended" + far), ("r4", "")):
+                for words in (("count", "router", name), ("--follow", name, PREFIX)):
+                    same(failed(stub, *words), (1, none + name.replace(" ", "%20") + told * knows), words)
+            same(failed(stub, "count", "router", "r3"), (0, ""), "one that is connected")
+            if knows:
+                done = run([CONTRIB / "bmpq", "--port", stub.port, "full", "routers"])
+                same((done.stdout, done.stderr), (reply(*lines), b""), "names of connections that are closed")
+
+
+@test
 def a_station_that_comes_later():
     with closed_port() as port:
         begun = time.monotonic()
@@ -161,6 +186,8 @@ def a_router_is_followed_to_another_lane():
             # Gone for a moment, and then on another lane.
             at["asked"] = at.get("asked", 0) + 1
             return routers(*((b"r1", b"other") if at["asked"] == 1 else (b"x", b"other") if at["asked"] == 2 else (b"x", b"other", b"r1")))
+        if query == "full routers":
+            return b"error query\n"
         asked.append(query)
         return turns.pop(0)
 

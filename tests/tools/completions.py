@@ -124,7 +124,7 @@ def completion_by_bash():
             same(offered("bmpstation", *words, "table", "view", "adj-"), set(re.findall(r"adj-[a-z-]+", page)), "views")
             same(offered("bmpstation", *words, "prefix", ""), set(), "prefix")
             same(offered("bmpstation", *words, "steps", ""), {"table", "prefix", "match", "within", "origin", "full"}, "steps")
-            same(offered("bmpstation", *words, "full", ""), {"table", "prefix", "match", "within", "origin", "changes", "marks"}, "full")
+            same(offered("bmpstation", *words, "full", ""), {"table", "prefix", "match", "within", "origin", "changes", "marks", "routers"}, "full")
             same(offered("bmpstation", *words, "steps", "table", ""), selectors, "steps table")
         for command in ("rov", "archive", "recall"):
             same(offered("bmpstation", command, ""), files, command)
@@ -160,7 +160,7 @@ def completion_by_zsh():
         offered("bmpstation replay ", queries)
         offered("bmpstation replay --lenient table ", selectors, queries - {"table"})
         offered("bmpstation replay steps ", {"table", "prefix", "match", "within", "origin"}, {"count", "peers", "changes"})
-        offered("bmpstation replay full ", {"table", "prefix", "match", "within", "origin", "changes", "marks"}, {"count", "peers", "steps"})
+        offered("bmpstation replay full ", {"table", "prefix", "match", "within", "origin", "changes", "marks", "routers"}, {"count", "peers", "steps"})
         offered("bmpstation rov ", {path.name for path in EXAMPLES.iterdir()})
         offered("bmpstation recall FILE ", queries)
         for tool in TOOLS:

@@ -43,7 +43,7 @@ def a_looking_glass_answers_what_the_station_does():
                  ("routes?community=65011:1:2&router=0", "full table router 0 community 65011:1:2"),
                  ("routes?within=192.0.0.0/8&community=rt:65011:5&through=65011&other=16",
                   "full within 192.0.0.0/8 family 4 through 65011 community rt:65011:5 other 16"),
-                 ("routers", "routers"), ("peers", "peers"), (f"peers?router=0&peer={key}", f"peers router 0 peer {key}"),
+                 ("peers", "peers"), (f"peers?router=0&peer={key}", f"peers router 0 peer {key}"),
                  ("marks?view=loc", "full marks view loc" if lines_of("full marks") else "marks view loc")]
     with Serving(1, 2) as station, LookingGlass(station.ask_port, "--connections", 1) as glass:
         same([row["state"] for row in asked(glass, "/api/routers")["rows"]], ["idle"], "before any router")
@@ -53,6 +53,11 @@ def a_looking_glass_answers_what_the_station_does():
             answer = asked(glass, f"/api/{target}")
             same([text_of(row) for row in answer["rows"]], lines_of(query), target)
             same((answer["revision"], answer["truncated"]), (565, False), target)
+        [router] = asked(glass, "/api/routers")["rows"]
+        [line] = lines_of("full routers")
+        came = f"from=127.0.0.1:{link.getsockname()[1]} since={router['since']} until=-"
+        same(text_of(router), line.replace("from=- since=- until=-", came), "the router")
+        same(0 <= time.time() - router["since"] < 2 * SECONDS, True, f"since when: {router['since']}")
         same(asked(glass, "/api/count?view=adj-in-post")["count"], 30, "count")
         rows = asked(glass, "/api/routes?community=65011:1:2")["rows"]
         same((len(rows) > 0, {tuple(row["large_communities"]) for row in rows}), (True, {("65011:1:2", "65011:4294967295:7")}), "large communities")
@@ -95,7 +100,7 @@ def a_router_by_its_name():
         for name, words in (("twice", ("lanes 1 and 4", "2 connected routers")), ("R1", ("no connected router",)), ("b", ("no connected router",))):
             queries.clear()
             told = asked(glass, f"/api/count?router={name}", 400)["error"]
-            same(([word for word in words if word not in told], queries), ([], ["routers"]), told)
+            same(([word for word in words if word not in told], queries), ([], ["routers"] + ["full routers"] * (name != "twice")), told)
         queries.clear()
         asked(glass, "/api/count?router=12")
         same(queries, ["count router 12"], "digits are a number")
@@ -184,15 +189,43 @@ def a_station_without_whole_lines():
             reply(ROW % b"10.0.0.0/8") if query.startswith("prefix") else reply()
 
     with Stub(say) as stub, LookingGlass(stub.port, "--connections", 1) as glass:
-        for target, query in (("routes?prefix=10.0.0.0/8", "prefix 10.0.0.0/8 family 4"), ("changes?router=0&prefix=10.0.0.0/8&from=5", "changes 0 5 10.0.0.0/8")):
+        for target, query in (("routes?prefix=10.0.0.0/8", "prefix 10.0.0.0/8 family 4"), ("changes?router=0&prefix=10.0.0.0/8&from=5", "changes 0 5 10.0.0.0/8"),
+                              ("routers", "routers")):
             queries.clear()
             answer = asked(glass, f"/api/{target}")
             same([one for one in queries if not one.startswith("marks")], ["full " + query, query], target)
         queries.clear()
         asked(glass, "/api/routes?prefix=10.0.0.0/8&router=nobody", 400)
-        same(queries, ["routers"], "no router of this name")
+        same(queries, ["routers", "full routers"], "no router of this name")
         [row] = asked(glass, "/api/routes?prefix=10.0.0.0/8")["rows"]
         same("raw" in row, False, "a row")
+
+
+# Lines of `full routers`: one that sends what no table has, two of a name of which one is gone, and a healthy one whose statistics
+# nobody knows.
+COUNTS = b"peers=1 messages=3 bytes=270 orphans=0 unread=%d mirrored=0 passed=0 name=%s descr="
+ROUTERS = (b"router 0 live " + COUNTS % (219, b"r1") + b" from=192.0.2.1:50852 since=1764571484 until=- tlvs=1 stats=2 malformed=3"
+           b" others=1/128:204,16388/99:6 more=3",
+           b"router 1 closed broken 270 body from=[2001:db8::1]:5 since=1764571484 until=1764571500 " + COUNTS % (9, b"r2")
+           + b" tlvs=0 stats=9 malformed=0 others=- more=0",
+           b"router 2 idle from=- since=- until=-",
+           b"router 3 live " + COUNTS % (9, b"r3") + b" from=- since=- until=- tlvs=0 stats=9 malformed=0 others=- more=0",
+           b"router 4 closed ended from=192.0.2.1:50800 since=1764571000 until=1764571400 " + COUNTS % (0, b"r1")
+           + b" tlvs=0 stats=0 malformed=0 others=- more=0")
+
+
+@test
+def routers_of_whole_lines():
+    """Who a router is, since when it is there or gone, and why, stands in the answer as the station tells it."""
+    with Stub(lambda query: reply(*ROUTERS) if query == "full routers" else reply()) as stub, LookingGlass(stub.port) as glass:
+        rows = asked(glass, "/api/routers")["rows"]
+        same([text_of(row) for row in rows], [line.decode() for line in ROUTERS], "lines")
+        same([(row["from"], row["since"], row["until"]) for row in rows[:3]],
+             [("192.0.2.1:50852", 1764571484, None), ("[2001:db8::1]:5", 1764571484, 1764571500), (None, None, None)], "who and when")
+        same(rows[0]["others"], {"1/128": 204, "16388/99": 6}, "families")
+        same([row["name"] for row in rows if row["state"] == "closed"], ["r2", "r1"], "names of those that are gone")
+        told = asked(glass, "/api/count?router=r2", 400)["error"]
+        same(told, "no connected router has the name r2; its connection from [2001:db8::1]:5 in lane 1 closed at 2025-12-01T06:45:00Z: broken 270 body", "why")
 
 
 @test
@@ -394,12 +427,27 @@ def the_page_in_a_browser():
             text, _ = dom(glass, target)
             text = text[text.index('Answer">'):] if 'Answer">' in text else text
             same(([word for word in wanted if word not in text], [word for word in unwanted if word in text]), ([], []), f"{target}: {text}")
+    # A router whose routes are in no table isn't like a healthy one that sends statistics nobody knows; who has gone keeps its name.
+    lost, lacks = "No table has this router\u2019s routes of VPN-IPv4 (AFI 1, SAFI 128); AFI 16388, SAFI 99; further families.", "No table ha"
+    said["routers"], said["count"] = reply(*ROUTERS), reply(b"count 0")
+    with Stub(lambda query: said[word_of(query)]) as stub, LookingGlass(stub.port) as glass:
+        for target, wanted, unwanted in (
+                ("/routers?router=0", ("192.0.2.1 port 50852", "since 2025-12-01 06:44:44 UTC (", "219", "2 unknown statistics", "204 attributes of VPN-IPv4", lost,
+                                       "3 messages with a malformed attribute withdrew the routes in them."), ("Gone since",)),
+                ("/routers?router=r2", ("2001:db8::1 port 5", "Gone since", "2025-12-01 06:45:00 UTC (", "broken body", "9 unknown statistics"), (lacks, "Routes")),
+                ("/routers?router=r3", ("Unread parts", "9 unknown statistics"), (lacks, "From", "Connected")),
+                ("/routers?router=r1", ("r1 (router 0)", "r1 (router 4)", "Gone since"), ("have the name",)),
+                ("/", ("r1 (router 0)", "2025-12-01 06:44:44 UTC (", "never connected"), ()),
+                ("/live?router=r2&prefix=10.0.0.0/8", ("No connected router has this name",), ("No change yet",))):
+            text, _ = dom(glass, target)
+            text = text[text.index('Answer">'):] if 'Answer">' in text else text
+            same(([word for word in wanted if word not in text], [word for word in unwanted if word in text]), ([], []), f"{target}: {text}")
     said["routers"] = reply(b"router 0 idle")
     # What was missed, a station that began anew, one that goes away: each is said, and the next question goes on from there.
     asked_from = []
 
     def say(query):
-        if query == "routers":
+        if query.endswith("routers"):
             return reply(b"router 0 idle")
         if not query.startswith("full changes"):
             return reply()

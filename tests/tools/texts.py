@@ -50,6 +50,20 @@ def detail_text(f):
     return f"event={f['event']}" if "event" in f else "-"
 
 
+def router_text(f):
+    """The line of a router; of a whole one also from where and when its last connection came, and what of it wasn't read."""
+    parts = [f"router {f['router']} {f['state']}"]
+    counts = [f"{name}={f[name]}" for name in ("peers", "messages", "bytes", "orphans", "unread", "mirrored", "passed") if name in f]
+    counts += [f"{name}={escaped(f[name])}" for name in ("name", "descr") if name in f]
+    opening = [f"{name}={or_dash(f[name])}" for name in ("from", "since", "until") if name in f]
+    unread = [f"{name}={f[name]}" for name in ("tlvs", "stats", "malformed") if name in f]
+    if "others" in f:
+        unread += [f"others={','.join(f'{family}:{count}' for family, count in f['others'].items()) or '-'}", f"more={f['more']}"]
+    if f["state"] == "closed":
+        return " ".join([*parts, cause_text(f), *opening, *counts, *unread])
+    return " ".join([*parts, *counts, *opening, *unread])
+
+
 def text_of(f):
     """The line that a JSON object was made of."""
     kind = f["line"]
@@ -72,12 +86,7 @@ def text_of(f):
     if kind == "missed":
         return f"missed {f['steps']}"
     if kind == "router":
-        if f["state"] == "closed":
-            return f"router {f['router']} closed {cause_text(f)}"
-        if f["state"] == "idle":
-            return f"router {f['router']} idle"
-        counts = " ".join(f"{name}={f[name]}" for name in ("peers", "messages", "bytes", "orphans", "unread", "mirrored", "passed"))
-        return f"router {f['router']} live {counts} name={escaped(f['name'])} descr={escaped(f['descr'])}"
+        return router_text(f)
     if kind == "peer":
         if f["state"] == "down":
             return f"peer {f['router']} {f['peer']} down {f['reason']} {f['name']} {detail_text(f)}"
